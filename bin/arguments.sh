@@ -45,7 +45,8 @@ look_at() {
     case $option in
       -h | --help) exec cat "$usage" ;;
       -V | --version) exec sed -n 's/^version = "\(.*\)"/unloop \1/p' "$root/rust/Cargo.toml" ;;
-      --sheet | --run-cells | --check) [[ $value == all && $option != --check ]] || readable+=("$value") ;;
+      --sheet | --run-cells) [[ $value == all ]] || readable+=("$value") ;;
+      --check | --check-cells) readable+=("$value") ;;
       --audit) given=entries ;;
       --store)
         [[ -d $value ]] || fail "$value: No such file or directory"
@@ -58,7 +59,7 @@ look_at() {
     case $given in
       files) look_at_path "$path" ;;
       entries) # folders too, and files of an entry that are gone
-        [[ -e $path || $path == *.@(net|out|cover) ]] || fail "$path: No such file or directory"
+        [[ -e $path || $path == *.@(net|out|cover|cells) ]] || fail "$path: No such file or directory"
         ;;
     esac
   done

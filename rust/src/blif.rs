@@ -1,7 +1,7 @@
 //! A block as a BLIF model: a gate is a `.names` table of the rows where it is 1, or of those where it is 0 if they are fewer.
 
 use crate::export::{Nets, CONSTANTS};
-use crate::{Block, Gate, Labels, Operand};
+use crate::{Assignment, Block, Gate, Labels, Operand};
 
 /// The model of a block, straight or looped.
 ///
@@ -43,6 +43,30 @@ pub fn blif(block: &Block, labels: impl Into<Labels>) -> String {
     }
     lines.push(".end\n".to_string());
     lines.join("\n")
+}
+
+/// A model with the block's pins and one output, which is 0 under the settings that never lines exclude: what a tool need not care for. None
+/// where there are no never lines.
+///
+/// ```
+/// # use unloop::{care_model, Block, Refusal};
+/// let block = Block::read("(in a)\n(in b)\n(in c)\n(never (a 1) (c 0))\n(out y b)\n")?;
+/// assert_eq!(care_model(&block).unwrap(), ".model care\n.inputs a b c\n.outputs _care\n.names a b c _care\n1-0 0\n.end\n");
+/// # Ok::<(), Refusal>(())
+/// ```
+pub fn care_model(block: &Block) -> Option<String> {
+    let (pins, nevers) = (block.input_names().join(" "), block.never_lines());
+    let row = |line: &Assignment| {
+        let bits = (0..block.inputs()).map(|input| match line.value(input) {
+            None => '-',
+            Some(false) => '0',
+            Some(true) => '1',
+        });
+        bits.collect::<String>() + " 0\n"
+    };
+    let rows: String = nevers.iter().map(row).collect();
+    let head = format!(".model care\n.inputs {pins}\n.outputs _care\n.names {pins} _care\n");
+    (!nevers.is_empty()).then(|| format!("{head}{rows}.end\n"))
 }
 
 /// The rows of a gate's table.

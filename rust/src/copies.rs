@@ -1,5 +1,5 @@
 //! How many gates a rendering would have (SPECIFICATION 6.1): each group is copied as often as a setting that may come needs for its settled
-//! values. For messages, where the library only says that there are too many; 64 settings at a time.
+//! values. For messages, where the library only says that there are too many, and to find orders that need fewer; 64 settings at a time.
 
 use crate::{Block, Gate, Kind, Operand};
 
@@ -45,66 +45,142 @@ impl Lanes {
 
 /// The sum over all groups of gates times passes.
 pub fn copies(block: &Block) -> usize {
-    let gates = block.gate_list();
-    let groups = block.groups();
-    let mut members = vec![Vec::new(); groups.count];
-    for (gate, &group) in groups.of_gates.iter().enumerate() {
-        members[usize::from(group)].push(gate);
-    }
-    let mut passes = vec![1; groups.count];
-    for first in (0..1 << block.inputs()).step_by(LANES) {
-        let (inputs, come) = word(block, first);
-        let mut values = vec![Lanes::default(); gates.len()];
-        for (group, members) in members.iter().enumerate() {
-            let needed = settled(&gates, members, &inputs, &mut values, come);
-            passes[group] = needed.max(passes[group]);
-        }
-    }
-    let sizes = members.iter().map(Vec::len);
-    sizes.zip(passes).map(|(size, passes)| size * passes).sum()
+    Batches::of(block).copies()
 }
 
-/// The inputs under the settings from `first` on, and which of these there are and may come.
-fn word(block: &Block, first: usize) -> (Vec<Lanes>, u64) {
-    let nevers = block.never_lines();
-    let mask = |holds: &dyn Fn(usize) -> bool| {
-        (0..LANES)
-            .filter(|&lane| holds(first + lane))
-            .map(|lane| 1 << lane)
-            .sum()
-    };
-    let inputs =
-        (0..block.inputs()).map(|input| Lanes::of(mask(&|setting| setting >> input & 1 == 1)));
-    let comes = |setting: usize| {
-        setting < 1 << block.inputs() && !nevers.iter().any(|never| never.agrees(setting))
-    };
-    (inputs.collect(), mask(&comes))
+/// Up to 64 settings at a time: all settings of a block, and what its gates settle to under them.
+pub(crate) struct Batches {
+    all: Vec<Batch>,
+    /// The gates of each group, and the passes that it needs.
+    groups: Vec<(Vec<usize>, usize)>,
 }
 
-/// Settles a group's gates, in order and in place, and counts the passes that changed one under a setting that counts.
-fn settled(
-    gates: &[Gate],
-    members: &[usize],
-    inputs: &[Lanes],
-    values: &mut [Lanes],
-    counts: u64,
-) -> usize {
-    let (mut passes, mut last) = (0, 0);
-    loop {
-        let (mut changed, mut counted) = (false, false);
-        passes += 1;
-        for &gate in members {
-            let value = evaluated(&gates[gate], inputs, values);
-            let new = (value.zero | value.one) & !(values[gate].zero | values[gate].one);
-            changed |= new != 0;
-            counted |= new & counts != 0;
-            values[gate] = value;
+struct Batch {
+    inputs: Vec<Lanes>,
+    /// The settings that there are and that may come.
+    come: u64,
+    values: Vec<Lanes>,
+}
+
+impl Batches {
+    pub fn of(block: &Block) -> Batches {
+        let gates = block.gate_list();
+        let found = block.groups();
+        let mut groups = vec![(Vec::new(), 1); found.count];
+        for (gate, &group) in found.of_gates.iter().enumerate() {
+            groups[usize::from(group)].0.push(gate);
         }
-        if counted {
-            last = passes;
+        let mut all = Vec::new();
+        for first in (0..1 << block.inputs()).step_by(LANES) {
+            let mut batch = Batch::of(block, first);
+            for (members, passes) in &mut groups {
+                let mut needed = Count::below(usize::MAX);
+                batch.settle(&gates, members, &mut needed);
+                *passes = needed.last.max(*passes);
+            }
+            all.push(batch);
         }
-        if !changed {
-            return last;
+        Batches { all, groups }
+    }
+
+    /// The gates of the rendering as the gates stand.
+    pub fn copies(&self) -> usize {
+        let groups = self.groups.iter();
+        groups.map(|(members, passes)| members.len() * passes).sum()
+    }
+
+    /// The gates of each group, ascending, and the passes that it needs as they stand.
+    pub fn groups(&self) -> &[(Vec<usize>, usize)] {
+        &self.groups
+    }
+
+    /// The passes that a group needs with its gates in this order, if they are fewer than `most`, and how many gates were evaluated for that.
+    pub fn passes(
+        &mut self,
+        gates: &[Gate],
+        order: &[usize],
+        most: usize,
+    ) -> (Option<usize>, usize) {
+        let (mut needed, mut evaluated) = (1, 0);
+        for batch in &mut self.all {
+            let held: Vec<Lanes> = order.iter().map(|&gate| batch.values[gate]).collect();
+            order
+                .iter()
+                .for_each(|&gate| batch.values[gate] = Lanes::default());
+            let mut count = Count::below(most);
+            batch.settle(gates, order, &mut count);
+            order
+                .iter()
+                .zip(held)
+                .for_each(|(&gate, value)| batch.values[gate] = value);
+            evaluated += count.passes * order.len();
+            needed = count.last.max(needed);
+            if needed >= most {
+                return (None, evaluated);
+            }
+        }
+        (Some(needed), evaluated)
+    }
+}
+
+/// The passes through a group so far, and the last that changed something under a setting that may come; from `most` on no more are made.
+struct Count {
+    passes: usize,
+    last: usize,
+    most: usize,
+}
+
+impl Count {
+    fn below(most: usize) -> Count {
+        Count {
+            passes: 0,
+            last: 0,
+            most,
+        }
+    }
+}
+
+impl Batch {
+    /// The settings from `first` on, with nothing settled.
+    fn of(block: &Block, first: usize) -> Batch {
+        let nevers = block.never_lines();
+        let mask = |holds: &dyn Fn(usize) -> bool| {
+            (0..LANES)
+                .filter(|&lane| holds(first + lane))
+                .map(|lane| 1 << lane)
+                .sum()
+        };
+        let inputs =
+            (0..block.inputs()).map(|input| Lanes::of(mask(&|setting| setting >> input & 1 == 1)));
+        let comes = |setting: usize| {
+            setting < 1 << block.inputs() && !nevers.iter().any(|never| never.agrees(setting))
+        };
+        Batch {
+            inputs: inputs.collect(),
+            come: mask(&comes),
+            values: vec![Lanes::default(); block.gates()],
+        }
+    }
+
+    /// Settles a group's gates, in order and in place, and counts the passes.
+    fn settle(&mut self, gates: &[Gate], members: &[usize], count: &mut Count) {
+        loop {
+            let (mut changed, mut counted) = (false, false);
+            count.passes += 1;
+            for &gate in members {
+                let value = evaluated(&gates[gate], &self.inputs, &self.values);
+                let held = self.values[gate];
+                let new = (value.zero | value.one) & !(held.zero | held.one);
+                changed |= new != 0;
+                counted |= new & self.come != 0;
+                self.values[gate] = value;
+            }
+            if counted {
+                count.last = count.passes;
+            }
+            if !changed || count.last >= count.most {
+                return;
+            }
         }
     }
 }

@@ -593,6 +593,26 @@ fn audited() {
     assert!(!others, "{facts}");
 }
 
+/// A table of cells is a fact of its own on the page, held or lost.
+#[test]
+fn audited_cells() {
+    let netlist = "(in a)\n(out y a)\n";
+    let scratch = with(&[("d/x.net", netlist), ("d/x.out", netlist)]);
+    scratch.put("d/x.cover", "always\n");
+    for (cell, state, why) in [
+        ("", "held\">holds", ""),
+        ("0 0 0 0 21845\n", "lost\">lost", "y is 1, not 0 with a = 0"),
+    ] {
+        let node = cell.len().min(1);
+        let table = format!("# inputs 1 a\n{cell}# outputs 1\n# output y {node}\n");
+        scratch.put("d/x.cells", table);
+        run(&scratch, &["--page", "out", "--force", "--audit", "d"]);
+        let page = scratch.get("out/x.html");
+        let row = format!("cells</th><td><span class=\"state {state}</span></td><td>{why}</td>");
+        assert!(page.contains(&row), "{page}");
+    }
+}
+
 /// The rate block's page, beside the facts of the mended one.
 fn lost_facts(page: &str) {
     let [facts] = between(page, "<section id=\"facts\">", "</section>")[..] else {

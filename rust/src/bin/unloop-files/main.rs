@@ -1,13 +1,16 @@
 //! Runs the program `unloop` on files and reports what it refused; `bin/unloop` starts it with the program's path.
 //! What it does is in usage.txt.
 
+mod abc;
 mod audit;
 mod catalogue;
 mod cells;
 mod check;
+mod check_cells;
 mod cover;
 mod described;
 mod export;
+mod fit;
 mod folder;
 mod from_blif;
 mod options;
@@ -15,10 +18,12 @@ mod output;
 mod page;
 mod parallel;
 mod program;
+mod reduce;
 mod report;
 mod run;
 mod screen;
 mod sheet;
+mod shrink;
 mod source;
 mod store;
 mod tally;
@@ -68,10 +73,14 @@ fn answered(request: Request, program: Program) -> ExitCode {
         Request::Check { theirs, ours, json } => {
             check::run(Source::of(theirs), Source::of(ours), json)
         }
+        Request::CheckCells { table, ours, json } => {
+            check_cells::run(&Source::of(table), &Source::of(ours), json)
+        }
         Request::Audit(audited, json) => Ok(audit::run(&audited, json)),
         Request::Store(store) => store::run(&program, &store),
         Request::Cover(files) => Ok(cover::run(&sources(files))),
         Request::Export(export) => export::run(export),
+        Request::Reduce(asked) => reduce::run(asked),
         Request::FromBlif(asked) => from_blif::run(asked),
         Request::Page(target, files) => page::run(&target, files),
         Request::AuditedPage(target, audited) => page::run_audited(&target, &audited),

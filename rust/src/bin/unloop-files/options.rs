@@ -40,10 +40,16 @@ pub enum Request {
         ours: PathBuf,
         json: bool,
     },
+    CheckCells {
+        table: PathBuf,
+        ours: PathBuf,
+        json: bool,
+    },
     Audit(Audited, bool),
     Store(Store),
     Cover(Vec<PathBuf>),
     Export(Export),
+    Reduce(Reduce),
     FromBlif(FromBlif),
     Page(Target, Vec<PathBuf>),
     AuditedPage(Target, Audited),
@@ -69,6 +75,23 @@ pub struct Export {
     pub into: Option<Target>,
     /// The file of names that they had elsewhere.
     pub names: Option<PathBuf>,
+}
+
+/// Files of which the smallest table of cells, or the smallest netlist, is wanted.
+#[derive(Debug)]
+pub struct Reduce {
+    pub to: Reduced,
+    pub files: Vec<PathBuf>,
+    /// Where they go instead of standard output.
+    pub into: Option<Target>,
+    pub json: bool,
+}
+
+/// What is to be as small as can be.
+#[derive(Debug, Clone, Copy, PartialEq, Eq)]
+pub enum Reduced {
+    Cells,
+    Netlist,
 }
 
 /// A model that is written as a netlist.
@@ -104,10 +127,12 @@ enum Task {
     Sheet(PathBuf),
     RunCells(PathBuf),
     Check(PathBuf),
+    CheckCells(PathBuf),
     Audit,
     Store(PathBuf),
     Cover,
     Export(Form),
+    Reduce(Reduced),
     FromBlif,
     Page(PathBuf),
 }
@@ -120,12 +145,15 @@ impl Task {
             Task::Sheet(_) => "--sheet SETTINGS",
             Task::RunCells(_) => "--run-cells SETTINGS",
             Task::Check(_) => "--check THEIRS",
+            Task::CheckCells(_) => "--check-cells TABLE",
             Task::Audit => "--audit",
             Task::Store(_) => "--store DIR",
             Task::Cover => "--cover",
             Task::Export(Form::Verilog) => "--verilog",
             Task::Export(Form::Blif) => "--blif",
             Task::Export(Form::Cells) => "--cells",
+            Task::Reduce(Reduced::Cells) => "--fit",
+            Task::Reduce(Reduced::Netlist) => "--shrink",
             Task::FromBlif => "--from-blif",
             Task::Page(_) => "--page DIR",
         }
@@ -175,6 +203,7 @@ fn reads(given: &Given) -> Result<Vec<PathBuf>, String> {
     let lists = given.tasks.iter().filter_map(|task| match task {
         Task::Sheet(list) | Task::RunCells(list) if list.as_os_str() == ALL => None,
         Task::Sheet(list) | Task::RunCells(list) | Task::Check(list) => Some(list),
+        Task::CheckCells(table) => Some(table),
         _ => None,
     });
     let reads_names = given.tasks.iter().any(|task| *task != Task::FromBlif);
@@ -201,6 +230,11 @@ fn written(request: Request) -> Result<Request, String> {
             ..
         } => Err(format!("--into DIR without --json {silent}")),
         Request::Export(Export { into: Some(_), .. }) => Err(format!("--into DIR {silent}")),
+        Request::Reduce(Reduce {
+            into: Some(_),
+            json: false,
+            ..
+        }) => Err(format!("--into DIR without --json {silent}")),
         request => Ok(request),
     }
 }
@@ -281,10 +315,11 @@ fn given(mut words: impl Iterator<Item = OsString>) -> Result<Given, String> {
 impl Given {
     /// The folder that files in another form go to: `--into` beside one of those options, whose task alone is left.
     fn export_folder(&mut self) -> Option<PathBuf> {
+        let writes = |task: &Task| matches!(task, Task::Export(_) | Task::Reduce(_));
         match &mut self.tasks[..] {
-            [Task::Into(folder), Task::Export(_)] | [Task::Export(_), Task::Into(folder)] => {
+            [Task::Into(folder), task] | [task, Task::Into(folder)] if writes(task) => {
                 let folder = std::mem::take(folder);
-                self.tasks.retain(|task| matches!(task, Task::Export(_)));
+                self.tasks.retain(writes);
                 Some(folder)
             }
             _ => None,
@@ -309,6 +344,7 @@ impl Given {
                 "--sheet" => Task::Sheet(operand),
                 "--run-cells" => Task::RunCells(operand),
                 "--check" => Task::Check(operand),
+                "--check-cells" => Task::CheckCells(operand),
                 "--audit" => Task::Audit,
                 "--store" => Task::Store(operand),
                 "--cover" => Task::Cover,
@@ -316,6 +352,8 @@ impl Given {
                 "--verilog" => Task::Export(Form::Verilog),
                 "--blif" => Task::Export(Form::Blif),
                 "--cells" => Task::Export(Form::Cells),
+                "--fit" => Task::Reduce(Reduced::Cells),
+                "--shrink" => Task::Reduce(Reduced::Netlist),
                 "--from-blif" => Task::FromBlif,
                 _ => return None,
             }),
@@ -336,14 +374,19 @@ fn request(mut given: Given) -> Result<Request, String> {
     let writes = into.is_some() || matches!(task, Task::Into(_) | Task::Page(_) | Task::Store(_));
     let reports = matches!(
         task,
-        Task::Render | Task::Into(_) | Task::Check(_) | Task::Audit
+        Task::Render
+            | Task::Into(_)
+            | Task::Check(_)
+            | Task::CheckCells(_)
+            | Task::Audit
+            | Task::Reduce(_)
     );
     let fits = (writes || !given.force) && (reports || !given.json);
     match task {
         Task::Render if given.force => {
             return Err("--force needs --into DIR, --page DIR or --store DIR".to_string())
         }
-        Task::Sheet(_) | Task::Check(_) => {}
+        Task::Sheet(_) | Task::Check(_) | Task::CheckCells(_) => {}
         _ => {
             if let Some(other) = &other {
                 return Err(format!(
@@ -364,6 +407,7 @@ fn request(mut given: Given) -> Result<Request, String> {
     named_models(&task, &given)?;
     match task {
         Task::Export(form) => exported(form, into, given),
+        Task::Reduce(to) => reduced(to, into, given),
         task => made(task, other.is_none() && fits, given),
     }
 }
@@ -397,6 +441,21 @@ fn exported(form: Form, into: Option<PathBuf>, given: Given) -> Result<Request, 
         files,
         into: into.map(|folder| Target { folder, force }),
         names: given.names,
+    }))
+}
+
+/// The request of small tables or netlists; those for a folder must have names.
+fn reduced(to: Reduced, into: Option<PathBuf>, given: Given) -> Result<Request, String> {
+    let files = match into {
+        Some(_) => named(given.files, "--into")?,
+        None => given.files,
+    };
+    let force = given.force;
+    Ok(Request::Reduce(Reduce {
+        to,
+        files,
+        into: into.map(|folder| Target { folder, force }),
+        json: given.json,
     }))
 }
 
@@ -492,6 +551,10 @@ fn of_one_file(task: Task, fits: bool, files: Vec<PathBuf>, json: bool) -> Resul
         Task::Check(theirs) => match one(files) {
             Some([ours]) if fits => Request::Check { theirs, ours, json },
             _ => return wrong("--check THEIRS needs one FILE and no other option"),
+        },
+        Task::CheckCells(table) => match one(files) {
+            Some([ours]) if fits => Request::CheckCells { table, ours, json },
+            _ => return wrong("--check-cells TABLE needs one FILE and no other option"),
         },
         _ => return wrong("--from-blif takes one FILE"),
     })

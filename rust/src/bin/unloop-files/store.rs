@@ -1,6 +1,8 @@
 //! `--store DIR [NAME ...]`: tells what changes in the facts beside each original, and then writes them.
 
-use crate::audit::{becomes_refusal, promised_lines, refused_now, refused_with, weaker, Fact};
+use crate::audit::{
+    audited, becomes_refusal, promised_lines, refused_now, refused_with, weaker, Fact,
+};
 use crate::catalogue::{beside, read, Entry, Found, CELLS, COVER, ORIGINAL, OUT};
 use crate::export::made_from;
 use crate::folder::replace;
@@ -14,7 +16,7 @@ use std::collections::BTreeSet;
 use std::ops::ControlFlow;
 use std::path::{Path, PathBuf};
 use std::process::ExitCode;
-use unloop::audit::{audit, cover_text, entry_lines, Audit, Cover, Never, Rendering};
+use unloop::audit::{cover_text, entry_lines, Audit, Cover, Never, Rendering};
 use unloop::{cell_table, module_name, Block, Labels, Refusal};
 
 /// What is to be stored.
@@ -161,7 +163,7 @@ fn plan(program: &Program, base: &Path) -> Result<Plan, String> {
     let Some(original) = &entry.original else {
         return Err(format!("{}: no original", shown(&path(ORIGINAL))));
     };
-    let found = audit(original, entry.out.as_deref(), entry.cover.as_deref());
+    let found = audited(&entry, original);
     let block = Block::read(original);
     let mut files = Vec::new();
     let mut answer = None;
@@ -179,7 +181,7 @@ fn plan(program: &Program, base: &Path) -> Result<Plan, String> {
     }
     let mut changes = changes(&found, &entry, &block, answer);
     let mut weaker = weaker(&found, &entry, &block);
-    if let Some((told, cells)) = cells(base, &entry, &block) {
+    if let Some((told, cells)) = cells(base, &found, &entry, &block) {
         let gone = "what is refused has no cells".to_string();
         weaker.extend(cells.is_none().then_some(gone));
         changes.push(told);
@@ -193,13 +195,20 @@ fn plan(program: &Program, base: &Path) -> Result<Plan, String> {
     })
 }
 
-/// The table of cells, where one is stored that doesn't hold: that of the program's rendering, or none where the original is refused.
+/// The table of cells, where one is stored that doesn't hold: that of the program's rendering, or none where the original is refused. What
+/// CompareCells accepts stays as it is, as long as the rendering beside it does.
 fn cells(
     base: &Path,
+    found: &Audit,
     entry: &Entry,
     block: &Result<Block, Refusal>,
 ) -> Option<(String, Option<Vec<u8>>)> {
-    let stored = entry.cells.as_ref()?;
+    let stored = found.cells.as_ref()?;
+    if found.cells_hold() && becomes_refusal(found, entry, block).is_none() {
+        return None;
+    }
+    let why = Fact::of_cells(stored, entry, block.as_ref().ok());
+    let why = why.why().map_or(String::new(), |why| format!(" ({why})"));
     let stem = base.file_name().unwrap_or_default().to_string_lossy();
     let rendering = block.as_ref().ok().and_then(|block| block.render().ok());
     let labels = Labels {
@@ -209,14 +218,8 @@ fn cells(
     let table = rendering.and_then(|block| cell_table(&block, labels).ok());
     match table.map(String::into_bytes) {
         None => Some(("cells are gone".to_string(), None)),
-        Some(today) if cells_hold(stored, &today) => None,
-        today => Some(("cells anew".to_string(), today)),
+        today => Some((format!("cells anew{why}"), today)),
     }
-}
-
-/// Whether a stored table holds, beside today's. It does where it is the same text; what CompareCells says of another one belongs here.
-fn cells_hold(stored: &[u8], today: &[u8]) -> bool {
-    stored == today
 }
 
 /// What changes, in words; `answer`: what the program says today, where that is stored.
@@ -274,7 +277,7 @@ fn rendering(
     answer: Option<Refusal>,
 ) -> String {
     let today = answer.map_or("rendered".to_string(), refused_with);
-    let [(_, fact), ..] = Fact::all(found, entry, block.as_ref().ok());
+    let fact = Fact::of_rendering(found, entry, block.as_ref().ok());
     match (&found.rendering, answer) {
         (Rendering::Missing, _) => today,
         (Rendering::Answer { stored, .. }, Some(now)) if now.number() == stored.number() => {
