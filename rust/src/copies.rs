@@ -1,67 +1,61 @@
-//! How many gates a rendering would have (SPECIFICATION 6.1): each group is copied as often as a setting that may come needs for its settled
-//! values. For messages, where the library only says that there are too many; 64 settings at a time.
+//! How often each gate is copied in a rendering (SPECIFICATION 6.1): a group as often as a setting that may come needs for its settled
+//! values, 64 settings at a time. So it is told by how much a rendering is too large, and of which gate each gate of it is a copy.
 
-use crate::{Block, Gate, Kind, Operand};
+use crate::lanes::{evaluated, Lanes, LANES};
+use crate::{Block, Gate, Operand, Value};
 
-/// The settings of a word.
-const LANES: usize = 64;
-
-/// What is known of a value under each of 64 settings; neither bit: undefined.
-#[derive(Clone, Copy, PartialEq, Eq, Default)]
-struct Lanes {
-    zero: u64,
-    one: u64,
-}
-
-impl Lanes {
-    fn of(ones: u64) -> Lanes {
-        Lanes {
-            zero: !ones,
-            one: ones,
-        }
-    }
-
-    fn inverted(self) -> Lanes {
-        Lanes {
-            zero: self.one,
-            one: self.zero,
-        }
-    }
-
-    fn and(self, other: Lanes) -> Lanes {
-        Lanes {
-            zero: self.zero | other.zero,
-            one: self.one & other.one,
-        }
-    }
-
-    fn xor(self, other: Lanes) -> Lanes {
-        Lanes {
-            zero: self.zero & other.zero | self.one & other.one,
-            one: self.zero & other.one | self.one & other.zero,
-        }
-    }
+/// Of a gate of a rendering: the gate that it is a copy of, and in which of its group's passes.
+#[derive(Debug, Clone, Copy, PartialEq, Eq)]
+pub struct Copied {
+    pub gate: usize,
+    /// From 1 on.
+    pub pass: usize,
+    pub passes: usize,
 }
 
 /// The sum over all groups of gates times passes.
 pub fn copies(block: &Block) -> usize {
+    let groups = passes(block).into_iter();
+    groups.map(|(members, passes)| members.len() * passes).sum()
+}
+
+/// What each gate of the rendering is a copy of, in order: group after group, its gates ascending in each pass.
+///
+/// ```
+/// # use unloop::{schedule, Block, Copied, Refusal};
+/// let block = Block::read("(in s)\n(gate p (and s q))\n(gate q (or s p))\n(out y q)\n")?;
+/// let copied = |gate, pass| Copied { gate, pass, passes: 2 };
+/// assert_eq!(schedule(&block), [copied(0, 1), copied(1, 1), copied(0, 2), copied(1, 2)]);
+/// # Ok::<(), Refusal>(())
+/// ```
+pub fn schedule(block: &Block) -> Vec<Copied> {
+    let mut copies = Vec::new();
+    for (members, passes) in passes(block) {
+        for pass in 1..=passes {
+            let copied = |&gate: &usize| Copied { gate, pass, passes };
+            copies.extend(members.iter().map(copied));
+        }
+    }
+    copies
+}
+
+/// The gates of each group, ascending, and how many passes it needs.
+fn passes(block: &Block) -> Vec<(Vec<usize>, usize)> {
     let gates = block.gate_list();
     let groups = block.groups();
-    let mut members = vec![Vec::new(); groups.count];
+    let mut passes = vec![(Vec::new(), 1); groups.count];
     for (gate, &group) in groups.of_gates.iter().enumerate() {
-        members[usize::from(group)].push(gate);
+        passes[usize::from(group)].0.push(gate);
     }
-    let mut passes = vec![1; groups.count];
     for first in (0..1 << block.inputs()).step_by(LANES) {
         let (inputs, come) = word(block, first);
         let mut values = vec![Lanes::default(); gates.len()];
-        for (group, members) in members.iter().enumerate() {
+        for (members, passes) in &mut passes {
             let needed = settled(&gates, members, &inputs, &mut values, come);
-            passes[group] = needed.max(passes[group]);
+            *passes = needed.max(*passes);
         }
     }
-    let sizes = members.iter().map(Vec::len);
-    sizes.zip(passes).map(|(size, passes)| size * passes).sum()
+    passes
 }
 
 /// The inputs under the settings from `first` on, and which of these there are and may come.
@@ -94,7 +88,12 @@ fn settled(
         let (mut changed, mut counted) = (false, false);
         passes += 1;
         for &gate in members {
-            let value = evaluated(&gates[gate], inputs, values);
+            let operands = gates[gate].operands.iter().map(|operand| match *operand {
+                Operand::Constant(value) => Value::from(value).into(),
+                Operand::Input(input) => inputs[input],
+                Operand::Gate(gate) => values[gate],
+            });
+            let value = evaluated(gates[gate].kind, operands);
             let new = (value.zero | value.one) & !(values[gate].zero | values[gate].one);
             changed |= new != 0;
             counted |= new & counts != 0;
@@ -106,27 +105,5 @@ fn settled(
         if !changed {
             return last;
         }
-    }
-}
-
-fn evaluated(gate: &Gate, inputs: &[Lanes], values: &[Lanes]) -> Lanes {
-    let operands = gate.operands.iter().map(|operand| match *operand {
-        Operand::Constant(value) => Lanes::of(if value { u64::MAX } else { 0 }),
-        Operand::Input(input) => inputs[input],
-        Operand::Gate(gate) => values[gate],
-    });
-    let all = operands.clone().fold(Lanes::of(u64::MAX), Lanes::and);
-    let none = operands
-        .clone()
-        .map(Lanes::inverted)
-        .fold(Lanes::of(u64::MAX), Lanes::and);
-    let odd = operands.fold(Lanes::of(0), Lanes::xor);
-    match gate.kind {
-        Kind::And => all,
-        Kind::Nand | Kind::Not => all.inverted(),
-        Kind::Or => none.inverted(),
-        Kind::Nor => none,
-        Kind::Xor => odd,
-        Kind::Xnor => odd.inverted(),
     }
 }
