@@ -4,8 +4,8 @@
 mod pages;
 mod session;
 
-use pages::{between, only, pages, section, stem};
-use session::{command, with};
+use pages::{between, only, pages, plain, section, stem};
+use session::{command, run, told, with};
 use simulator::block::{Block, Source};
 use simulator::executed::{ended, netlists, Scratch};
 use simulator::generate::Report;
@@ -111,13 +111,17 @@ fn values_of_odd_blocks() {
     ];
     let scratch = with(&blocks.map(|(name, text, _)| (name, text)));
     let names = blocks.map(|(name, ..)| name);
-    let ended = ended(command(&scratch).args(["--page", "out"]).args(names), b"");
-    assert!(ended.status.success(), "{ended:?}");
+    let report = "out/index.html: 4 netlists: 4 rendered, 0 refused\n";
+    let words = [&["--page", "out"], &names[..]].concat();
+    told(run(&scratch, &words), 0, "", report);
     for (name, text, base) in blocks {
         let page = scratch.get(&format!("out/{}", name.replace(".net", ".html")));
         let block = legible(text.as_bytes()).unwrap();
         match block.gates.is_empty() && block.outputs.is_empty() {
-            true => assert!(section(&page, "sheet").contains("It has no outputs.")),
+            true => assert_eq!(
+                plain(section(&page, "sheet")).trim(),
+                "Sheet\nIt has no outputs."
+            ),
             false => values_are_right(&page, &block, base),
         }
     }

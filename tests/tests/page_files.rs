@@ -7,18 +7,12 @@ mod session;
 use pages::{between, only, pages, plain, section, stem};
 use session::{run, told, with};
 use simulator::block::Block;
-use simulator::executed::{netlists, root, Scratch};
+use simulator::executed::{netlists, root};
 use simulator::generate::Report;
 use simulator::groups::ordered_groups;
 use simulator::passes::passes;
 use simulator::{read, unloop};
 use std::fs;
-use std::path::Path;
-
-/// What the command writes to standard output.
-fn written(scratch: &Scratch, words: &[&str], path: &Path) -> Vec<u8> {
-    run(scratch, &[words, &[path.to_str().unwrap()]].concat()).stdout
-}
 
 /// The links of a page to its files: what each is, and its name.
 fn links(page: &str) -> Vec<(String, String)> {
@@ -30,39 +24,55 @@ fn links(page: &str) -> Vec<(String, String)> {
         .collect()
 }
 
+/// What the command writes of the catalogue by itself: the words for it, what the page calls it, its ending there and in its folder.
+const OF_RENDERINGS: [(&[&str], &str, &str, &str); 4] = [
+    (&["--into", "texts"], "rendering", "out.txt", "net"),
+    (&["--verilog", "--into", "verilog"], "Verilog", "v", "v"),
+    (&["--blif", "--into", "blif"], "BLIF", "blif", "blif"),
+    (&["--cells", "--into", "cells"], "cells", "cells", "cells"),
+];
+const OF_ORIGINALS: [(&[&str], &str, &str, &str); 2] = [
+    (
+        &["--original", "--verilog", "--into", "looped"],
+        "Verilog of the original",
+        "v",
+        "v",
+    ),
+    (
+        &["--original", "--blif", "--into", "loops"],
+        "BLIF of the original",
+        "blif",
+        "blif",
+    ),
+];
+
 /// The files are what the command writes by itself; of one that is refused for its loops those of the original.
 #[test]
 fn files_of_the_catalogue() {
     let scratch = pages(true);
+    let paths = netlists();
+    let paths: Vec<&str> = paths.iter().map(|path| path.to_str().unwrap()).collect();
+    for (words, ..) in OF_RENDERINGS.iter().chain(&OF_ORIGINALS) {
+        let ended = run(&scratch, &[words, &paths[..]].concat());
+        assert_eq!(ended.status.code(), Some(1), "{words:?}");
+    }
+    let bytes = |path: &str| fs::read(scratch.path(path)).unwrap();
     let mut all = Vec::new();
     for path in netlists() {
-        let _report = Report(|| stem(&path));
-        let name = stem(&path);
-        let text = fs::read(&path).unwrap();
+        let (name, text) = (stem(&path), fs::read(&path).unwrap());
+        let _report = Report(|| name.clone());
         let legible = read(&text, usize::MAX).0.number == 0;
-        let refused = unloop(&text).starts_with(b"(refused ");
-        let forms: &[(&str, &str, &[&str])] = match (legible, refused) {
-            (false, _) => &[],
-            (true, true) => &[
-                ("Verilog of the original", "v", &["--original", "--verilog"]),
-                ("BLIF of the original", "blif", &["--original", "--blif"]),
-            ],
-            (true, false) => &[
-                ("rendering", "out.txt", &[]),
-                ("Verilog", "v", &["--verilog"]),
-                ("BLIF", "blif", &["--blif"]),
-                ("cells", "cells", &["--cells"]),
-            ],
+        let forms = match unloop(&text).starts_with(b"(refused ") {
+            false => &OF_RENDERINGS[..],
+            true if legible => &OF_ORIGINALS,
+            true => &[],
         };
         let mut expected = vec![("text".to_string(), format!("{name}.net.txt"))];
-        assert_eq!(
-            fs::read(scratch.path("out/files").join(format!("{name}.net.txt"))).unwrap(),
-            text
-        );
-        for (what, ending, words) in forms {
-            let file = format!("{name}.{ending}");
-            let found = fs::read(scratch.path("out/files").join(&file)).unwrap();
-            assert_eq!(found, written(&scratch, words, &path), "{file}");
+        assert_eq!(bytes(&format!("out/files/{name}.net.txt")), text);
+        for (words, what, ending, plainly) in forms {
+            let (file, folder) = (format!("{name}.{ending}"), words.last().unwrap());
+            let alone = bytes(&format!("{folder}/{name}.{plainly}"));
+            assert_eq!(bytes(&format!("out/files/{file}")), alone, "{file}");
             expected.push((what.to_string(), file));
         }
         assert_eq!(links(&scratch.get(&format!("out/{name}.html"))), expected);

@@ -129,8 +129,7 @@ pub fn drawing(
 const TOOLS: &str = "<p class=\"tools\"><button type=\"button\" data-zoom=\"out\" aria-label=\"Smaller\">−</button> \
     <button type=\"button\" data-zoom=\"in\" aria-label=\"Larger\">+</button> \
     <button type=\"button\" data-zoom=\"fit\">Fit</button> <button type=\"button\" data-zoom=\"full\">Full size</button> \
-    <span class=\"note\">Drag it, or turn the wheel with Ctrl; on the keyboard: arrows, + and −, 0 to fit, 1 for full size. \
-    A click on a gate leads to its line.</span></p>\n";
+    <span class=\"note\">Drag it, or turn the wheel with Ctrl; keys: arrows, + − 0 1. A click on a gate tells its line.</span></p>\n";
 
 /// Of gates that page.js marks.
 const OPENS: &str = "<li><span class=\"swatch opens\"></span> opens its loop under the sheet's pins: it has its value whatever \
