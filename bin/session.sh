@@ -8,11 +8,12 @@ refused() {
   number=${BASH_REMATCH[1]} detail=${BASH_REMATCH[2]}
 }
 
-# What the program reads: the netlist and an empty line. A last line that is cut off must not be ended by the empty line: the file is all of the
-# input then, and is refused.
+# What the program reads before set lines: the netlist and an empty line. A last line that is cut off must not be ended by the empty line: the
+# file is all of the input then, which is refused, and this fails.
 netlist_input() {
   cat -- "$1"
-  if [[ ! -s $1 || -z $(tail -c 1 -- "$1") ]]; then echo; fi
+  [[ ! -s $1 || -z $(tail -c 1 -- "$1") ]] || return 1
+  echo
 }
 
 # Says on standard error what became of a set line whose answer is a refusal: the line's number, from 1 on, and the answer.
