@@ -521,6 +521,13 @@ fn audited() {
     let held = "rendered\"><span class=\"state rendered\">rendered</span> <span class=\"state held\">all hold</span>";
     let lost = "lost undecided\"><span class=\"state undecided\">undecided</span> <span class=\"state lost\">lost</span>";
     assert_eq!(states, [lost, held, held]);
+    let filtered_by = between(&index, "<tr data-states=\"", "\"");
+    assert_eq!(
+        filtered_by,
+        ["undecided lost", "rendered held", "rendered held"]
+    );
+    let boxes = between(&index, " name=\"Facts\" value=\"", "</label>");
+    assert_eq!(boxes, ["lost\"> lost (1)", "held\"> all hold (2)"]);
     lost_facts(&scratch.get("out/rate.html"));
     let page = scratch.get("out/smallest.html");
     let facts = section(&page, "facts");

@@ -8,7 +8,7 @@ use pages::{between, only, pages, plain, section, stem};
 use session::{command, run, told, with};
 use simulator::block::{Block, Source};
 use simulator::executed::{ended, netlists, Scratch};
-use simulator::generate::Report;
+use simulator::generate::{for_blocks, Report, Size};
 use simulator::groups::loops;
 use simulator::read;
 use simulator::values::{gate_value, Network, UNDEFINED};
@@ -96,6 +96,31 @@ fn values_of_the_catalogue() {
         opened += states.iter().flatten().filter(|&&state| state > 2).count();
     }
     assert!(opened > 100, "{opened}");
+}
+
+/// Generated blocks, under every setting: Settle's values, and the gates that open their loop.
+#[test]
+fn openings_of_generated_blocks() {
+    let mut opened = 0;
+    for_blocks(0..300, Size::SMALL, |_, block, words| {
+        let _report = Report(|| format!("{words:?}"));
+        let (ours, looped) = (
+            unloop::Block::from_words(words).unwrap(),
+            loop_of_gates(block),
+        );
+        let opening = unloop::Opening::of(&ours);
+        for number in 0..1 << block.inputs.len() {
+            let setting = ours.setting(number).unwrap();
+            let settled = ours.settle(&setting).unwrap();
+            let bytes: Vec<u8> = setting.iter().map(|&value| value as u8).collect();
+            let states = states(block, &looped, &bytes).into_iter().enumerate();
+            let expected = states.filter(|(_, state)| *state > 2);
+            let expected: Vec<usize> = expected.map(|(gate, _)| gate).collect();
+            assert_eq!(opening.gates(&setting, &settled), expected, "{number}");
+            opened += expected.len();
+        }
+    });
+    assert!(opened > 1_000, "{opened}");
 }
 
 /// With more than eight inputs, without outputs, without gates.
