@@ -95,14 +95,8 @@ fn write(
     if entries.is_empty() {
         return Ok(ExitCode::from(tally::ERROR));
     }
-    // The index is first: where a page stands already, nothing else is written.
     let folder = Folder::open(target.folder.clone(), target.force, kept)?;
-    folder.put(
-        Path::new("index.html"),
-        overview::page(&entries, &errors).as_bytes(),
-    )?;
-    folder.put(Path::new("page.css"), STYLE.as_bytes())?;
-    folder.put(Path::new("page.js"), SCRIPT.as_bytes())?;
+    put_overview(&folder, &entries, &errors)?;
     let beside = Folder::open(target.folder.join(files::FOLDER), target.force, kept)?;
     let numbered: Vec<usize> = (0..entries.len()).collect();
     let mut done = Vec::new();
@@ -125,6 +119,19 @@ fn write(
     )]);
     let status = if errors.is_empty() { 0 } else { tally::ERROR };
     Ok(ExitCode::from(status))
+}
+
+/// Writes what all pages have in common. The index is first: where a page stands already, nothing else is written.
+fn put_overview(folder: &Folder, entries: &[Entry], errors: &[String]) -> Result<(), String> {
+    let index = overview::page(entries, errors);
+    for (name, content) in [
+        ("index.html", &index[..]),
+        ("page.css", STYLE),
+        ("page.js", SCRIPT),
+    ] {
+        folder.put(Path::new(name), content.as_bytes())?;
+    }
+    Ok(())
 }
 
 /// Writes the page of an entry and the files beside it. The drawing of a page that was there stays where it would be the same.

@@ -190,19 +190,21 @@ fn texts(entry: &Entry) -> String {
 fn cover(block: &Block) -> String {
     let (cover, pins) = (block.cover(), block.input_names());
     match cover[..] {
-        [] => {
-            return "<p>Under no setting of the pins that may come does every output settle.</p>\n"
-                .to_string()
-        }
+        [] => "<p>Under no setting of the pins that may come does every output settle.</p>\n"
+            .to_string(),
         [Assignment { fixed: 0, .. }] => {
             let but = match block.excluded_settings() {
                 0 => "",
                 _ => " Of the settings that never come nothing is said.",
             };
-            return format!("<p>Always: no pin needs to be set.{but}</p>\n");
+            format!("<p>Always: no pin needs to be set.{but}</p>\n")
         }
-        _ => {}
+        _ => cover_table(&cover, &pins),
     }
+}
+
+/// Its entries, a row each.
+fn cover_table(cover: &[Assignment], pins: &[String]) -> String {
     let headers: String = pins
         .iter()
         .map(|pin| format!("<th scope=\"col\">{}</th>", escaped(pin)))

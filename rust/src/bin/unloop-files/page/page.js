@@ -123,7 +123,8 @@ function addresses(setting, base, update) {
     const taken = digits.length === setting.length && digits.every((digit) => digit >= 0 && digit < base);
     notice.hidden = !asked || taken;
     const letters = base === 3 ? "0, 1 or u" : "0 or 1 (no u with more than eight inputs)";
-    if (!notice.hidden) notice.textContent = `The address asks for ${asked[1]}, which is no setting here: it needs ${letters} for each pin, ${setting.length} in all.`;
+    const needed = `it needs ${letters} for each pin, ${setting.length} in all`;
+    if (!notice.hidden) notice.textContent = `The address asks for ${asked[1]}, which is no setting here: ${needed}.`;
     if (taken) digits.forEach((digit, input) => { setting[input] = digit; });
     update();
   };
