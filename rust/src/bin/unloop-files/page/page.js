@@ -191,7 +191,7 @@ function zooming() {
       if (!event.ctrlKey) return;
       event.preventDefault();
       const { left, top } = drawing.getBoundingClientRect();
-      by(event.deltaY < 0 ? 1.1 : 1 / 1.1, event.clientX - left, event.clientY - top);
+      by(Math.exp(-event.deltaY / 500), event.clientX - left, event.clientY - top);
     }, { passive: false });
     dragging(drawing);
   }
