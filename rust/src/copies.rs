@@ -1,51 +1,42 @@
-//! How many gates a rendering would have (SPECIFICATION 6.1): each group is copied as often as a setting that may come needs for its settled
-//! values. For messages, where the library only says that there are too many, and to find orders that need fewer; 64 settings at a time.
+//! How often each gate is copied in a rendering (SPECIFICATION 6.1): a group as often as a setting that may come needs for its settled
+//! values, 64 settings at a time. So it is told by how much a rendering is too large, of which gate each gate of it is a copy, and which
+//! order of gates needs fewer copies.
 
-use crate::{Block, Gate, Kind, Operand};
+use crate::lanes::{evaluated, Lanes, LANES};
+use crate::{Block, Gate, Operand, Value};
 
-/// The settings of a word.
-const LANES: usize = 64;
-
-/// What is known of a value under each of 64 settings; neither bit: undefined.
-#[derive(Clone, Copy, PartialEq, Eq, Default)]
-struct Lanes {
-    zero: u64,
-    one: u64,
-}
-
-impl Lanes {
-    fn of(ones: u64) -> Lanes {
-        Lanes {
-            zero: !ones,
-            one: ones,
-        }
-    }
-
-    fn inverted(self) -> Lanes {
-        Lanes {
-            zero: self.one,
-            one: self.zero,
-        }
-    }
-
-    fn and(self, other: Lanes) -> Lanes {
-        Lanes {
-            zero: self.zero | other.zero,
-            one: self.one & other.one,
-        }
-    }
-
-    fn xor(self, other: Lanes) -> Lanes {
-        Lanes {
-            zero: self.zero & other.zero | self.one & other.one,
-            one: self.zero & other.one | self.one & other.zero,
-        }
-    }
+/// Of a gate of a rendering: the gate that it is a copy of, and in which of its group's passes.
+#[derive(Debug, Clone, Copy, PartialEq, Eq)]
+pub struct Copied {
+    pub gate: usize,
+    /// From 1 on.
+    pub pass: usize,
+    pub passes: usize,
 }
 
 /// The sum over all groups of gates times passes.
 pub fn copies(block: &Block) -> usize {
     Batches::of(block).copies()
+}
+
+/// What each gate of the rendering is a copy of, in order: group after group, its gates ascending in each pass.
+///
+/// ```
+/// # use unloop::{schedule, Block, Copied, Refusal};
+/// let block = Block::read("(in s)\n(gate p (and s q))\n(gate q (or s p))\n(out y q)\n")?;
+/// let copied = |gate, pass| Copied { gate, pass, passes: 2 };
+/// assert_eq!(schedule(&block), [copied(0, 1), copied(1, 1), copied(0, 2), copied(1, 2)]);
+/// # Ok::<(), Refusal>(())
+/// ```
+pub fn schedule(block: &Block) -> Vec<Copied> {
+    let mut copies = Vec::new();
+    for (members, passes) in Batches::of(block).groups {
+        for pass in 1..=passes {
+            let copied = |&gate: &usize| Copied { gate, pass, passes };
+            copies.extend(members.iter().map(copied));
+        }
+    }
+    copies
 }
 
 /// Up to 64 settings at a time: all settings of a block, and what its gates settle to under them.
@@ -168,7 +159,7 @@ impl Batch {
             let (mut changed, mut counted) = (false, false);
             count.passes += 1;
             for &gate in members {
-                let value = evaluated(&gates[gate], &self.inputs, &self.values);
+                let value = value_of(&gates[gate], &self.inputs, &self.values);
                 let held = self.values[gate];
                 let new = (value.zero | value.one) & !(held.zero | held.one);
                 changed |= new != 0;
@@ -185,24 +176,12 @@ impl Batch {
     }
 }
 
-fn evaluated(gate: &Gate, inputs: &[Lanes], values: &[Lanes]) -> Lanes {
+/// What a gate is under the settings of a batch, from the inputs and what the other gates are so far.
+fn value_of(gate: &Gate, inputs: &[Lanes], values: &[Lanes]) -> Lanes {
     let operands = gate.operands.iter().map(|operand| match *operand {
-        Operand::Constant(value) => Lanes::of(if value { u64::MAX } else { 0 }),
+        Operand::Constant(value) => Value::from(value).into(),
         Operand::Input(input) => inputs[input],
         Operand::Gate(gate) => values[gate],
     });
-    let all = operands.clone().fold(Lanes::of(u64::MAX), Lanes::and);
-    let none = operands
-        .clone()
-        .map(Lanes::inverted)
-        .fold(Lanes::of(u64::MAX), Lanes::and);
-    let odd = operands.fold(Lanes::of(0), Lanes::xor);
-    match gate.kind {
-        Kind::And => all,
-        Kind::Nand | Kind::Not => all.inverted(),
-        Kind::Or => none.inverted(),
-        Kind::Nor => none,
-        Kind::Xor => odd,
-        Kind::Xnor => odd.inverted(),
-    }
+    evaluated(gate.kind, operands)
 }

@@ -7,10 +7,10 @@ use std::time::{Duration, SystemTime};
 use std::{env, fs};
 
 /// The commands that the scripts use.
-const TOOLS: [&str; 24] = [
+const TOOLS: [&str; 26] = [
     "awk", "bash", "cat", "chmod", "df", "dirname", "env", "find", "flock", "grep", "head",
     "mkdir", "mktemp", "mv", "nproc", "readlink", "rm", "sed", "sh", "sleep", "sort", "tail",
-    "touch", "tr",
+    "tee", "touch", "tr", "wc",
 ];
 
 /// Names the kit. Makes its result, a program that writes its input, unless it is up to date, which `rt check` tells by a stamp of its own. It

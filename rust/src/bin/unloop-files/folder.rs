@@ -58,6 +58,12 @@ impl Folder {
         })
     }
 
+    /// What stands under a name and is to be replaced; nothing where it is no text, or nothing is replaced here.
+    pub fn replaced(&self, name: &Path) -> Option<String> {
+        let found = self.force.then(|| fs::read_to_string(self.path.join(name)));
+        found?.ok()
+    }
+
     fn moved(&self, target: &Path, rendering: &[u8]) -> io::Result<()> {
         let (held, mut file) = Temporary::new(&self.path)?;
         file.write_all(rendering)?;
