@@ -1,5 +1,5 @@
 //! The installed Python module: its answers are the Rust package's, on the catalogue, on spoiled texts and on spoiled words; its own examples hold;
-//! its types are right.
+//! its types are right. And what docs/CALLING.md prints goes as it is printed.
 
 mod prefix;
 
@@ -254,4 +254,63 @@ fn python_types() {
     ]);
     let output = ended(mypy.current_dir(scratch.path(".")), b"");
     assert!(output.status.success(), "{output:?}");
+}
+
+/// The indented lines of docs/CALLING.md behind a line that has these words, up to the next line of prose.
+fn printed(before: &str) -> String {
+    let calling = fs::read_to_string(root().join("docs/CALLING.md")).unwrap();
+    let (_, rest) = calling.split_once(before).expect(before);
+    let lines = rest.lines().skip(2);
+    let lines = lines.map_while(|line| line.strip_prefix("    ").or(line.is_empty().then_some("")));
+    lines.map(|line| format!("{line}\n")).collect()
+}
+
+/// The installation beside the first netlist of README.
+fn beside_the_first() -> Scratch {
+    let scratch = moved();
+    let readme = fs::read_to_string(root().join("README.md")).unwrap();
+    let (_, rest) = readme.split_once("Save this as `first.net`:\n\n").unwrap();
+    let (first, _) = rest.split_once("\n\n").unwrap();
+    scratch.put("first.net", first.replace("    ", "") + "\n");
+    scratch
+}
+
+#[test]
+fn c_as_printed() {
+    if sought_loudly("pkg-config", "the program of docs/CALLING.md").is_none() {
+        return;
+    }
+    let scratch = beside_the_first();
+    let printed = printed("With this as my.c:").replace("PREFIX", "moved");
+    let (program, lines) = printed.split_once("$ export").unwrap();
+    scratch.put("my.c", program);
+    let lines = format!("$ export{lines}");
+    let (commands, answer): (Vec<&str>, Vec<&str>) =
+        lines.lines().partition(|line| line.starts_with("$ "));
+    let script = commands.join("\n").replace("$ export", "export");
+    let script = script.replace("\n$ ", "\n");
+    let mut shell = Command::new("sh");
+    let shell = shell.args(["-e", "-c", &script]);
+    let output = ended(shell.current_dir(scratch.path(".")), b"");
+    let told = format!("{}\n", answer.join("\n").trim_end());
+    assert_eq!(String::from_utf8_lossy(&output.stdout), told, "{output:?}");
+    assert!(output.status.success() && told.contains("2 settings"));
+}
+
+#[test]
+fn python_as_printed() {
+    let scratch = beside_the_first();
+    let Some(mut python) = python(&scratch) else {
+        return;
+    };
+    let printed = printed("by the system's loader):");
+    let (setting, session) = printed.split_once("$ python3\n").unwrap();
+    assert_eq!(setting, "$ export PYTHONPATH=PREFIX/share/unloop/python\n");
+    assert!(session.matches(">>> ").count() >= 8);
+    scratch.put("session", session);
+    let output = ended(python.args(["-m", "doctest", "session"]), b"");
+    assert!(
+        output.status.success() && output.stdout.is_empty(),
+        "{output:?}"
+    );
 }
