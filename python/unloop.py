@@ -19,7 +19,7 @@ Traceback (most recent call last):
 unloop.Refusal: 2 form: syntax error at byte 4
 
 A value is False, True, or None for undefined; 0 and 1 are taken for False and True. The library is sought where the environment
-variable UNLOOP_LIBRARY says, then where bin/install puts it as seen from this file, then by the system's loader. Any number of
+variable UNLOOP_SHARED says, then where bin/install puts it as seen from this file, then by the system's loader. Any number of
 threads may call, with 640 KiB of stack left (threading.stack_size).
 """
 
@@ -96,7 +96,7 @@ _FUNCTIONS = {
 def _load() -> ctypes.CDLL:
     installed = Path(__file__).resolve().parents[3:4]
     beside = [str(prefix / "lib" / "libunloop.so.1") for prefix in installed]
-    named = os.environ.get("UNLOOP_LIBRARY")
+    named = os.environ.get("UNLOOP_SHARED")
     found = [named] if named else [path for path in beside if os.path.exists(path)]
     library = ctypes.CDLL(found[0] if found else "libunloop.so.1")
     piece = [ctypes.c_void_p, ctypes.c_size_t]

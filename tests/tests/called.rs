@@ -8,15 +8,13 @@ use simulator::executed::{ended, netlists, root, sought_loudly, version, Scratch
 use std::fmt::Display;
 use std::fs;
 use std::process::Command;
-use unloop::{raw, Assignment, Block, Disagreement, Refusal, Value};
+use unloop::{raw, Assignment, Block, Cells, Disagreement, Refusal, Value};
 
 /// Python with the installed module, in a folder that holds nothing else of ours.
 fn python(scratch: &Scratch) -> Option<Command> {
     let mut python = Command::new(sought_loudly("python3", "the Python module")?);
     let module = scratch.path("moved/share/unloop/python");
-    python
-        .env("PYTHONPATH", module)
-        .env_remove("UNLOOP_LIBRARY");
+    python.env("PYTHONPATH", module).env_remove("UNLOOP_SHARED");
     python.current_dir(scratch.path("."));
     Some(python)
 }
@@ -88,7 +86,7 @@ fn sheet(block: &Block) -> String {
 }
 
 /// Run on bytes, since cells have no undefined value in the Rust package.
-fn run(cells: &unloop::Cells, setting: &[Value]) -> String {
+fn run(cells: &Cells, setting: &[Value]) -> String {
     let bytes: Vec<u8> = setting.iter().map(|&value| value as u8).collect();
     let mut values = vec![0; cells.words().len()];
     let ran = raw::run(cells.inputs(), cells.words(), &bytes, &mut values).done();
@@ -102,12 +100,14 @@ fn of_straight(block: &Block, straight: &Block, say: &mut impl FnMut(&str, Strin
     let words = straight.words();
     let nodes = words[words.len() - 5 * straight.outputs()..].chunks(5);
     let nodes: Vec<usize> = nodes.map(|output| output[4].into()).collect();
-    for shown in [nodes, vec![0; block.outputs()], vec![]] {
-        say(
-            "compare_cells",
-            told(block.compare_cells(&cells, &shown).map(lowest)),
-        );
+    let compared =
+        |cells: &Cells, shown: &[usize]| told(block.compare_cells(cells, shown).map(lowest));
+    for shown in [&nodes[..], &vec![0; block.outputs()], &[]] {
+        say("compare_cells", compared(&cells, shown));
     }
+    let wider = Cells::from_words(block.inputs() + 1, []);
+    let wider = wider.map(|wider| compared(&wider, &nodes));
+    say("compare_cells", told(wider));
     for setting in settings(block) {
         say("run", run(&cells, &setting));
     }
@@ -226,7 +226,7 @@ fn python_examples() {
     let run = |words: &[&str], library: Option<&str>| {
         let mut python = python(&scratch)?;
         if let Some(library) = library {
-            python.env("UNLOOP_LIBRARY", library);
+            python.env("UNLOOP_SHARED", library);
         }
         Some(ended(python.args(words), b""))
     };

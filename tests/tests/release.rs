@@ -33,7 +33,9 @@ fn committed() -> Scratch {
     scratch.put_script("tools/rt", RT);
     scratch.put_script("tools/cargo", CARGO);
     scratch.put("tools/verdict", "4 passed, 0 failed\n");
-    for tool in ["tests/probes", "tests/c/run"] {
+    let gate = fs::read_to_string(root().join(".ci/run")).unwrap();
+    let words = gate.split(|c: char| c.is_whitespace() || ";&|(){}".contains(c));
+    for tool in words.filter(|word| word.starts_with("tests/")) {
         scratch.put_script(tool, "#!/bin/sh\n");
     }
     for file in [
