@@ -63,8 +63,7 @@ def of_straight(block, straight):
     yield "compare_cells", lowest(block.compare_cells(cells, straight.nodes_shown))
     yield "compare_cells", told(lambda: lowest(block.compare_cells(cells, [0] * block.outputs)))
     yield "compare_cells", told(lambda: lowest(block.compare_cells(cells, [])))
-    wider = unloop.Cells(block.inputs + 1, [])
-    yield "compare_cells", told(lambda: lowest(block.compare_cells(wider, straight.nodes_shown)))
+    yield "compare_cells", told(lambda: lowest(block.compare_cells(unloop.Cells(block.inputs + 1, []), straight.nodes_shown)))
     for setting in settings(block):
         yield "run", told(lambda: shown(cells.run(setting)))
 
