@@ -94,11 +94,9 @@ _FUNCTIONS = {
 
 
 def _load() -> ctypes.CDLL:
-    installed = Path(__file__).resolve().parents[3:4]
-    beside = [str(prefix / "lib" / "libunloop.so.1") for prefix in installed]
+    beside = Path(__file__).resolve().parent / "../../../lib/libunloop.so.1"
     named = os.environ.get("UNLOOP_SHARED")
-    found = [named] if named else [path for path in beside if os.path.exists(path)]
-    library = ctypes.CDLL(found[0] if found else "libunloop.so.1")
+    library = ctypes.CDLL(named or (str(beside.resolve()) if beside.exists() else "libunloop.so.1"))
     piece = [ctypes.c_void_p, ctypes.c_size_t]
     for name, slices in _FUNCTIONS.items():
         function = getattr(library, "unloop_" + name)
