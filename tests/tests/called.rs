@@ -303,7 +303,7 @@ fn python_as_printed() {
     let Some(mut python) = python(&scratch) else {
         return;
     };
-    let printed = printed("by the system's loader):");
+    let printed = printed("system's loader):");
     let (setting, session) = printed.split_once("$ python3\n").unwrap();
     assert_eq!(setting, "$ export PYTHONPATH=PREFIX/share/unloop/python\n");
     assert!(session.matches(">>> ").count() >= 8);
