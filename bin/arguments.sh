@@ -56,7 +56,7 @@ look_at() {
     esac
     case $option in
       -h | --help) exec cat "$usage" ;;
-      -V | --version) printf 'unloop %s\n' "$(version_here)" && exit ;;
+      -V | --version) exec sed -n 's/^version = "\(.*\)"/unloop \1/p' "$root/rust/Cargo.toml" ;;
       --sheet | --run-cells | --check) [[ $value == all && $option != --check ]] || readable+=("$value") ;;
       --audit) given=entries ;;
       --store)

@@ -5,13 +5,9 @@ program=$root/target/bin/unloop
 library=$root/target/staticlib/libexports.a
 driver=$root/target/driver/release/unloop-files
 kit=$(rt version 2>/dev/null || true)
-source "$root/bin/telling.sh"
 source "$root/bin/progress.sh"
 
-# The version of all that is here: rust/Cargo.toml has it, and what else tells it is held to that.
-version_here() {
-  sed -n 's/^version = "\(.*\)"/\1/p' "$root/rust/Cargo.toml"
-}
+source "$root/bin/telling.sh"
 
 # Whether a result is missing, older than one of its sources, or made by another kit than the one that is here. A build that finds nothing to
 # do leaves its result old, so the stamp of the last build counts as well; it names the kit, unless rt was run by hand.

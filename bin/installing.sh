@@ -91,8 +91,10 @@ link_shared() {
     -Wl,--whole-archive "$library" -Wl,--no-whole-archive -o "$1" || fail "gcc can't link libunloop.so.1"
 }
 
-# What pkg-config tells; it finds the prefix by where the file is.
+# What pkg-config tells; it finds the prefix by where the file is. The version is the command's.
 write_pc() {
+  local version
+  version=$("$driver" "$program" --version)
   cat <<PC
 prefix=\${pcfiledir}/../..
 libdir=\${prefix}/lib
@@ -100,7 +102,7 @@ includedir=\${prefix}/include
 
 Name: unloop
 Description: takes loops out of gate netlists, by proof
-Version: $(version_here)
+Version: ${version#unloop }
 Libs: -L\${libdir} -lunloop
 Cflags: -I\${includedir}
 PC

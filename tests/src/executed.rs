@@ -1,6 +1,6 @@
 //! The proved program as a process, folders for tests that need files, and tools that may be missing.
 
-use std::io::{self, Write};
+use std::io::Write;
 use std::path::{Path, PathBuf};
 use std::process::{Command, Output, Stdio};
 use std::sync::atomic::{AtomicUsize, Ordering};
@@ -73,7 +73,7 @@ pub fn sought_loudly(tool: &str, untried: &str) -> Option<PathBuf> {
     let found = sought(tool);
     if found.is_none() {
         let told = writeln!(
-            io::stderr(),
+            std::io::stderr(),
             "NOT TRIED: {untried}: {tool} is not installed"
         );
         told.expect("standard error");

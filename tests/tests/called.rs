@@ -137,31 +137,33 @@ fn of_block(block: &Block, say: &mut impl FnMut(&str, String)) {
     );
     say("sheet", sheet(block));
     let gathered = block.gather();
-    let (order, words) = (listed(&gathered.order), listed(gathered.block.words()));
-    say("gather", format!("{order} : {words}"));
-    let words = |made: Result<Block, Refusal>| told(made.map(|block| listed(block.words())));
-    say("scatter", words(block.scatter(&vec![0; block.gates() + 1])));
-    say("bring", words(Block::bring(block.words())));
-    say(
-        "cells",
-        told(block.cells().map(|cells| listed(cells.words()))),
-    );
-    say("compare", told(block.compare(block).map(lowest)));
-    for setting in settings(block) {
-        let settled = block.settle(&setting);
-        say(
-            "settle",
-            told(settled.map(|found| format!("{} {}", found.rounds, shown(&found.values)))),
-        );
-        say(
-            "pass",
-            told(block.pass(&setting).map(|values| shown(&values))),
-        );
-    }
+    let (order, stored) = (listed(&gathered.order), listed(gathered.block.words()));
+    say("gather", format!("{order} : {stored}"));
+    of_others(block, say);
     let rendered = block.render();
     say("render", words(rendered.clone()));
     if let Ok(straight) = rendered {
         of_straight(block, &straight, say);
+    }
+}
+
+fn words(made: Result<Block, Refusal>) -> String {
+    told(made.map(|block| listed(block.words())))
+}
+
+/// What a looped block, an order or a setting may be refused for.
+fn of_others(block: &Block, say: &mut impl FnMut(&str, String)) {
+    say("scatter", words(block.scatter(&vec![0; block.gates() + 1])));
+    say("bring", words(Block::bring(block.words())));
+    let cells = block.cells();
+    say("cells", told(cells.map(|cells| listed(cells.words()))));
+    say("compare", told(block.compare(block).map(lowest)));
+    for setting in settings(block) {
+        let settled = block.settle(&setting);
+        let settled = settled.map(|found| format!("{} {}", found.rounds, shown(&found.values)));
+        say("settle", told(settled));
+        let swept = block.pass(&setting);
+        say("pass", told(swept.map(|values| shown(&values))));
     }
 }
 

@@ -88,26 +88,28 @@ fn bash() {
     );
 }
 
-/// What stands behind each option is offered by zsh's own completion, on a terminal of its own.
+/// A zsh on a terminal of its own, where each of some lines is typed with a tabulator behind it and sent: writes what the command was given.
+const ON_A_TERMINAL: &str = r#"
+    zmodload zsh/zpty
+    zpty shell zsh -f -i
+    until_shown() { zpty -r -m shell said "*$1*" && print -r -- "$said" }
+    zpty -w shell "PS1= PS2= fpath=(../moved/share/zsh/site-functions \$fpath); autoload -Uz compinit; compinit -u -D"
+    zpty -w shell "unloop() { print -r -- \"<\${(j:|:)@}>\" }; print rea''dy"
+    until_shown ready >/dev/null
+    for written; do
+      zpty -w shell "unloop $written"$'\t'
+      [[ $(until_shown '<*>') =~ '<(.*)>' ]] && print -r -- $match[1]
+    done
+    zpty -d shell
+"#;
+
+/// What stands behind options is offered by zsh's own completion.
 #[test]
 fn zsh() {
     if sought_loudly("zsh", "the completions for zsh").is_none() {
         return;
     }
     let scratch = completed();
-    let terminal = r#"
-        zmodload zsh/zpty
-        zpty shell zsh -f -i
-        until_shown() { zpty -r -m shell said "*$1*" && print -r -- "$said" }
-        zpty -w shell "PS1= PS2= fpath=(../moved/share/zsh/site-functions \$fpath); autoload -Uz compinit; compinit -u -D"
-        zpty -w shell "unloop() { print -r -- \"<\${(j:|:)@}>\" }; print rea''dy"
-        until_shown ready >/dev/null
-        for written; do
-          zpty -w shell "unloop $written"$'\t'
-          [[ $(until_shown '<*>') =~ '<(.*)>' ]] && print -r -- $match[1]
-        done
-        zpty -d shell
-    "#;
     let cases = [
         ("--from", "--from-blif"),
         ("--vers", "--version"),
@@ -120,11 +122,20 @@ fn zsh() {
     let shown = answered(
         &scratch,
         "zsh",
-        terminal,
+        ON_A_TERMINAL,
         &cases.map(|(written, _)| written),
     );
     let shown: Vec<&str> = shown.lines().collect();
     assert_eq!(shown, cases.map(|(_, completed)| completed));
+}
+
+/// The completions for zsh have every option.
+#[test]
+fn zsh_has_all() {
+    if sought_loudly("zsh", "the completions for zsh").is_none() {
+        return;
+    }
+    let scratch = completed();
     let listed =
         "_arguments() { print -l -- \"$@\" }; source ../moved/share/zsh/site-functions/_unloop";
     let listed = answered(&scratch, "zsh", listed, &[]);

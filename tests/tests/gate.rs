@@ -53,6 +53,20 @@ fn run(scratch: &Scratch) -> Output {
     ended(command.current_dir("/"), b"")
 }
 
+/// What is called before the tests, which run beside each other.
+const IN_ORDER: [&str; 10] = [
+    "rt fmt --check",
+    "cargo fmt rust",
+    "cargo fmt tests",
+    "cargo fmt perf",
+    "rt ci",
+    "rt staticlib exports",
+    "probes",
+    "cargo clippy rust",
+    "cargo clippy tests",
+    "cargo clippy perf",
+];
+
 /// Everything is run, and the last lines are the phases and rt's verdict.
 #[test]
 fn phases_and_the_last_line() {
@@ -79,19 +93,7 @@ fn phases_and_the_last_line() {
     assert!(phases[1].1 >= 1 && phases[2].1 >= 2, "{phases:?}");
     let calls = scratch.get("calls");
     let calls: Vec<&str> = calls.lines().collect();
-    let expected = [
-        "rt fmt --check",
-        "cargo fmt rust",
-        "cargo fmt tests",
-        "cargo fmt perf",
-        "rt ci",
-        "rt staticlib exports",
-        "probes",
-        "cargo clippy rust",
-        "cargo clippy tests",
-        "cargo clippy perf",
-    ];
-    assert_eq!(calls[..10], expected);
+    assert_eq!(calls[..10], IN_ORDER);
     let mut beside = calls[10..].to_vec();
     beside.retain(|&call| call != "cargo test tests");
     assert_eq!(beside, ["cargo test perf", "cargo test rust", "run"]);

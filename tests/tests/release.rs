@@ -87,70 +87,64 @@ fn refused(scratch: &Scratch, words: &str) {
     assert!(!scratch.path("target/out").exists());
 }
 
+/// Runs a command in a folder that must succeed, and gives what it writes.
+fn succeeded(scratch: &Scratch, folder: &str, words: &[&str]) -> String {
+    let mut command = Command::new(words[0]);
+    let command = command.current_dir(scratch.path(folder)).args(&words[1..]);
+    let output = ended(command, b"");
+    assert!(output.status.success(), "{output:?}");
+    String::from_utf8(output.stdout).unwrap()
+}
+
+/// The archive of a repository whose gate has passed, unpacked elsewhere as `release`; made twice, it is the same.
+fn unpacked(scratch: &Scratch) -> Scratch {
+    let name = format!("unloop-{}-x86_64-linux", version());
+    let made = format!("target/out/{name}.tar.gz");
+    let archives = [0, 1].map(|_| {
+        let output = run(scratch, "bin/release", &["target/out"]);
+        assert_eq!(output.stdout, format!("{made}\n").as_bytes(), "{output:?}");
+        assert!(output.status.success());
+        fs::read(scratch.path(&made)).unwrap()
+    });
+    assert!(archives[0] == archives[1], "another archive");
+    let elsewhere = Scratch::new();
+    elsewhere.put("archive", &archives[0]);
+    succeeded(&elsewhere, ".", &["tar", "-xzf", "archive"]);
+    assert_eq!(elsewhere.names("."), ["archive", &name]);
+    fs::rename(elsewhere.path(&name), elsewhere.path("release")).unwrap();
+    elsewhere
+}
+
 /// The archive is a prefix that works elsewhere; it says where it comes from, and the sums of all its files.
 #[test]
 fn released() {
     let scratch = committed();
     pass_gate(&scratch);
-    let name = format!("unloop-{}-x86_64-linux", version());
-    let made = format!("target/out/{name}.tar.gz");
-    let output = run(&scratch, "bin/release", &["target/out"]);
-    assert_eq!(
-        String::from_utf8_lossy(&output.stdout),
-        format!("{made}\n"),
-        "{output:?}"
-    );
-    assert!(output.status.success());
-    let first = fs::read(scratch.path(&made)).unwrap();
-    assert!(run(&scratch, "bin/release", &["target/out"])
-        .status
-        .success());
-    assert!(
-        first == fs::read(scratch.path(&made)).unwrap(),
-        "another archive"
-    );
-
-    let elsewhere = Scratch::new();
-    let unpack = |program: &str, words: &[&str], folder: &str| {
-        let mut command = Command::new(program);
-        let output = ended(command.current_dir(elsewhere.path(folder)).args(words), b"");
-        assert!(output.status.success(), "{output:?}");
-    };
-    let path = scratch.path(&made).display().to_string();
-    unpack("tar", &["-xzf", &path], ".");
-    assert_eq!(elsewhere.names("."), [&name[..]]);
-    unpack(
-        "sha256sum",
-        &["--check", "--quiet", "--strict", "RELEASE"],
-        &name,
-    );
-    let told_of = elsewhere.get(&format!("{name}/RELEASE"));
-    let version = version();
+    let elsewhere = unpacked(&scratch);
+    let check = ["sha256sum", "--check", "--quiet", "--strict", "RELEASE"];
+    succeeded(&elsewhere, "release", &check);
+    let told_of = elsewhere.get("release/RELEASE");
     let head = git(&scratch, &["rev-parse", "HEAD"]);
-    let expected = format!("# unloop {version}, for x86-64 Linux\n# commit {head}# kit kit 1\n# gate 4 passed, 0 failed\n");
+    let expected = format!(
+        "# unloop {}, for x86-64 Linux\n# commit {head}# kit kit 1\n# gate 4 passed, 0 failed\n",
+        version()
+    );
     let rest = told_of.strip_prefix(&expected).expect(&told_of);
     let glibc = rest.strip_prefix("# it needs glibc 2.").expect(rest);
     assert!(glibc.starts_with(|c: char| c.is_ascii_digit()), "{glibc}");
-    let mut find = Command::new("find");
-    let find = find
-        .current_dir(elsewhere.path(&name))
-        .args([".", "-type", "f"]);
-    let files = String::from_utf8(ended(find, b"").stdout).unwrap();
-    let sums = told_of
-        .lines()
-        .filter(|line| !line.starts_with('#'))
-        .count();
-    assert_eq!(sums + 1, files.lines().count());
+    let files = succeeded(&elsewhere, "release", &["find", ".", "-type", "f"]);
+    let sums = told_of.lines().filter(|line| !line.starts_with('#'));
+    assert_eq!(sums.count() + 1, files.lines().count());
 
     elsewhere.put("x.net", PROGRAM_INPUT);
-    let mut command = Command::new(elsewhere.path(&format!("{name}/bin/unloop")));
+    let mut command = Command::new(elsewhere.path("release/bin/unloop"));
     let output = ended(command.arg(elsewhere.path("x.net")), b"");
     told(output, 0, PROGRAM_OUTPUT, "");
 }
 
-/// What is not committed, not passed or not what the gate has tried is refused, in words.
+/// What is not committed, or no gate has passed on, is refused, in words.
 #[test]
-fn refusals() {
+fn trees_that_are_refused() {
     let scratch = committed();
     let none =
         "the gate has not passed on this tree: there is no target/gate, which .ci/run leaves";
@@ -159,39 +153,35 @@ fn refusals() {
     scratch.put("new", "");
     refused(&scratch, "the tree is not clean: ?? new");
     commit(&scratch, "something new");
-    let passed = git(&scratch, &["rev-parse", "HEAD^"]);
-    let head = git(&scratch, &["rev-parse", "HEAD"]);
+    let [passed, head] = ["HEAD^", "HEAD"].map(|name| git(&scratch, &["rev-parse", name]));
     let (passed, head) = (passed.trim_end(), head.trim_end());
-    refused(
-        &scratch,
-        &format!("the gate has passed on commit {passed}, and this is {head}"),
-    );
+    let other = format!("the gate has passed on commit {passed}, and this is {head}");
+    refused(&scratch, &other);
+}
+
+/// A stamp that says something else than that all has passed here, or of something else, is refused.
+#[test]
+fn stamps_that_are_refused() {
+    let scratch = committed();
     pass_gate(&scratch);
     let stamp = scratch.get("target/gate");
-    for (old, new, words) in [
-        (
-            "kit 1",
-            "kit 2",
-            "the gate has passed with kit 2, and here is kit 1",
-        ),
-        (
-            "0 failed",
-            "1 failed",
-            "the gate has not passed: its last line is '4 passed, 1 failed'",
-        ),
+    let (head, _) = stamp.split_once('\n').unwrap();
+    let kit = "the gate has passed with kit 2, and here is kit 1";
+    let failed = "the gate has not passed: its last line is '4 passed, 1 failed'";
+    let cut_off = "target/gate is cut off: run .ci/run again";
+    for (stamp, words) in [
+        (stamp.replace("kit 1", "kit 2"), kit),
+        (stamp.replace("0 failed", "1 failed"), failed),
+        (format!("{head}\n"), cut_off),
     ] {
-        scratch.put("target/gate", stamp.replace(old, new));
+        scratch.put("target/gate", stamp);
         refused(&scratch, words);
     }
-    scratch.put("target/gate", format!("{head}\n"));
-    refused(&scratch, "target/gate is cut off: run .ci/run again");
     scratch.put("target/gate", &stamp);
     fs::remove_file(scratch.path("target/bin/bench")).unwrap();
     scratch.put_script("target/bin/bench", "#!/bin/sh\n");
-    refused(
-        &scratch,
-        "what is built is not what the gate has tried: target/bin/bench: FAILED",
-    );
+    let other = "what is built is not what the gate has tried: target/bin/bench: FAILED";
+    refused(&scratch, other);
 }
 
 /// The gate leaves its stamp of a clean tree alone, and takes an older one away first.
