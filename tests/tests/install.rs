@@ -181,6 +181,27 @@ fn bad_usage() {
     assert_eq!(scratch.names("."), [""; 0]);
 }
 
+/// What is installed is told by the help: each file by its path below the prefix, by a folder that ends with a slash, or by its name beside another.
+#[test]
+fn help_tells_every_file() {
+    let scratch = moved();
+    let help = String::from_utf8(install(&scratch, &["--help"]).stdout).unwrap();
+    let told = |path: &str| {
+        let folders = path.match_indices('/').map(|(end, _)| &path[..=end]);
+        let mut ways = folders.chain([path]).map(|part| format!("PREFIX/{part} "));
+        let completion = path.strip_prefix("share/").unwrap_or(path);
+        let beside = format!(" {} ", path.rsplit('/').next().unwrap_or(path));
+        ways.any(|way| help.contains(&way)) || help.contains(completion) || help.contains(&beside)
+    };
+    let list = scratch.get("moved/share/unloop/installed");
+    let files = list.lines().filter(|line| !line.starts_with("folder "));
+    let files: Vec<&str> = files.filter_map(|line| line.split(' ').nth(1)).collect();
+    assert!(files.len() >= 18, "{files:?}");
+    for file in files {
+        assert!(told(file), "{file}");
+    }
+}
+
 /// All paths below a folder, sorted.
 fn all_below(folder: &Path) -> Vec<String> {
     let mut command = Command::new("find");

@@ -49,6 +49,7 @@ fn committed() -> Scratch {
     }
     scratch.put(".gitignore", "target/\ntools/\ncalls\nroom\n");
     git(&scratch, &["init", "-q"]);
+    git(&scratch, &["config", "status.showUntrackedFiles", "no"]); // what is not known to git counts all the same
     commit(&scratch, "all of it");
     scratch
 }
@@ -56,6 +57,7 @@ fn committed() -> Scratch {
 fn git(scratch: &Scratch, words: &[&str]) -> String {
     let mut git = Command::new("git");
     git.args(["-c", "user.name=tests", "-c", "user.email=tests"]);
+    git.args(["-c", "commit.gpgsign=false"]);
     let output = ended(git.current_dir(scratch.path(".")).args(words), b"");
     assert!(output.status.success(), "{words:?}: {output:?}");
     String::from_utf8(output.stdout).unwrap()
