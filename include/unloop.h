@@ -1,4 +1,4 @@
-/* unloop: takes loops out of gate netlists. The static library of the proved crate `exports`, for x86-64 Linux.
+/* unloop: takes loops out of gate netlists. The library of the proved crate `exports`, static or shared, for x86-64 Linux.
 
    Each function keeps its operation's promise for every argument, and none has a condition but those on slices and stack below. What an operation
    answers is defined in docs/SPECIFICATION.md, section 7.

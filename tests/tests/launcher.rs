@@ -3,8 +3,8 @@
 mod session;
 mod stand_in;
 
-use simulator::executed::{ended, Scratch};
-use stand_in::{found, repository, set_age, sought};
+use simulator::executed::{ended, sought_loudly, Scratch};
+use stand_in::{found, repository, set_age};
 use std::path::Path;
 use std::process::{Command, Output};
 use std::{fs, thread};
@@ -270,8 +270,8 @@ fn tells_why_it_failed() {
 /// On a terminal: one line, rewritten, with the crate that is at work.
 #[test]
 fn tells_the_crate_at_work_on_a_terminal() {
-    let Some(script) = sought("script") else {
-        return eprintln!("script, which makes a terminal, is not installed here");
+    let Some(script) = sought_loudly("script", "progress on a terminal") else {
+        return;
     };
     let scratch = repository();
     scratch.put_script("tools/rt", &slow_rt("exit 1\n"));

@@ -1,10 +1,10 @@
 //! A repository of its own for scripts, with nothing built and stand-ins for `rt` and `cargo` that write down each call.
 
-use simulator::executed::{root, Scratch};
+use simulator::executed::{root, sought, Scratch};
+use std::fs;
 use std::os::unix::fs::symlink;
 use std::path::{Path, PathBuf};
 use std::time::{Duration, SystemTime};
-use std::{env, fs};
 
 /// The commands that the scripts use.
 const TOOLS: [&str; 26] = [
@@ -96,12 +96,6 @@ fn age_all(path: &Path) {
 /// Where a command is.
 pub fn found(tool: &str) -> PathBuf {
     sought(tool).expect(tool)
-}
-
-pub fn sought(tool: &str) -> Option<PathBuf> {
-    let path = env::var_os("PATH").expect("PATH");
-    let mut places = env::split_paths(&path).map(|folder| folder.join(tool));
-    places.find(|place| place.exists())
 }
 
 /// Sets the time of a file or folder to so many seconds ago.
