@@ -34,7 +34,7 @@ echo "$call" >> calls
 fn gate() -> Scratch {
     let scratch = repository();
     scratch.put_script("tools/rt", RT);
-    for tool in ["tools/cargo", "tests/probes", "tests/c/run"] {
+    for tool in ["tools/cargo", "tests/probes", "tests/c/run", "tests/levels"] {
         scratch.put_script(tool, OTHER);
     }
     scratch.put("fails", "");
@@ -84,8 +84,8 @@ fn phases_and_the_last_line() {
         .copied()
         .filter(|&call| call != "cargo tests")
         .collect();
-    assert_eq!(beside, ["cargo perf", "cargo rust", "run "]);
-    assert_eq!(calls.len(), 8);
+    assert_eq!(beside, ["cargo perf", "cargo rust", "run ", "levels "]);
+    assert_eq!(calls.len(), 9);
     let folder = scratch.get("room");
     assert!(folder == "\n" || !std::path::Path::new(folder.trim_end()).exists());
 }
@@ -102,6 +102,7 @@ fn failures() {
         "cargo perf",
         "cargo rust",
         "run ",
+        "levels ",
     ] {
         let scratch = gate();
         scratch.put("fails", format!("{fails}\n"));
