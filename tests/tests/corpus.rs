@@ -2,9 +2,10 @@
 
 use simulator::compare::cases::{compare_case, operation_of, OPERATIONS};
 use simulator::compare::tally::{print_compared, Operation, Tally};
-use simulator::executed::root;
+use simulator::executed::{ended, root, Scratch};
 use simulator::generate::Report;
 use std::fs;
+use std::process::Command;
 
 /// The cases with their names.
 fn cases() -> Vec<(String, Vec<u8>)> {
@@ -45,4 +46,16 @@ fn every_case_is_answered_as_by_the_simulator() {
 fn the_corpus_is_small() {
     let bytes: usize = cases().iter().map(|(_, case)| case.len()).sum();
     assert!((10_000..200_000).contains(&bytes), "{bytes}");
+}
+
+/// A machine without clang does not pass for one where nothing was found.
+#[test]
+fn without_clang_nothing_is_fuzzed() {
+    let scratch = Scratch::new();
+    let tools = scratch.put_tools("tools", &["bash", "dirname"]);
+    let mut command = Command::new(root().join("tests/fuzz"));
+    let output = ended(command.arg("1").env("PATH", tools), b"");
+    assert_eq!(output.status.code(), Some(2), "{output:?}");
+    let told = String::from_utf8_lossy(&output.stderr);
+    assert!(told.contains("NOTHING WAS FUZZED"), "{told}");
 }

@@ -243,3 +243,15 @@ fn signals_change_nothing() {
         assert!(under_signals(name, &input) == expected);
     }
 }
+
+/// A machine without strace does not pass for one where every call was seen.
+#[test]
+fn without_strace_nothing_is_traced() {
+    let scratch = Scratch::new();
+    let tools = scratch.put_tools("tools", &["bash", "dirname"]);
+    let mut command = Command::new(root().join("tests/traced"));
+    let output = ended(command.env("PATH", tools), b"");
+    assert_eq!(output.status.code(), Some(2), "{output:?}");
+    let told = String::from_utf8_lossy(&output.stderr);
+    assert!(told.contains("NOTHING WAS TRACED"), "{told}");
+}

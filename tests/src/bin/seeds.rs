@@ -5,10 +5,10 @@ use simulator::compare::cases::Case;
 use simulator::compare::cells::list_of;
 use simulator::compare::tally::Operation;
 use simulator::generate::{
-    bad_orders, block, cell_setting, foreign_cells, malformed, mutant, order, spoiled,
-    strange_never, stranger, text, Change, Random, Shape, Size,
+    bad_orders, block, cell_setting, foreign_cells, large, long_texts, malformed, mutant,
+    near_a_limit, order, spoiled, strange_never, stranger, text, Change, Random, Shape, Size,
 };
-use simulator::limits::GATES;
+use simulator::limits::{GATES, TEXT_BYTES};
 use simulator::render::copied;
 use simulator::specimens::{reversed_ring, words_of};
 use std::path::Path;
@@ -42,7 +42,7 @@ fn main() {
         cases.extend(of_lists(&mut random, &block));
         cases
     });
-    for (number, Case(bytes)) in cases.chain(of_rings()).enumerate() {
+    for (number, Case(bytes)) in cases.chain(of_rings()).chain(of_limits()).enumerate() {
         let path = Path::new(&folder).join(format!("seed-{number:04}"));
         fs::write(path, bytes).expect("a folder that can be written");
     }
@@ -55,6 +55,20 @@ fn of_rings() -> Vec<Case> {
     let rings = [most, more].map(|text| words_of(&text));
     let render = |words: &Vec<u16>| Case::of(Operation::Render).words(words);
     rings.iter().map(render).collect()
+}
+
+/// Texts and blocks about the limits, which are long.
+fn of_limits() -> Vec<Case> {
+    let mut random = Random::new(SEEDS);
+    let mut texts: Vec<Vec<u8>> = long_texts().into_iter().map(|(_, text)| text).collect();
+    texts.extend((0..6).map(|over| near_a_limit(&mut random, over % 2)));
+    texts.push(vec![b'\n'; TEXT_BYTES + 1]);
+    let texts = texts
+        .iter()
+        .map(|text| Case::of(Operation::Read).bytes(text));
+    let blocks = large().into_iter().map(|(_, block)| block.to_words());
+    let render = blocks.map(|words| Case::of(Operation::Render).words(&words));
+    texts.chain(render).collect()
 }
 
 fn of_texts(random: &mut Random) -> Vec<Case> {
