@@ -2,12 +2,16 @@
    An input is one case. Its first byte is the operation, modulo OPERATIONS; behind it stand the operation's slices. Each but the last has its
    length, in elements, in the two bytes before it, the lower first (cut to what is left); the last is all the rest. A number of inputs or a
    place is one such pair of bytes. Words are two bytes each, the lower first. Text is also taken further: where Read gives a block, every
-   operation on a block is called on it, so that what is found in texts is found in words too. tests/src/corpus.rs reads the same cases. */
+   operation on a block is called on it, so that what is found in texts is found in words too. tests/src/compare/cases.rs reads the
+   same cases. */
 #include "unloop.h"
 #include <stdlib.h>
 #include <string.h>
 
-enum operation { READ, WRITE, SETTLE, PASS, SHEET, VERDICT, COVER, GROUPS, RENDER, COMPARE, COMPARE_CELLS, BRING, CELLS, RUN, GATHER, SCATTER, LINE, OPERATIONS };
+enum operation {
+    READ, WRITE, SETTLE, PASS, SHEET, VERDICT, COVER, GROUPS, RENDER, COMPARE, COMPARE_CELLS, BRING, CELLS, RUN, GATHER, SCATTER, LINE,
+    OPERATIONS
+};
 
 /* What is left of an input. */
 typedef struct rest {
