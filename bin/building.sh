@@ -5,6 +5,7 @@ program=$root/target/bin/unloop
 library=$root/target/staticlib/libexports.a
 driver=$root/target/driver/release/unloop-files
 kit=$(rt version 2>/dev/null || true)
+unset UNLOOP_LIBRARY # for tests alone: the driver is linked with what ships
 source "$root/bin/progress.sh"
 
 source "$root/bin/telling.sh"

@@ -1,6 +1,7 @@
 //! The proved program as a process, folders for tests that need files, and tools that may be missing.
 
 use std::io::Write;
+use std::os::unix::fs::symlink;
 use std::path::{Path, PathBuf};
 use std::process::{Command, Output, Stdio};
 use std::sync::atomic::{AtomicUsize, Ordering};
@@ -118,6 +119,18 @@ impl Scratch {
             .status();
         assert!(copied.expect("install").success());
         fs::remove_file(source).expect("written above");
+    }
+
+    /// Makes a folder of links to these commands alone, for a PATH that lacks every other.
+    pub fn put_tools(&self, name: &str, tools: &[&str]) -> PathBuf {
+        let (folder, path) = (self.path(name), env::var_os("PATH").expect("PATH"));
+        fs::create_dir(&folder).expect("a new folder");
+        for tool in tools {
+            let mut places = env::split_paths(&path).map(|folder| folder.join(tool));
+            let found = places.find(|place| place.exists()).expect(tool);
+            symlink(found, folder.join(tool)).expect("a link");
+        }
+        folder
     }
 
     pub fn get(&self, name: &str) -> String {

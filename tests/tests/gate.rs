@@ -38,7 +38,7 @@ echo "$call" >> calls
 fn gate() -> Scratch {
     let scratch = repository();
     scratch.put_script("tools/rt", RT);
-    for tool in ["tools/cargo", "tests/probes", "tests/c/run"] {
+    for tool in ["tools/cargo", "tests/probes", "tests/c/run", "tests/levels"] {
         scratch.put_script(tool, OTHER);
     }
     scratch.put("fails", "");
@@ -96,8 +96,11 @@ fn phases_and_the_last_line() {
     assert_eq!(calls[..10], IN_ORDER);
     let mut beside = calls[10..].to_vec();
     beside.retain(|&call| call != "cargo test tests");
-    assert_eq!(beside, ["cargo test perf", "cargo test rust", "run"]);
-    assert_eq!(calls.len(), 14);
+    assert_eq!(
+        beside,
+        ["cargo test perf", "cargo test rust", "run", "levels"]
+    );
+    assert_eq!(calls.len(), 15);
     let folder = scratch.get("room");
     assert!(folder == "\n" || !std::path::Path::new(folder.trim_end()).exists());
 }
@@ -117,6 +120,7 @@ fn failures() {
         "cargo test perf",
         "cargo test rust",
         "run",
+        "levels",
     ] {
         let scratch = gate();
         scratch.put("fails", format!("{fails}\n"));
