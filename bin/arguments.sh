@@ -45,7 +45,8 @@ look_at() {
     case $option in
       -h | --help) exec cat "$usage" ;;
       -V | --version) exec sed -n 's/^version = "\(.*\)"/unloop \1/p' "$root/rust/Cargo.toml" ;;
-      --sheet | --run-cells | --check) [[ $value == all && $option != --check ]] || readable+=("$value") ;;
+      --check | --never) readable+=("$value") ;;
+      --sheet | --run-cells) [[ $value == all ]] || readable+=("$value") ;;
       --audit) given=entries ;;
       --store)
         [[ -d $value ]] || fail "$value: No such file or directory"

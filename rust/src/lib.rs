@@ -31,6 +31,7 @@ mod cells;
 mod circle;
 mod copies;
 pub mod declarations;
+pub mod design;
 pub mod drawing;
 mod export;
 mod from_blif;

@@ -7,6 +7,7 @@ mod cells;
 mod check;
 mod cover;
 mod described;
+mod design;
 mod export;
 mod folder;
 mod from_blif;
@@ -47,7 +48,12 @@ fn main() -> ExitCode {
             output,
             reads,
         } = asked;
-        output.map_or(Ok(()), |path| output::open(path, &reads))?;
+        // Of a design nothing is written before all of it is done.
+        let open = match request {
+            Request::Design(_) => output::open_later,
+            _ => output::open,
+        };
+        output.map_or(Ok(()), |path| open(path, &reads))?;
         Ok(request)
     });
     match asked {
@@ -73,6 +79,7 @@ fn answered(request: Request, program: Program) -> ExitCode {
         Request::Cover(files) => Ok(cover::run(&sources(files))),
         Request::Export(export) => export::run(export),
         Request::FromBlif(asked) => from_blif::run(asked),
+        Request::Design(asked) => design::run(asked),
         Request::Page(target, files) => page::run(&target, files),
         Request::AuditedPage(target, audited) => page::run_audited(&target, &audited),
     };
