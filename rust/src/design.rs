@@ -9,6 +9,7 @@ mod lines;
 mod loops;
 mod promises;
 mod whole;
+mod wider;
 mod wiring;
 mod writing;
 
@@ -54,6 +55,8 @@ pub struct Piece {
     pub gates: usize,
     /// The promises that it rests on, by number.
     pub promises: Vec<usize>,
+    /// These exclude every setting of the boundary, so that nothing is said of the loop.
+    pub never_comes: bool,
 }
 
 /// Why a loop stays.
@@ -121,14 +124,13 @@ impl<'a> Design<'a> {
             .collect()
     }
 
-    /// The instances that are put in place because a loop passes through them, and how many lines with what is not known here stay: a loop
-    /// through them is not seen.
+    /// The instances that are put in place because a loop passes through them, as `half.1`.
     pub fn placed(&self) -> Vec<String> {
         let models = self.models.iter();
         models.flat_map(|whole| whole.placed_instances()).collect()
     }
 
-    /// The instances of what the file doesn't have, by what they are instances of, each once.
+    /// What the file doesn't have and the design has instances of: these stay, and a loop through them is not seen.
     pub fn strangers(&self) -> Vec<String> {
         let mut names: Vec<String> = self.models.iter().flat_map(Whole::strangers).collect();
         names.sort();

@@ -4,6 +4,7 @@ use super::cut::Cut;
 use super::gates::Gates;
 use super::promises::Allowed;
 use super::whole::Whole;
+use super::wider::{wider, STEPS};
 use super::wiring::{Listed, Source};
 use super::{Piece, Refused};
 use crate::blif_model::{BlifError, Instance, Model, Net, Table};
@@ -15,42 +16,57 @@ use std::collections::{HashMap, HashSet};
 /// How many of a loop's nets its name has.
 const NETS_TOLD: usize = 4;
 
-/// What takes the place of a group. Of one with more ports than a block has outputs there is a block for each sixteen.
+/// What takes the place of a group: by itself, or with copies of what it reads, or at last on promises.
 pub fn taken_out(
     whole: &Whole,
     cut: &Cut,
     number: usize,
     allowed: &[Allowed],
 ) -> Result<Piece, Refused> {
-    let boundary = cut.boundary.len();
-    if boundary > INPUTS {
-        let name = called(whole, cut);
-        let reason = format!(
-            "{name} reads {boundary} nets from outside, and a block may have {INPUTS} inputs"
-        );
-        return Err(Refused::TooLarge(reason));
-    }
-    match rendered(whole, cut, &[]) {
-        Ok(turns) => Ok(piece(whole, cut, number, turns, &[])),
-        Err(Refused::Block { .. }) if !allowed.is_empty() => {
-            if allowed.len() > NEVERS {
-                let reason = format!(
-                    "{} promises are about {}, and a block may have {NEVERS} never lines",
-                    allowed.len(),
-                    called(whole, cut)
-                );
-                return Err(Refused::TooLarge(reason));
-            }
-            Ok(piece(
-                whole,
-                cut,
-                number,
-                rendered(whole, cut, allowed)?,
-                allowed,
-            ))
+    let refused = match rendered(whole, cut, &[]) {
+        Ok(turns) => return Ok(piece(whole, cut, number, turns, &[])),
+        Err(refused) => refused,
+    };
+    if may_be_wider(&refused) {
+        if let Some((cut, turns)) = rendered_wider(whole, cut) {
+            return Ok(piece(whole, &cut, number, turns, &[]));
         }
-        Err(refused) => Err(refused),
     }
+    match refused {
+        Refused::Block { .. } if allowed.len() > NEVERS => {
+            let (count, name) = (allowed.len(), called(whole, cut));
+            Err(Refused::TooLarge(format!(
+                "{count} promises are about {name}, and a block may have {NEVERS} never lines"
+            )))
+        }
+        Refused::Block { .. } if !allowed.is_empty() => {
+            let turns = rendered(whole, cut, allowed)?;
+            Ok(piece(whole, cut, number, turns, allowed))
+        }
+        refused => Err(refused),
+    }
+}
+
+/// Whether the reason may be gone with another boundary.
+fn may_be_wider(refused: &Refused) -> bool {
+    match refused {
+        Refused::TooLarge(_) => true,
+        Refused::Block { refusal, .. } => matches!(refusal, Refusal::NotSettled { .. }),
+        Refused::NotAccepted => false,
+    }
+}
+
+/// The first wider cut that can be rendered.
+fn rendered_wider(whole: &Whole, cut: &Cut) -> Option<(Cut, Vec<Block>)> {
+    let mut cut = wider(whole, cut)?;
+    for _ in 1..STEPS {
+        match rendered(whole, &cut, &[]) {
+            Ok(turns) => return Some((cut, turns)),
+            Err(_) => cut = wider(whole, &cut)?,
+        }
+    }
+    let turns = rendered(whole, &cut, &[]).ok()?;
+    Some((cut, turns))
 }
 
 /// The loop by the first of its nets.
@@ -78,8 +94,12 @@ fn piece(
     for (turn, ports) in turns.iter().zip(cut.ports.chunks(OUTPUTS)) {
         gates.put(turn, ports);
     }
+    let copied = match cut.copies.len() {
+        0 => String::new(),
+        copies => format!(", with copies of {copies} that it reads,"),
+    };
     let told = format!(
-        "# unloop: {}: {} lines became {} gates\n",
+        "# unloop: {}: {} lines{copied} became {} gates\n",
         called(whole, cut),
         cut.members.len(),
         gates.count
@@ -90,12 +110,31 @@ fn piece(
     Piece {
         lines: told + &gates.lines,
         gates: gates.count,
+        never_comes: nothing_comes(cut.boundary.len(), rests_on),
         promises,
     }
 }
 
-/// What is rendered of a group, for each sixteen ports.
+/// Whether promises exclude every setting of so many nets.
+fn nothing_comes(nets: usize, promises: &[Allowed]) -> bool {
+    let is_excluded = |setting: usize| {
+        let agrees = |&(place, value): &(usize, bool)| (setting >> place & 1 == 1) == value;
+        promises
+            .iter()
+            .any(|promise| promise.pins.iter().all(agrees))
+    };
+    !promises.is_empty() && (0..1 << nets).all(is_excluded)
+}
+
+/// What is rendered of a group. Of one with more ports than a block has outputs there is a block for each sixteen.
 fn rendered(whole: &Whole, cut: &Cut, allowed: &[Allowed]) -> Result<Vec<Block>, Refused> {
+    let boundary = cut.boundary.len();
+    if boundary > INPUTS && !cut.ports.is_empty() {
+        let name = called(whole, cut);
+        return Err(Refused::TooLarge(format!(
+            "{name} reads {boundary} nets from outside, and a block may have {INPUTS} inputs"
+        )));
+    }
     let turn = |ports: &[Net]| -> Result<Block, Refused> {
         let own = own_model(whole, cut, ports);
         let (text, names) =
@@ -189,7 +228,7 @@ fn own_model(whole: &Whole, cut: &Cut, ports: &[Net]) -> Model {
         .map(|&place| drivers[place].net)
         .collect();
     own.nets(&inside);
-    for &place in &cut.members {
+    for &place in cut.members.iter().chain(&cut.copies) {
         own.put(drivers[place].listed);
         drivers[place]
             .reads

@@ -9,7 +9,9 @@ use std::collections::HashSet;
 pub struct Cut {
     /// Its drivers, by line.
     pub members: Vec<usize>,
-    /// The nets that they read from outside, through buffers and inverters, in the order in which they are first read.
+    /// Drivers outside of it that its block has copies of (`wider`).
+    pub copies: Vec<usize>,
+    /// The nets that these read from outside, through buffers and inverters, in the order in which they are first read.
     pub boundary: Vec<Net>,
     /// The nets of its own that are read outside, in the order of the drivers.
     pub ports: Vec<Net>,
@@ -37,6 +39,7 @@ pub fn cuts(whole: &Whole, groups: Vec<Vec<usize>>) -> Vec<Cut> {
         let ports = ports.filter(|&place| is_port[place] || wiring.is_shown[net(place)]);
         Cut {
             boundary: boundary(whole, &members),
+            copies: Vec::new(),
             ports: ports.map(net).collect(),
             members,
         }
@@ -44,14 +47,17 @@ pub fn cuts(whole: &Whole, groups: Vec<Vec<usize>>) -> Vec<Cut> {
     groups.into_iter().map(cut).collect()
 }
 
-fn boundary(whole: &Whole, members: &[usize]) -> Vec<Net> {
+/// The nets that drivers read from outside.
+pub fn boundary(whole: &Whole, members: &[usize]) -> Vec<Net> {
     let drivers = &whole.wiring.drivers;
     let own: HashSet<Net> = members.iter().map(|&place| drivers[place].net).collect();
     let (mut boundary, mut seen) = (Vec::new(), HashSet::new());
     let read = members.iter().flat_map(|&place| &drivers[place].reads);
     for &net in read.filter(|net| !own.contains(net)) {
         match whole.sources[net] {
-            Source::Net { net, .. } if seen.insert(net) => boundary.push(net),
+            Source::Net { net, .. } if !own.contains(&net) && seen.insert(net) => {
+                boundary.push(net)
+            }
             _ => {}
         }
     }

@@ -21,6 +21,8 @@ pub struct Whole {
     /// By instance, whether it is put in place when the model is written.
     pub is_merged: Vec<bool>,
     pub wiring: Wiring,
+    /// By driver, whether it is in no loop, nor in an instance that stays one.
+    pub is_plain: Vec<bool>,
     /// By net, what it is through buffers and inverters that no loop has.
     pub sources: Vec<Source>,
     pub prefix: String,
@@ -50,11 +52,13 @@ impl Whole {
         let prefix = free_prefix(&whole);
         let is_plain =
             |place: usize| !in_loops[place] && is_merged[wiring.drivers[place].placement];
-        let sources = sources(&wiring, is_plain);
+        let is_plain: Vec<bool> = (0..wiring.drivers.len()).map(is_plain).collect();
+        let sources = sources(&wiring, &is_plain);
         let whole = Whole {
             model: whole,
             placements,
             is_merged,
+            is_plain,
             sources,
             prefix,
             wiring,
@@ -180,8 +184,8 @@ fn marked(wiring: &Wiring, groups: &[Vec<usize>]) -> Vec<bool> {
     marked
 }
 
-/// What each net is through drivers that `is_plain` holds of; no loop is among them, and each is passed once.
-fn sources(wiring: &Wiring, is_plain: impl Fn(usize) -> bool) -> Vec<Source> {
+/// What each net is through plain drivers; no loop is among them, and each is passed once.
+fn sources(wiring: &Wiring, is_plain: &[bool]) -> Vec<Source> {
     let mut sources: Vec<Option<Source>> = vec![None; wiring.by_net.len()];
     for start in 0..sources.len() {
         let (mut net, mut passed) = (start, Vec::new());
@@ -189,7 +193,7 @@ fn sources(wiring: &Wiring, is_plain: impl Fn(usize) -> bool) -> Vec<Source> {
             if let Some(known) = sources[net] {
                 break known;
             }
-            let driver = wiring.by_net[net].filter(|&place| is_plain(place));
+            let driver = wiring.by_net[net].filter(|&place| is_plain[place]);
             match driver.and_then(|place| wiring.drivers[place].alias) {
                 Some(Source::Net {
                     net: read,

@@ -301,7 +301,7 @@ impl Design {
             format!(".names {enable} {value} {kept} {kept}\n11- 1\n0-1 1"),
             true,
         );
-        self.nets.push(kept);
+        self.shown(kept);
     }
 
     fn wide(&mut self, random: &mut Random) {
@@ -325,6 +325,13 @@ impl Design {
             format!(".names {wide} {} {back}\n-1 1\n1- 1", read[0]),
             true,
         );
-        self.nets.push(wide);
+        self.shown(wide);
+    }
+
+    /// A net that something reads in any case.
+    fn shown(&mut self, net: String) {
+        let reads = self.fresh("n");
+        self.put(format!(".names {net} {reads}\n0 1"), false);
+        self.nets.extend([net, reads]);
     }
 }

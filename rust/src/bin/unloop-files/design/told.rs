@@ -6,6 +6,9 @@ use crate::tally::counted;
 use unloop::design::{Loop, Refused};
 use unloop::{hint, Block};
 
+/// The nets of a boundary that are told.
+const BOUNDARY_TOLD: usize = 32;
+
 /// Why a loop stays: where it is, what is wrong, and its nets.
 pub fn refused(name: &str, found: &Loop, refused: &Refused) -> Vec<String> {
     let at = format!("{name}:{}", found.line);
@@ -33,22 +36,20 @@ pub fn refused(name: &str, found: &Loop, refused: &Refused) -> Vec<String> {
             lines
         }
     };
-    lines.push(format!(
-        "  it reads from outside {}",
-        listed(&found.boundary)
-    ));
+    let boundary = listed(&found.boundary, BOUNDARY_TOLD);
+    lines.push(format!("  it reads from outside {boundary}"));
     lines
 }
 
 /// A loop by the first of its nets.
 fn called(found: &Loop) -> String {
-    format!("the loop of {}", listed(&found.nets))
+    format!("the loop of {}", listed(&found.nets, ENTRIES_TOLD))
 }
 
 /// The first names of a list, and how many there are besides.
-fn listed(names: &[String]) -> String {
-    let told = names[..names.len().min(ENTRIES_TOLD)].join(", ");
-    match names.len().saturating_sub(ENTRIES_TOLD) {
+fn listed(names: &[String], most: usize) -> String {
+    let told = names[..names.len().min(most)].join(", ");
+    match names.len().saturating_sub(most) {
         _ if names.is_empty() => "nothing".to_string(),
         0 => told,
         more => format!("{told} and {more} more"),
@@ -64,14 +65,14 @@ impl Finding<'_> {
         if !placed.is_empty() {
             lines.push(format!(
                 "{name}: a loop passes through {}: put in place",
-                listed(&placed)
+                listed(&placed, ENTRIES_TOLD)
             ));
         }
         let strangers = self.design.strangers();
         if !strangers.is_empty() {
             lines.push(format!(
                 "{name}: not in the file, so that a loop through it is not seen: {}",
-                listed(&strangers)
+                listed(&strangers, ENTRIES_TOLD)
             ));
         }
         let rests_on = self.rests_on();
@@ -81,6 +82,12 @@ impl Finding<'_> {
                     "{name}: no loop needs the promise of line {}: never {}",
                     promise.line, promise.text
                 ));
+            }
+        }
+        for (found, taken) in self.loops.iter().zip(&self.taken) {
+            if taken.as_ref().is_ok_and(|piece| piece.never_comes) {
+                let called = called(found);
+                lines.push(format!("{name}:{}: warning: promises exclude all that can come to {called}, so nothing is said of it", found.line));
             }
         }
         lines.push(format!("{name}: {}", self.summary()));
