@@ -49,6 +49,8 @@ pub struct Loop {
 /// What takes a loop's place.
 #[derive(Debug, Clone, PartialEq, Eq)]
 pub struct Piece {
+    /// What is told of it at the head of the file, in lines.
+    told: Vec<String>,
     /// The `.names` lines.
     lines: String,
     /// How many gates they are.

@@ -110,36 +110,13 @@ impl Circuit {
     ) {
         let nothing = Vec::new();
         for words in models.get(model).unwrap_or(&nothing) {
-            let nets = |circuit: &mut Circuit| -> Vec<usize> {
-                words[1..]
-                    .iter()
-                    .map(|name| circuit.net(name, inside, pins))
-                    .collect()
-            };
+            let nets = words[1..].iter();
             match &words[0][..] {
-                ".inputs" | ".outputs" => {
-                    nets(self);
-                    if inside.is_empty() {
-                        let list = if words[0] == ".inputs" {
-                            &mut self.inputs
-                        } else {
-                            &mut self.outputs
-                        };
-                        list.extend(words[1..].to_vec());
-                    }
-                }
+                ".inputs" if inside.is_empty() => self.inputs.extend(words[1..].to_vec()),
+                ".outputs" if inside.is_empty() => self.outputs.extend(words[1..].to_vec()),
                 ".names" => {
-                    let mut nets = nets(self);
-                    let net = nets.pop().expect("a net");
-                    let part = Part::Table {
-                        rows: Vec::new(),
-                        shown: 1,
-                    };
-                    self.drivers.push(Driver {
-                        part,
-                        reads: nets,
-                        net,
-                    });
+                    let reads = nets.map(|name| self.net(name, inside, pins)).collect();
+                    self.put_table(reads);
                 }
                 ".latch" => {
                     self.net(&words[2], inside, pins);
@@ -150,7 +127,21 @@ impl Circuit {
                 word if word.starts_with('.') => {}
                 _ => self.put_row(words),
             }
+            if [".inputs", ".outputs"].contains(&&words[0][..]) {
+                for name in &words[1..] {
+                    self.net(name, inside, pins);
+                }
+            }
         }
+    }
+
+    /// A table without rows, of nets the last of which it drives.
+    fn put_table(&mut self, mut nets: Vec<usize>) {
+        let net = nets.pop().expect("a net");
+        let (rows, shown) = (Vec::new(), 1);
+        let part = Part::Table { rows, shown };
+        let reads = nets;
+        self.drivers.push(Driver { part, reads, net });
     }
 
     fn put_row(&mut self, words: &[String]) {

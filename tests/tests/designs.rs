@@ -4,6 +4,7 @@ mod session;
 
 use session::{run, told, with};
 use simulator::circuit::Circuit;
+use simulator::executed::Scratch;
 use simulator::generate::designs::{design, Design, Planted, TAKEN_OUT};
 use simulator::generate::{Random, Report};
 use simulator::values::UNDEFINED;
@@ -80,7 +81,7 @@ fn assert_kept(design: &Design, before: &str, after: &str) {
     let mut kept = design.kept(before).into_iter().peekable();
     for line in after.lines() {
         let is_new =
-            line.starts_with("# unloop: ") || line.starts_with(".names ") || !line.starts_with('.');
+            line.starts_with("# unloop ") || line.starts_with(".names ") || !line.starts_with('.');
         match kept.next_if_eq(&line) {
             Some(_) => {}
             None => assert!(
@@ -169,72 +170,61 @@ const SMALL: &str = "# a small design\n.model top\n.inputs s a b clk\n.outputs y
 const UNDECIDED: &str = "small.blif:19: the loop of k, z: undecided\n  not settled with a = 0, b = 1: z undefined\n  k waits for itself\n  \
     settles with a = 1\n  settles with b = 0\n  it reads from outside a, b\n";
 
+/// What is told of it at the head of the file.
+const FIRST_TOLD: &str = "# unloop 1: the loop of p, q: 2 lines became 4 gates\n";
+
 /// What takes the first loop's place; the remark on it goes with it, and the comments and the empty line stay.
 const FIRST_TAKEN: &str = "# a small design\n.model top\n.inputs s a b clk\n.outputs y z\n\
-    # unloop: the loop of p, q: 2 lines became 4 gates\n.names unloop_1_0\n.names s unloop_1_0 unloop_1_1\n00 0\n\
+    .names s unloop_1_0\n- 0\n.names s unloop_1_0 unloop_1_1\n00 0\n\
     .names s unloop_1_1 unloop_1_2\n11 1\n.names s unloop_1_2 q\n00 0\n# between them\n\n.names q n\n0 1\n.latch n r re clk 0\n\
     .names r a y\n11 1\n";
 
-#[test]
-fn design_as_a_command() {
-    let scratch = with(&[
+/// The design, a promise that its second loop needs, and a file that is there.
+fn small() -> Scratch {
+    with(&[
         ("small.blif", SMALL),
         ("never", "b = 1, a = 0\n"),
         ("out", "before"),
-    ]);
+    ])
+}
+
+/// Nothing is written where one loop is refused, not even the file of -o; with --partial the others are gone.
+#[test]
+fn a_refused_design() {
+    let scratch = small();
     let summary = "small.blif: 6 gates, 2 loops: 1 taken out, 1 refused\n";
     let refused = format!("{UNDECIDED}{summary}");
-    // Nothing is written where one is refused, not even the file of -o.
     told(run(&scratch, &["--design", "small.blif"]), 1, "", &refused);
-    told(
-        run(&scratch, &["--design", "small.blif", "-o", "out"]),
-        1,
-        "",
-        &refused,
-    );
+    let words = ["--design", "small.blif", "-o", "out"];
+    told(run(&scratch, &words), 1, "", &refused);
     assert_eq!(scratch.get("out"), "before");
     let rest = ".names a b z k\n1-- 1\n-11 1\n.names k z\n1 1\n.end\n# behind it\n";
-    let partial = format!("{FIRST_TAKEN}{rest}");
-    told(
-        run(&scratch, &["--design", "--partial", "small.blif"]),
-        1,
-        &partial,
-        &refused,
-    );
-    let second = "# unloop: the loop of k, z: 2 lines became 4 gates\n# unloop: rests on never b = 1, a = 0\n.names unloop_2_0\n\
-        .names a unloop_2_0 unloop_2_1\n00 0\n.names b unloop_2_1 unloop_2_2\n11 1\n.names a unloop_2_2 z\n00 0\n.end\n# behind it\n";
-    let straight = format!("{FIRST_TAKEN}{second}");
+    let partial = format!("{FIRST_TOLD}{FIRST_TAKEN}{rest}");
+    let words = ["--design", "--partial", "small.blif"];
+    told(run(&scratch, &words), 1, &partial, &refused);
+}
+
+/// With a promise both are gone; in what is written nothing is left to do, and lines end as they did.
+#[test]
+fn a_design_on_a_promise() {
+    let scratch = small();
+    let told_second =
+        "# unloop 2: the loop of k, z: 2 lines became 4 gates\n# unloop 2: rests on never b = 1, a = 0\n";
+    let second = ".names a unloop_2_0\n- 0\n.names a unloop_2_0 unloop_2_1\n00 0\n.names b unloop_2_1 unloop_2_2\n11 1\n\
+        .names a unloop_2_2 z\n00 0\n.end\n# behind it\n";
+    let straight = format!("{FIRST_TOLD}{told_second}{FIRST_TAKEN}{second}");
     let summary = "small.blif: 6 gates, 2 loops: 2 taken out (1 on promises), 0 refused\n";
-    told(
-        run(&scratch, &["--design", "--never=never", "small.blif"]),
-        0,
-        &straight,
-        summary,
-    );
-    told(
-        run(
-            &scratch,
-            &["--design", "small.blif", "--never", "never", "-oout"],
-        ),
-        0,
-        "",
-        summary,
-    );
+    let words = ["--design", "--never=never", "small.blif"];
+    told(run(&scratch, &words), 0, &straight, summary);
+    let words = ["--design", "small.blif", "--never", "never", "-oout"];
+    told(run(&scratch, &words), 0, "", summary);
     assert_eq!(scratch.get("out"), straight);
-    // Once more: nothing is left to do, and names that were made up are taken.
-    told(
-        run(&scratch, &["--design", "out"]),
-        0,
-        &straight,
-        "out: 11 gates, 0 loops: 0 taken out, 0 refused\n",
-    );
-    let windows = SMALL.replace('\n', "\r\n");
-    scratch.put("w.blif", &windows);
-    let ended = run(&scratch, &["--design", "--never=never", "w.blif"]);
-    assert_eq!(
-        String::from_utf8_lossy(&ended.stdout),
-        straight.replace('\n', "\r\n")
-    );
+    let nothing = "out: 10 gates, 0 loops: 0 taken out, 0 refused\n";
+    told(run(&scratch, &["--design", "out"]), 0, &straight, nothing);
+    scratch.put("small.blif", SMALL.replace('\n', "\r\n"));
+    let straight = straight.replace('\n', "\r\n");
+    let words = ["--design", "--never=never", "small.blif"];
+    told(run(&scratch, &words), 0, &straight, summary);
 }
 
 #[test]
@@ -253,7 +243,7 @@ fn designs_as_json() {
     );
     let ended = run(&scratch, &["--design", "--json", "--partial", "small.blif"]);
     assert!(String::from_utf8_lossy(&ended.stdout)
-        .contains(r##","rests_on":[],"written":"# a small design\n.model top"##));
+        .contains(r##","rests_on":[],"written":"# unloop 1: the loop of p, q"##));
 }
 
 /// Promises through buffers and inverters, promises that say nothing of a loop, and texts that are none.
@@ -283,7 +273,10 @@ fn promises_about_nets() {
         "\n  also=1",
     ] {
         let straight = tried(promise, 0, taken);
-        assert!(straight.contains("# unloop: rests on never "), "{straight}");
+        assert!(
+            straight.contains("# unloop 1: rests on never "),
+            "{straight}"
+        );
         assert!(!Circuit::of(&straight).has_loop());
     }
     let undecided = "m.blif:8: the loop of q: undecided\n  not settled with e = 0, d = 0: q undefined\n  q waits for itself\n  \
@@ -324,7 +317,7 @@ fn loops_through_instances() {
     assert_eq!(String::from_utf8_lossy(&ended.stderr), errors);
     let straight = String::from_utf8_lossy(&ended.stdout).into_owned();
     for stays in [
-        ".names g ng\n0 1\n.subckt tail x=f y=y\n.subckt tail x=g y=z\n.subckt clocked d=f c=c q=w\n.end\n.model unit # a mux",
+        ".subckt tail x=f y=y\n.subckt tail x=g y=z\n.subckt clocked d=f c=c q=w\n.end\n.model unit # a mux",
         "\n.subckt clocked d=unit.1.m c=s q=unit.1.k0\n",
         ".names x p q\n",
     ] {
@@ -428,48 +421,40 @@ fn designs_that_are_not_read() {
 #[test]
 fn loops_that_nothing_reads() {
     let text = ".model m\n.inputs a\n.outputs y\n.names p p\n0 1\n.names a y\n0 1\n.end\n";
-    let straight = ".model m\n.inputs a\n.outputs y\n# unloop: the loop of p: 1 lines became 0 gates\n.names a y\n0 1\n.end\n";
+    let straight = "# unloop 1: the loop of p: 1 lines became 0 gates\n.model m\n.inputs a\n.outputs y\n.names a y\n0 1\n.end\n";
     assert_eq!(straightened(text, ""), (straight.to_string(), 1));
 }
 
-/// More nets, ports or gates than a block has: told with the numbers, and ports in turns of sixteen.
+/// A row of gates in a loop, all of which read s; the first of them are outputs.
+fn row(gates: usize) -> String {
+    let outputs: String = (0..gates.min(40)).map(|gate| format!("g{gate} ")).collect();
+    let rows = |gate: usize| if gate == 1 { "1- 1\n-1" } else { "11" };
+    let line = |gate: usize| {
+        let before = (gate + gates - 1) % gates;
+        format!(".names s g{before} g{gate}\n{} 1\n", rows(gate))
+    };
+    let lines: String = (0..gates).map(line).collect();
+    format!(".model m\n.inputs s\n.outputs {outputs}\n{lines}.end\n")
+}
+
+/// More nets or gates than a block has, and a rendering that is too large: told with the numbers.
 #[test]
 fn loops_that_are_too_large() {
-    let list = |word: &str, count: usize| {
-        (0..count)
-            .map(|number| format!("{word}{number} "))
-            .collect::<String>()
-    };
+    let nets: Vec<String> = (0..13).map(|number| format!("i{number}")).collect();
+    let names = nets.join(" ");
     let wide = format!(
-        ".model m\n.inputs {}\n.outputs y\n.names {}y y\n{} 1\n.end\n",
-        list("i", 13),
-        list("i", 13),
+        ".model m\n.inputs {names}\n.outputs y\n.names {names} y y\n{} 1\n.end\n",
         "1".repeat(14)
     );
-    let chain = |gates: usize| {
-        let outputs = list("g", gates.min(40));
-        let first = format!(".names s g{} g0\n11 1\n", gates - 1);
-        let rest: String = (1..gates)
-            .map(|gate| {
-                format!(
-                    ".names s g{} g{gate}\n{} 1\n",
-                    gate - 1,
-                    if gate == 1 { "1- 1\n-1" } else { "11" }
-                )
-            })
-            .collect();
-        format!(".model m\n.inputs s\n.outputs {outputs}\n{first}{rest}.end\n")
-    };
     let scratch = with(&[
         ("wide.blif", &wide),
-        ("long.blif", &chain(2_000)),
-        ("half.blif", &chain(700)),
-        ("ports.blif", &chain(40)),
+        ("long.blif", &row(2_000)),
+        ("half.blif", &row(700)),
     ]);
-    let nets = list("i", 13).trim_end().replace(' ', ", ");
     let errors = format!(
-        "wide.blif:4: the loop of y reads 13 nets from outside, and a block may have 12 inputs\n  it reads from outside {nets}\n\
-         wide.blif: 1 gate, 1 loop: 0 taken out, 1 refused\n"
+        "wide.blif:4: the loop of y reads 13 nets from outside, and a block may have 12 inputs\n  it reads from outside {}\n\
+         wide.blif: 1 gate, 1 loop: 0 taken out, 1 refused\n",
+        nets.join(", ")
     );
     told(run(&scratch, &["--design", "wide.blif"]), 1, "", &errors);
     let errors = "long.blif:4: the loop of g0, g1, g2, g3 and 1996 more is too large for a netlist: it has 2000 gates, and may have 1024\n  \
@@ -477,15 +462,55 @@ fn loops_that_are_too_large() {
     told(run(&scratch, &["--design", "long.blif"]), 1, "", errors);
     let ended = run(&scratch, &["--design", "half.blif"]);
     let errors = String::from_utf8_lossy(&ended.stderr);
-    assert!(
-        errors.contains("swollen: 1400 gates in the rendering, 376 more than 1024\n"),
-        "{errors}"
-    );
-    let ended = run(&scratch, &["--design", "ports.blif"]);
-    let straight = String::from_utf8_lossy(&ended.stdout).into_owned();
-    let (before, after) = (Circuit::of(&chain(40)), Circuit::of(&straight));
-    assert!(!after.has_loop());
+    let swollen = "swollen: 1400 gates in the rendering, 376 more than 1024\n";
+    assert!(errors.contains(swollen), "{errors}");
+}
+
+/// Forty ports are rendered sixteen at a time, and take no more gates than one rendering.
+#[test]
+fn ports_in_turns() {
+    let text = row(40);
+    let (straight, taken) = straightened(&text, "");
+    let (before, after) = (Circuit::of(&text), Circuit::of(&straight));
+    assert!(taken == 1 && !after.has_loop());
     assert_same(&mut Random::new(1), &before, &after, 8, true);
-    // Ports in turns share their gates: 40 ports take no more than one rendering.
     assert!(straight.matches(".names ").count() <= 81, "{straight}");
+}
+
+/// A ring of seats of which one begins, as a decoder of some pins says: undecided by itself, or with more nets than a block has, but not with
+/// the decoder; and with one that can say that nobody begins, refused.
+#[test]
+fn boundaries_that_are_moved_outwards() {
+    let ring = |pins: usize, first: usize| {
+        let seats = 1 << pins;
+        let names: Vec<String> = (0..pins).map(|pin| format!("p{pin}")).collect();
+        let mut text = format!(".model m\n.inputs {}\n.outputs t0\n", names.join(" "));
+        for seat in 0..seats {
+            let (row, before) = (format!("{seat:0pins$b}"), (seat + seats - 1) % seats);
+            let rows = if seat < first {
+                String::new()
+            } else {
+                format!("{row} 1\n")
+            };
+            text += &format!(".names {} b{seat}\n{rows}", names.join(" "));
+            text += &format!(
+                ".names b{seat} p{} t{before} t{seat}\n1-- 1\n-11 1\n",
+                seat % pins
+            );
+        }
+        text + ".end\n"
+    };
+    for (pins, copies) in [(2, 4), (3, 8), (4, 16)] {
+        let text = ring(pins, 0);
+        let (straight, taken) = straightened(&text, "");
+        let told = format!(", with copies of {copies} that it reads, became ");
+        assert!(taken == 1 && straight.contains(&told), "{straight}");
+        let (before, after) = (Circuit::of(&text), Circuit::of(&straight));
+        assert!(!after.has_loop());
+        assert_same(&mut Random::new(pins as u64), &before, &after, 64, true);
+        let decodes = |line: &&str| line.starts_with(".names p") && line.contains(" b");
+        let decoder: Vec<&str> = text.lines().filter(decodes).collect();
+        assert!(decoder.iter().all(|line| straight.contains(line)));
+    }
+    assert_eq!(straightened(&ring(2, 4), "").1, 0);
 }

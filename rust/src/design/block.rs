@@ -27,7 +27,7 @@ pub fn taken_out(
         Ok(turns) => return Ok(piece(whole, cut, number, turns, &[])),
         Err(refused) => refused,
     };
-    if may_be_wider(&refused) {
+    if may_be_wider(&refused, cut) {
         if let Some((cut, turns)) = rendered_wider(whole, cut) {
             return Ok(piece(whole, &cut, number, turns, &[]));
         }
@@ -48,9 +48,9 @@ pub fn taken_out(
 }
 
 /// Whether the reason may be gone with another boundary.
-fn may_be_wider(refused: &Refused) -> bool {
+fn may_be_wider(refused: &Refused, cut: &Cut) -> bool {
     match refused {
-        Refused::TooLarge(_) => true,
+        Refused::TooLarge(_) => cut.boundary.len() > INPUTS,
         Refused::Block { refusal, .. } => matches!(refusal, Refusal::NotSettled { .. }),
         Refused::NotAccepted => false,
     }
@@ -82,14 +82,7 @@ fn called(whole: &Whole, cut: &Cut) -> String {
     }
 }
 
-fn piece(
-    whole: &Whole,
-    cut: &Cut,
-    number: usize,
-    turns: Vec<Block>,
-    rests_on: &[Allowed],
-) -> Piece {
-    let promises: Vec<usize> = rests_on.iter().map(|allowed| allowed.promise).collect();
+fn piece(whole: &Whole, cut: &Cut, number: usize, turns: Vec<Block>, allowed: &[Allowed]) -> Piece {
     let mut gates = Gates::new(whole, cut, number);
     for (turn, ports) in turns.iter().zip(cut.ports.chunks(OUTPUTS)) {
         gates.put(turn, ports);
@@ -99,19 +92,19 @@ fn piece(
         copies => format!(", with copies of {copies} that it reads,"),
     };
     let told = format!(
-        "# unloop: {}: {} lines{copied} became {} gates\n",
+        "{}: {} lines{copied} became {} gates",
         called(whole, cut),
         cut.members.len(),
         gates.count
     );
-    let told = rests_on.iter().fold(told, |told, allowed| {
-        told + &format!("# unloop: rests on never {}\n", allowed.text)
-    });
+    let promises = allowed.iter();
+    let promised = promises.map(|promise| format!("rests on never {}", promise.text));
     Piece {
-        lines: told + &gates.lines,
+        told: std::iter::once(told).chain(promised).collect(),
+        lines: gates.lines,
         gates: gates.count,
-        never_comes: nothing_comes(cut.boundary.len(), rests_on),
-        promises,
+        never_comes: nothing_comes(cut.boundary.len(), allowed),
+        promises: allowed.iter().map(|allowed| allowed.promise).collect(),
     }
 }
 

@@ -53,7 +53,7 @@ impl<'a> Gates<'a> {
             match self.node(node, &nets) {
                 Node::Net(net) if net == name => {}
                 Node::Net(net) => self.lines += &format!(".names {net} {name}\n1 1\n"),
-                Node::Constant(value) => self.constant(name, value),
+                Node::Constant(value) => self.put_constant(name, value),
             }
         }
     }
@@ -90,13 +90,18 @@ impl<'a> Gates<'a> {
         });
         let free: Vec<&str> = free.collect();
         if rows.is_empty() || rows.len() == 1 << free.len() {
-            return self.constant(net, !rows.is_empty());
+            return self.put_constant(net, !rows.is_empty());
         }
         self.lines += &format!(".names {} {net}\n{}\n", free.join(" "), rows.join("\n"));
     }
 
-    fn constant(&mut self, net: &str, value: bool) {
-        self.lines += &format!(".names {net}\n{}", if value { "1\n" } else { "" });
+    /// A table that asks nothing of what it reads. Yosys takes no comment behind a table that reads nothing, and one may follow.
+    fn put_constant(&mut self, net: &str, value: bool) {
+        let value = u8::from(value);
+        self.lines += &match self.cut.boundary.first() {
+            Some(&read) => format!(".names {} {net}\n- {value}\n", self.whole.net(read)),
+            None => format!(".names {net}\n{value}\n"),
+        };
     }
 
     fn node(&self, operand: Operand, nets: &[String]) -> Node {

@@ -19,18 +19,33 @@ pub fn written(design: &Design, pieces: &[Option<Piece>]) -> String {
         whole.replace(&taken.collect::<Vec<_>>(), &mut replaced);
     }
     let owners = owners(design.text);
-    let mut written = String::with_capacity(design.text.len());
+    let is_windows = design.text.lines().next().map(str::len) != design.text.find('\n');
+    let ended = |new: String| match is_windows {
+        true => new.replace('\n', "\r\n"),
+        false => new,
+    };
+    let mut written = ended(head(design, pieces));
     for (line, number) in design.text.split_inclusive('\n').zip(1..) {
         match replaced.get(&owners[number]) {
             None => written += line,
-            Some(new) if owners[number] == number => match line.ends_with("\r\n") {
-                true => written += &new.replace('\n', "\r\n"),
-                false => written += new,
-            },
+            Some(new) if owners[number] == number => written += &ended(new.clone()),
             Some(_) => {}
         }
     }
     written
+}
+
+/// Comments on what is new, which stand before all else: not every tool takes a comment between any two lines.
+fn head(design: &Design, pieces: &[Option<Piece>]) -> String {
+    let mut lines = String::new();
+    for (piece, number) in pieces.iter().zip(1..) {
+        let told = piece.iter().flat_map(|piece| &piece.told);
+        told.for_each(|told| lines += &format!("# unloop {number}: {told}\n"));
+    }
+    for instance in design.placed() {
+        lines += &format!("# unloop: {instance} is put in place\n");
+    }
+    lines
 }
 
 impl Whole {
@@ -76,7 +91,6 @@ impl Whole {
         }
         for part in (1..self.placements.len()).filter(|&part| self.is_merged[part]) {
             let lines = replaced.entry(self.own_line(part)).or_default();
-            *lines += &format!("# unloop: {} is put in place\n", self.instance_name(part));
             drivers[part]
                 .iter()
                 .for_each(|&listed| *lines += &self.driver_line(listed));

@@ -49,19 +49,19 @@ pub struct Design {
     pub loops: Vec<Planted>,
     /// What holds of its nets, for the arbiters.
     pub promises: Vec<String>,
-    /// The settings of inputs that this rests on always come.
+    /// How many of the nets are inputs.
     inputs: usize,
-    latches: Vec<String>,
     next: usize,
 }
 
 /// A design of about so many gates with these loops in it.
 pub fn design(random: &mut Random, gates: usize, loops: &[Planted]) -> Design {
-    let mut design = Design::default();
-    design.inputs = 16 + gates / 500;
-    design.nets = (0..design.inputs)
-        .map(|input| format!("in[{input}]"))
-        .collect();
+    let inputs = 16 + gates / 500;
+    let mut design = Design {
+        nets: (0..inputs).map(|input| format!("in[{input}]")).collect(),
+        inputs,
+        ..Design::default()
+    };
     let each = gates / (loops.len() + 1);
     for shape in loops {
         design.plain(random, each);
@@ -156,9 +156,6 @@ impl Design {
                 25..=31 => format!(".names {a} {b} {net}\n1- 1\n-1 1"),
                 _ => format!(".names {a} {b} {net}\n11 1"),
             };
-            if line.starts_with(".latch") {
-                self.latches.push(net.clone());
-            }
             self.put(line, false);
             self.nets.push(net);
         }
@@ -190,44 +187,29 @@ impl Design {
         let [fi, fo, gi, go] =
             ["fi", "fo", "gi", "go"].map(|stem| [self.fresh(stem), self.fresh(stem)]);
         for bit in 0..2 {
-            self.put(
-                format!(
-                    ".names {sel} {} {} {}\n11- 1\n0-1 1",
-                    go[bit], x[bit], fi[bit]
-                ),
-                true,
-            );
-            self.put(
-                format!(
-                    ".names {sel} {} {} {}\n11- 1\n0-1 1",
-                    x[bit], fo[bit], gi[bit]
-                ),
-                true,
-            );
+            self.mux([&sel, &go[bit], &x[bit], &fi[bit]], true);
+            self.mux([&sel, &x[bit], &fo[bit], &gi[bit]], true);
         }
         let k = self.read(random);
         let other = if is_mixed { &fi[0] } else { &k };
-        self.put(
+        let lines = [
             format!(".names {} {} {}\n01 1\n10 1", fi[0], fi[1], fo[0]),
-            true,
-        );
-        self.put(
             format!(".gate nand2 a={} b={other} O={}", fi[1], fo[1]),
-            true,
-        );
-        self.put(
             format!(".names {} {} {k} {}\n1-1 1\n-10 1", gi[0], gi[1], go[0]),
-            true,
-        );
-        self.put(format!(".names {} {}\n0 1", gi[1], go[1]), true);
+            format!(".names {} {}\n0 1", gi[1], go[1]),
+        ];
+        lines.into_iter().for_each(|line| self.put(line, true));
         for bit in 0..2 {
             let net = self.fresh("n");
-            self.put(
-                format!(".names {sel} {} {} {net}\n11- 1\n0-1 1", fo[bit], go[bit]),
-                false,
-            );
+            self.mux([&sel, &fo[bit], &go[bit], &net], false);
             self.nets.push(net);
         }
+    }
+
+    /// The second net where the first is 1, and else the third, is the last.
+    fn mux(&mut self, nets: [&String; 4], in_loop: bool) {
+        let nets = nets.map(|net| &net[..]).join(" ");
+        self.put(format!(".names {nets}\n11- 1\n0-1 1"), in_loop);
     }
 
     /// Four seats; the start is decoded from two nets, so exactly one seat starts.

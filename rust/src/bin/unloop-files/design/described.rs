@@ -55,7 +55,6 @@ impl Finding<'_> {
                     ("rendering_gates", Json::Number(piece.gates)),
                     ("rests_on", Json::texts(promises)),
                 ])
-                .into()
             }
             Err(Refused::TooLarge(reason)) => vec![
                 ("word".to_string(), Json::text("too large")),
