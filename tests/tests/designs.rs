@@ -331,7 +331,7 @@ fn loops_through_instances() {
             .map(|net| (net, random.pick(&[0, 1])))
             .into();
         let (old, new) = (before.settled(&values), after.settled(&values));
-        for net in ["f", "g", "ng", "y", "z"] {
+        for net in ["f", "g", "y", "z"] {
             assert_eq!(
                 old[before.named()[net]],
                 new[after.named()[net]],
