@@ -58,7 +58,7 @@ look_at() {
       -h | --help) exec cat "$usage" ;;
       -V | --version) exec sed -n 's/^version = "\(.*\)"/unloop \1/p' "$root/rust/Cargo.toml" ;;
       --sheet | --run-cells) [[ $value == all ]] || readable+=("$value") ;;
-      --check | --check-cells) readable+=("$value") ;;
+      --check | --check-cells | --never) readable+=("$value") ;;
       --audit) given=entries ;;
       --store)
         [[ -d $value ]] || fail "$value: No such file or directory"

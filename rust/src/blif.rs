@@ -1,7 +1,7 @@
 //! A block as a BLIF model: a gate is a `.names` table of the rows where it is 1, or of those where it is 0 if they are fewer.
 
 use crate::export::{Nets, CONSTANTS};
-use crate::{Assignment, Block, Gate, Labels, Operand};
+use crate::{Assignment, Block, Gate, Kind, Labels, Operand};
 
 /// The model of a block, straight or looped.
 ///
@@ -34,7 +34,7 @@ pub fn blif(block: &Block, labels: impl Into<Labels>) -> String {
         let operands = gate.operands.iter();
         let operands: Vec<String> = operands.map(|&node| nets.net(node, constants)).collect();
         lines.push(format!(".names {} {net}", operands.join(" ")));
-        lines.extend(rows(gate));
+        lines.extend(rows(gate.kind, &vec![None; gate.operands.len()]));
     }
     for (port, &node) in nets.ports.iter().zip(&block.outputs_show()) {
         if !nets.is_gate(port) {
@@ -69,21 +69,28 @@ pub fn care_model(block: &Block) -> Option<String> {
     (!nevers.is_empty()).then(|| format!("{head}{rows}.end\n"))
 }
 
-/// The rows of a gate's table.
-fn rows(gate: &Gate) -> Vec<String> {
-    let count = gate.operands.len();
-    let bits = |row: usize| (0..count).map(move |operand| row >> (count - 1 - operand) & 1 == 1);
-    let shown: Vec<bool> = (0..1 << count)
-        .map(|row| gate.kind.of_bits(bits(row)))
+/// The rows of the table of a gate whose operands are these constants, or free: a character for each free one.
+pub(crate) fn rows(kind: Kind, operands: &[Option<bool>]) -> Vec<String> {
+    let free = operands.iter().filter(|operand| operand.is_none()).count();
+    let digits = |row: usize| (0..free).map(move |place| row >> (free - 1 - place) & 1 == 1);
+    let bits = |row: usize| {
+        let mut digits = digits(row);
+        let bit = |operand: &Option<bool>| operand.or_else(|| digits.next()).unwrap_or(false);
+        operands.iter().map(bit).collect::<Vec<bool>>()
+    };
+    let shown: Vec<bool> = (0..1 << free)
+        .map(|row| kind.of_bits(bits(row).into_iter()))
         .collect();
     let ones = shown.iter().filter(|&&value| value).count();
-    let told = 2 * ones <= shown.len();
+    // A table without rows shows 0 everywhere.
+    let told = 2 * ones <= shown.len() || ones == shown.len();
     let digits = |row: usize| {
-        bits(row)
+        digits(row)
             .map(|bit| if bit { '1' } else { '0' })
             .collect::<String>()
     };
     let rows = (0..shown.len()).filter(|&row| shown[row] == told);
-    rows.map(|row| format!("{} {}", digits(row), u8::from(told)))
+    let row = |row: usize| format!("{} {}", digits(row), u8::from(told));
+    rows.map(|place| row(place).trim_start().to_string())
         .collect()
 }

@@ -35,6 +35,7 @@ mod circle;
 mod conversions;
 mod copies;
 pub mod declarations;
+pub mod design;
 pub mod drawing;
 mod export;
 mod fit;

@@ -511,7 +511,7 @@ fn names_that_do_not_fit() {
         ),
         (
             &["--blif", "--model", "m", "a.net"],
-            "--model NAME needs --from-blif (see --help)",
+            "--model NAME needs --from-blif or --design (see --help)",
         ),
     ] {
         told(run(&scratch, words), 2, "", &format!("unloop: {error}\n"));

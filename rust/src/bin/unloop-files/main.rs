@@ -9,6 +9,7 @@ mod check;
 mod check_cells;
 mod cover;
 mod described;
+mod design;
 mod export;
 mod fit;
 mod folder;
@@ -52,7 +53,12 @@ fn main() -> ExitCode {
             output,
             reads,
         } = asked;
-        output.map_or(Ok(()), |path| output::open(path, &reads))?;
+        // Of a design nothing is written before all of it is done.
+        let open = match request {
+            Request::Design(_) => output::open_later,
+            _ => output::open,
+        };
+        output.map_or(Ok(()), |path| open(path, &reads))?;
         Ok(request)
     });
     match asked {
@@ -82,6 +88,7 @@ fn answered(request: Request, program: Program) -> ExitCode {
         Request::Export(export) => export::run(export),
         Request::Reduce(asked) => reduce::run(asked),
         Request::FromBlif(asked) => from_blif::run(asked),
+        Request::Design(asked) => design::run(asked),
         Request::Page(target, files) => page::run(&target, files),
         Request::AuditedPage(target, audited) => page::run_audited(&target, &audited),
     };

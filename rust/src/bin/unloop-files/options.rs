@@ -51,6 +51,7 @@ pub enum Request {
     Export(Export),
     Reduce(Reduce),
     FromBlif(FromBlif),
+    Design(Design),
     Page(Target, Vec<PathBuf>),
     AuditedPage(Target, Audited),
 }
@@ -103,6 +104,18 @@ pub struct FromBlif {
     pub names: Option<PathBuf>,
 }
 
+/// A model whose loops are taken out.
+#[derive(Debug)]
+pub struct Design {
+    pub file: Option<PathBuf>,
+    pub model: Option<String>,
+    /// The promises about its nets.
+    pub never: Option<PathBuf>,
+    /// Loops that can't be taken out stay, and the rest is written.
+    pub partial: bool,
+    pub json: bool,
+}
+
 /// A folder that is written to.
 #[derive(Debug, PartialEq)]
 pub struct Target {
@@ -134,6 +147,7 @@ enum Task {
     Export(Form),
     Reduce(Reduced),
     FromBlif,
+    Design,
     Page(PathBuf),
 }
 
@@ -155,6 +169,7 @@ impl Task {
             Task::Reduce(Reduced::Cells) => "--fit",
             Task::Reduce(Reduced::Netlist) => "--shrink",
             Task::FromBlif => "--from-blif",
+            Task::Design => "--design",
             Task::Page(_) => "--page DIR",
         }
     }
@@ -171,6 +186,8 @@ struct Given {
     original: bool,
     names: Option<PathBuf>,
     model: Option<PathBuf>,
+    never: Option<PathBuf>,
+    partial: bool,
     recursive: bool,
     quiet: bool,
     /// Asked for instead of all else.
@@ -210,6 +227,7 @@ fn reads(given: &Given) -> Result<Vec<PathBuf>, String> {
     let names = given.names.as_ref().filter(|_| reads_names);
     let (input, files): (Vec<_>, Vec<_>) = lists
         .chain(names)
+        .chain(&given.never)
         .chain(&given.files)
         .cloned()
         .partition(|path| is_input(path));
@@ -337,6 +355,8 @@ impl Given {
             "--original" => self.original = true,
             "--names" => self.names = Some(operand),
             "--model" => self.model = Some(operand),
+            "--never" => self.never = Some(operand),
+            "--partial" => self.partial = true,
             "--recursive" => self.recursive = true,
             "--quiet" => self.quiet = true,
             _ => self.tasks.push(match name {
@@ -355,6 +375,7 @@ impl Given {
                 "--fit" => Task::Reduce(Reduced::Cells),
                 "--shrink" => Task::Reduce(Reduced::Netlist),
                 "--from-blif" => Task::FromBlif,
+                "--design" => Task::Design,
                 _ => return None,
             }),
         }
@@ -380,6 +401,7 @@ fn request(mut given: Given) -> Result<Request, String> {
             | Task::CheckCells(_)
             | Task::Audit
             | Task::Reduce(_)
+            | Task::Design
     );
     let fits = (writes || !given.force) && (reports || !given.json);
     match task {
@@ -412,13 +434,20 @@ fn request(mut given: Given) -> Result<Request, String> {
     }
 }
 
-/// What `--names` and `--model` need to have a meaning.
+/// What the options about models need to have a meaning.
 fn named_models(task: &Task, given: &Given) -> Result<(), String> {
     let wrong = |what: &str| Err(what.to_string());
     let one = given.files.len() < 2;
     match task {
+        Task::Design => {}
+        _ if given.never.is_some() => return wrong("--never NEVERS needs --design"),
+        _ if given.partial => return wrong("--partial needs --design"),
+        _ => {}
+    }
+    match task {
         Task::FromBlif => Ok(()),
-        _ if given.model.is_some() => wrong("--model NAME needs --from-blif"),
+        Task::Design if given.names.is_none() => Ok(()),
+        _ if given.model.is_some() => wrong("--model NAME needs --from-blif or --design"),
         Task::Export(Form::Verilog | Form::Blif) if given.names.is_some() && !one => {
             wrong("--names NAMES goes with one FILE")
         }
@@ -529,6 +558,13 @@ fn made(task: Task, fits: bool, given: Given) -> Result<Request, String> {
             model: given.model.map(|name| name.to_string_lossy().into_owned()),
             names: given.names,
         }),
+        Task::Design if given.files.len() < 2 => Request::Design(Design {
+            file: given.files.into_iter().next(),
+            model: given.model.map(|name| name.to_string_lossy().into_owned()),
+            never: given.never,
+            partial: given.partial,
+            json,
+        }),
         Task::Page(folder) => Request::Page(target(folder), named(given.files, "--page")?),
         task => return of_one_file(task, fits, given.files, json),
     })
@@ -556,7 +592,7 @@ fn of_one_file(task: Task, fits: bool, files: Vec<PathBuf>, json: bool) -> Resul
             Some([ours]) if fits => Request::CheckCells { table, ours, json },
             _ => return wrong("--check-cells TABLE needs one FILE and no other option"),
         },
-        _ => return wrong("--from-blif takes one FILE"),
+        task => return Err(format!("{} takes one FILE", task.option())),
     })
 }
 
