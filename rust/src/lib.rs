@@ -45,6 +45,7 @@ mod pins;
 pub mod raw;
 mod refusal;
 mod results;
+pub mod second_look;
 mod sheet;
 mod value;
 mod verilog;

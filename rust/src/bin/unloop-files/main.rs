@@ -10,6 +10,7 @@ mod described;
 mod export;
 mod folder;
 mod from_blif;
+mod looked;
 mod options;
 mod output;
 mod page;

@@ -4,9 +4,10 @@ use crate::audit::{becomes_refusal, promised_lines, refused_now, refused_with, w
 use crate::catalogue::{beside, read, Entry, Found, CELLS, COVER, ORIGINAL, OUT};
 use crate::export::made_from;
 use crate::folder::replace;
+use crate::looked::looked_at;
 use crate::parallel::in_order;
 use crate::program::Program;
-use crate::report::{refusal_in, ENTRIES_TOLD};
+use crate::report::ENTRIES_TOLD;
 use crate::screen::Screen;
 use crate::source::shown;
 use crate::{put, tally, Stopped};
@@ -15,6 +16,7 @@ use std::ops::ControlFlow;
 use std::path::{Path, PathBuf};
 use std::process::ExitCode;
 use unloop::audit::{audit, cover_text, entry_lines, Audit, Cover, Never, Rendering};
+use unloop::second_look::{Form, Language};
 use unloop::{cell_table, module_name, Block, Labels, Refusal};
 
 /// What is to be stored.
@@ -167,8 +169,8 @@ fn plan(program: &Program, base: &Path) -> Result<Plan, String> {
     let mut answer = None;
     if found.rendering != Rendering::Holds || becomes_refusal(&found, &entry, &block).is_some() {
         let named = |why| format!("{}: {why}", shown(&path(ORIGINAL)));
-        let output = program.run(original).map_err(named)?;
-        answer = Some(refusal_in(&output).map_err(named)?);
+        let (output, refusal) = program.answer(original).map_err(named)?;
+        answer = Some(refusal);
         files.push((path(OUT), Some(output)));
     }
     let covered = found.never == Never::Holds && found.cover == Cover::Holds;
@@ -179,7 +181,7 @@ fn plan(program: &Program, base: &Path) -> Result<Plan, String> {
     }
     let mut changes = changes(&found, &entry, &block, answer);
     let mut weaker = weaker(&found, &entry, &block);
-    if let Some((told, cells)) = cells(base, &entry, &block) {
+    if let Some((told, cells)) = cells(base, &entry, &block)? {
         let gone = "what is refused has no cells".to_string();
         weaker.extend(cells.is_none().then_some(gone));
         changes.push(told);
@@ -198,8 +200,10 @@ fn cells(
     base: &Path,
     entry: &Entry,
     block: &Result<Block, Refusal>,
-) -> Option<(String, Option<Vec<u8>>)> {
-    let stored = entry.cells.as_ref()?;
+) -> Result<Option<(String, Option<Vec<u8>>)>, String> {
+    let (Some(stored), Some(original)) = (&entry.cells, &entry.original) else {
+        return Ok(None);
+    };
     let stem = base.file_name().unwrap_or_default().to_string_lossy();
     let rendering = block.as_ref().ok().and_then(|block| block.render().ok());
     let labels = Labels {
@@ -207,11 +211,15 @@ fn cells(
         ..Labels::from(&module_name(&stem))
     };
     let table = rendering.and_then(|block| cell_table(&block, labels).ok());
-    match table.map(String::into_bytes) {
+    Ok(match table.map(String::into_bytes) {
         None => Some(("cells are gone".to_string(), None)),
         Some(today) if cells_hold(stored, &today) => None,
-        today => Some(("cells anew".to_string(), today)),
-    }
+        Some(today) => {
+            let looked = looked_at(original, &today, Form::rendering(Language::Cells));
+            looked.map_err(|why| format!("{}: {why}", shown(&beside(base, CELLS))))?;
+            Some(("cells anew".to_string(), Some(today)))
+        }
+    })
 }
 
 /// Whether a stored table holds, beside today's. It does where it is the same text; what CompareCells says of another one belongs here.

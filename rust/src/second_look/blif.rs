@@ -1,0 +1,121 @@
+//! A reader of BLIF models as they are written here: one model of `.names` tables, each of whose rows fixes all of its at most four inputs.
+
+use super::circuit::{Circuit, Draft, Function, Operand};
+
+/// The circuit of a model; `loops`: whether a table may read its own net or one that is driven below it.
+pub fn read(text: &str, loops: bool) -> Result<Circuit, String> {
+    let mut model = Model {
+        draft: Draft::new(),
+        outputs: None,
+        begun: false,
+        ended: false,
+        table: None,
+    };
+    for (line, number) in text.lines().zip(1..) {
+        let code = line.split('#').next().unwrap_or_default();
+        let words: Vec<&str> = code.split_whitespace().collect();
+        let taken = words.is_empty() || model.line(&words).is_some();
+        if !taken {
+            return Err(format!(
+                "line {number} is no line of such a model, or out of its place"
+            ));
+        }
+    }
+    let (outputs, true) = (model.outputs.unwrap_or_default(), model.ended) else {
+        return Err("the model has no end".to_string());
+    };
+    let mut draft = model.draft;
+    draft.ports = outputs
+        .into_iter()
+        .map(|net| (net.to_string(), net))
+        .collect();
+    draft.circuit(loops)
+}
+
+/// A table whose rows are being read.
+struct Table<'a> {
+    net: &'a str,
+    inputs: Vec<&'a str>,
+    rows: u16,
+    /// What the rows told so far say: that they are 1, or 0.
+    told: Option<bool>,
+}
+
+struct Model<'a> {
+    draft: Draft<&'a str>,
+    outputs: Option<Vec<&'a str>>,
+    begun: bool,
+    ended: bool,
+    table: Option<Table<'a>>,
+}
+
+impl<'a> Model<'a> {
+    /// Takes the words of a line, if they may stand there.
+    fn line(&mut self, words: &[&'a str]) -> Option<()> {
+        if !words[0].starts_with('.') {
+            return self.table.as_mut()?.row(words);
+        }
+        let table = self.table.take();
+        self.draft.gates.extend(table.map(Table::gate));
+        let body = self.begun && !self.ended;
+        match words {
+            [".model", _] if !self.begun => self.begun = true,
+            [".inputs", pins @ ..] if body && self.draft.pins.is_empty() => {
+                let pins = pins.iter().map(|&pin| (pin.to_string(), pin));
+                self.draft.pins.extend(pins);
+            }
+            [".outputs", ports @ ..] if body && self.outputs.is_none() => {
+                self.outputs = Some(ports.to_vec());
+            }
+            [".names", inputs @ .., net] if body && inputs.len() <= 4 => {
+                let (inputs, rows) = (inputs.to_vec(), 0);
+                self.table = Some(Table {
+                    net,
+                    inputs,
+                    rows,
+                    told: None,
+                });
+            }
+            [".end"] if body => self.ended = true,
+            _ => return None,
+        }
+        Some(())
+    }
+}
+
+impl<'a> Table<'a> {
+    /// Takes a row: a digit for each input, and the value, which is the same in all rows.
+    fn row(&mut self, words: &[&str]) -> Option<()> {
+        let (digits, value) = match words {
+            [value] => ("", value),
+            [digits, value] => (*digits, value),
+            _ => return None,
+        };
+        let value = match *value {
+            "0" => false,
+            "1" => true,
+            _ => return None,
+        };
+        let fits = digits.len() == self.inputs.len() && *self.told.get_or_insert(value) == value;
+        let mut row = 0;
+        for (input, digit) in digits.bytes().enumerate() {
+            match digit {
+                b'0' => {}
+                b'1' => row |= 1 << input,
+                _ => return None,
+            }
+        }
+        self.rows |= 1 << row;
+        fits.then_some(())
+    }
+
+    /// Where no row is met, the value is the other one; a table without rows is 0.
+    fn gate(self) -> (Option<&'a str>, Function, Vec<Operand<&'a str>>) {
+        let table = match self.told.unwrap_or(true) {
+            true => self.rows,
+            false => !self.rows,
+        };
+        let reads = self.inputs.into_iter().map(Operand::Net).collect();
+        (Some(self.net), Function::Table(table), reads)
+    }
+}
