@@ -8,6 +8,7 @@ mod circuit;
 mod difference;
 mod interface;
 mod netlist;
+mod nets;
 mod simulation;
 mod verilog;
 
@@ -58,18 +59,20 @@ impl Form<'_> {
 /// assert_eq!(wrong.to_string(), "with s = 0 it shows y = 1, and the original simulated again shows y = 0");
 /// ```
 pub fn agrees(original: &[u8], written: &[u8], form: Form) -> Result<(), Difference> {
-    let ours = netlist::read(original, true).map_err(Difference::Original)?;
+    let ours = text(original).and_then(|original| netlist::read(original, true));
+    let ours = ours.map_err(Difference::Original)?;
     let theirs = read(written, form).map_err(Difference::Unreadable)?;
     interface::same(&ours, &theirs, form)?;
     simulation::same(&ours, &theirs)
 }
 
 fn read(written: &[u8], form: Form) -> Result<Circuit, String> {
+    let written = text(written)?;
     match form.language {
         Language::Netlist => netlist::read(written, form.loops),
-        Language::Verilog => verilog::read(text(written)?, form.loops),
-        Language::Blif => blif::read(text(written)?, form.loops),
-        Language::Cells => cells::read(text(written)?),
+        Language::Verilog => verilog::read(written, form.loops),
+        Language::Blif => blif::read(written, form.loops),
+        Language::Cells => cells::read(written),
     }
 }
 

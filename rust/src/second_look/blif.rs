@@ -1,19 +1,22 @@
 //! A reader of BLIF models as they are written here: one model of `.names` tables, each of whose rows fixes all of its at most four inputs.
 
-use super::circuit::{Circuit, Draft, Function, Operand};
+use super::circuit::{Circuit, Draft, Driver, Function, Operand, Reads};
+use super::nets::Net;
 
 /// The circuit of a model; `loops`: whether a table may read its own net or one that is driven below it.
 pub fn read(text: &str, loops: bool) -> Result<Circuit, String> {
     let mut model = Model {
-        draft: Draft::new(),
+        draft: Draft::of(text),
         outputs: None,
         begun: false,
         ended: false,
         table: None,
     };
+    let mut words: Vec<&str> = Vec::new();
     for (line, number) in text.lines().zip(1..) {
         let code = line.split('#').next().unwrap_or_default();
-        let words: Vec<&str> = code.split_whitespace().collect();
+        words.clear();
+        words.extend(code.split_ascii_whitespace());
         let taken = words.is_empty() || model.line(&words).is_some();
         if !taken {
             return Err(format!(
@@ -25,28 +28,26 @@ pub fn read(text: &str, loops: bool) -> Result<Circuit, String> {
         return Err("the model has no end".to_string());
     };
     let mut draft = model.draft;
-    draft.ports = outputs
-        .into_iter()
-        .map(|net| (net.to_string(), net))
-        .collect();
+    let named = |net: Net| (draft.nets.name(net).to_string(), net);
+    draft.ports = outputs.into_iter().map(named).collect();
     draft.circuit(loops)
 }
 
 /// A table whose rows are being read.
-struct Table<'a> {
-    net: &'a str,
-    inputs: Vec<&'a str>,
+struct Table {
+    net: Net,
+    inputs: Reads<Operand>,
     rows: u16,
     /// What the rows told so far say: that they are 1, or 0.
     told: Option<bool>,
 }
 
 struct Model<'a> {
-    draft: Draft<&'a str>,
-    outputs: Option<Vec<&'a str>>,
+    draft: Draft<'a>,
+    outputs: Option<Vec<Net>>,
     begun: bool,
     ended: bool,
-    table: Option<Table<'a>>,
+    table: Option<Table>,
 }
 
 impl<'a> Model<'a> {
@@ -56,23 +57,27 @@ impl<'a> Model<'a> {
             return self.table.as_mut()?.row(words);
         }
         let table = self.table.take();
-        self.draft.gates.extend(table.map(Table::gate));
+        self.draft.gates.extend(table.map(Table::driver));
         let body = self.begun && !self.ended;
         match words {
             [".model", _] if !self.begun => self.begun = true,
             [".inputs", pins @ ..] if body && self.draft.pins.is_empty() => {
-                let pins = pins.iter().map(|&pin| (pin.to_string(), pin));
-                self.draft.pins.extend(pins);
+                let pins = pins.iter().map(|pin| self.draft.nets.of(pin));
+                self.draft.pins = pins.collect();
             }
             [".outputs", ports @ ..] if body && self.outputs.is_none() => {
-                self.outputs = Some(ports.to_vec());
+                let ports = ports.iter().map(|port| self.draft.nets.of(port));
+                self.outputs = Some(ports.collect());
             }
-            [".names", inputs @ .., net] if body && inputs.len() <= 4 => {
-                let (inputs, rows) = (inputs.to_vec(), 0);
+            [".names", names @ .., net] if body => {
+                let mut inputs = Reads::none();
+                for name in names {
+                    inputs.push(Operand::Net(self.draft.nets.of(name)))?;
+                }
                 self.table = Some(Table {
-                    net,
+                    net: self.draft.nets.of(net),
                     inputs,
-                    rows,
+                    rows: 0,
                     told: None,
                 });
             }
@@ -83,7 +88,7 @@ impl<'a> Model<'a> {
     }
 }
 
-impl<'a> Table<'a> {
+impl Table {
     /// Takes a row: a digit for each input, and the value, which is the same in all rows.
     fn row(&mut self, words: &[&str]) -> Option<()> {
         let (digits, value) = match words {
@@ -96,7 +101,8 @@ impl<'a> Table<'a> {
             "1" => true,
             _ => return None,
         };
-        let fits = digits.len() == self.inputs.len() && *self.told.get_or_insert(value) == value;
+        let fits =
+            digits.len() == self.inputs.all().len() && *self.told.get_or_insert(value) == value;
         let mut row = 0;
         for (input, digit) in digits.bytes().enumerate() {
             match digit {
@@ -110,12 +116,15 @@ impl<'a> Table<'a> {
     }
 
     /// Where no row is met, the value is the other one; a table without rows is 0.
-    fn gate(self) -> (Option<&'a str>, Function, Vec<Operand<&'a str>>) {
+    fn driver(self) -> Driver {
         let table = match self.told.unwrap_or(true) {
             true => self.rows,
             false => !self.rows,
         };
-        let reads = self.inputs.into_iter().map(Operand::Net).collect();
-        (Some(self.net), Function::Table(table), reads)
+        Driver {
+            net: Some(self.net),
+            function: Function::Table(table),
+            reads: self.inputs,
+        }
     }
 }

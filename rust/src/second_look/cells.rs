@@ -1,6 +1,6 @@
 //! A reader of tables of lookup cells: five decimal words a cell, each cell on a line of its own, and the comments that tell pins and ports.
 
-use super::circuit::{Circuit, Function, Gate, Node, PINS};
+use super::circuit::{Circuit, Function, Gate, Node, Reads, PINS};
 
 /// The operand words of the constants.
 const CONSTANTS: [usize; 2] = [65_534, 65_535];
@@ -8,8 +8,10 @@ const CONSTANTS: [usize; 2] = [65_534, 65_535];
 /// The circuit of a table; a cell reads pins, constants and cells before it.
 pub fn read(text: &str) -> Result<Circuit, String> {
     let mut table = Table::default();
+    let mut words: Vec<&str> = Vec::new();
     for (line, number) in text.lines().zip(1..) {
-        let words: Vec<&str> = line.split_whitespace().collect();
+        words.clear();
+        words.extend(line.split_ascii_whitespace());
         let taken = match words.first() {
             Some(&"#") => table.comment(&words[1..]),
             _ => table.cell(&words),
@@ -69,17 +71,22 @@ impl Table {
         }
     }
 
-    /// Takes a cell: four operands and the truth word.
+    /// Takes a cell: four operands and the truth word. Of the last operands that are the constant 0 only rows with a 0 are met.
     fn cell(&mut self, words: &[&str]) -> Option<()> {
-        let numbers: Vec<u16> = words.iter().map_while(|word| word.parse().ok()).collect();
-        let ([operands @ .., table], 5, 5) = (&numbers[..], words.len(), numbers.len()) else {
+        let [operands @ .., table] = words else {
             return None;
         };
-        let reads = operands.iter().map(|&operand| self.node(operand.into()));
-        let reads: Vec<Node> = reads.collect::<Option<_>>()?;
-        let function = Function::Table(*table);
+        let mut reads = Reads::none();
+        for operand in operands {
+            reads.push(self.node(operand.parse().ok()?)?)?;
+        }
+        (reads.all().len() == 4 && self.outputs.is_none()).then_some(())?;
+        while reads.all().last() == Some(&0) {
+            reads.drop_last();
+        }
+        let function = Function::Table(table.parse().ok()?);
         self.gates.push(Gate { function, reads });
-        self.outputs.is_none().then_some(())
+        Some(())
     }
 
     /// The node of a number: a pin's, a constant's, or that of a cell which stands above, behind the pins.

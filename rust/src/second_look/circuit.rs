@@ -1,13 +1,14 @@
-//! A circuit as a reader finds it: pins, never lines, gates and ports; and how names in a text become nodes.
+//! A circuit as a reader finds it: pins, never lines, gates and ports; and how the nets of a text become nodes.
 
-use std::collections::HashMap;
-use std::hash::Hash;
+use super::nets::{Net, Nets};
 
 /// The constants 0 and 1 are nodes 0 and 1, then come the pins, then the gates, each in order.
 pub type Node = usize;
 
 /// The node of the first pin.
 pub const PINS: Node = 2;
+
+const MOST_READS: usize = 4;
 
 /// What a gate computes of what it reads.
 #[derive(Debug, Clone, Copy, PartialEq, Eq)]
@@ -33,14 +34,45 @@ impl Function {
             "xnor" => Function::Xor(true),
             _ => return None,
         };
-        (2..=4).contains(&operands).then_some(function)
+        (2..=MOST_READS).contains(&operands).then_some(function)
+    }
+}
+
+/// What a gate reads, in order: at most four.
+#[derive(Debug, Clone, Copy)]
+pub struct Reads<T> {
+    list: [T; MOST_READS],
+    count: usize,
+}
+
+impl<T: Copy + Default> Reads<T> {
+    pub fn none() -> Reads<T> {
+        Reads {
+            list: [T::default(); MOST_READS],
+            count: 0,
+        }
+    }
+
+    /// None where there are four already.
+    pub fn push(&mut self, read: T) -> Option<()> {
+        *self.list.get_mut(self.count)? = read;
+        self.count += 1;
+        Some(())
+    }
+
+    pub fn drop_last(&mut self) {
+        self.count -= 1;
+    }
+
+    pub fn all(&self) -> &[T] {
+        &self.list[..self.count]
     }
 }
 
 #[derive(Debug)]
 pub struct Gate {
     pub function: Function,
-    pub reads: Vec<Node>,
+    pub reads: Reads<Node>,
 }
 
 /// Pins that are never at these values together: by masks, pin i has weight 2^i.
@@ -59,26 +91,42 @@ pub struct Circuit {
 }
 
 /// What a gate reads, as a text says it.
-pub enum Operand<K> {
+#[derive(Debug, Clone, Copy)]
+pub enum Operand {
     Constant(bool),
     /// The gate of this number.
     Gate(usize),
-    Net(K),
+    Net(Net),
 }
 
-/// A circuit whose nets still have names of some kind. A net is a pin's, or the one that a gate drives.
-pub struct Draft<K> {
-    pub pins: Vec<(String, K)>,
+impl Default for Operand {
+    fn default() -> Operand {
+        Operand::Constant(false)
+    }
+}
+
+/// A gate, and the net that it drives, if it has a name.
+pub struct Driver {
+    pub net: Option<Net>,
+    pub function: Function,
+    pub reads: Reads<Operand>,
+}
+
+/// A circuit whose gates read nets by name. A net is a pin's, or the one that a gate drives.
+pub struct Draft<'a> {
+    pub nets: Nets<'a>,
+    pub pins: Vec<Net>,
     pub nevers: Vec<Never>,
-    /// The net that is driven, if it has a name, the function and what is read.
-    pub gates: Vec<(Option<K>, Function, Vec<Operand<K>>)>,
+    pub gates: Vec<Driver>,
     /// Each port, and the net that it shows.
-    pub ports: Vec<(String, K)>,
+    pub ports: Vec<(String, Net)>,
 }
 
-impl<K: Hash + Eq + std::fmt::Display> Draft<K> {
-    pub fn new() -> Draft<K> {
+impl<'a> Draft<'a> {
+    /// Nothing yet of this text.
+    pub fn of(text: &'a str) -> Draft<'a> {
         Draft {
+            nets: Nets::of_text(text.len()),
             pins: Vec::new(),
             nevers: Vec::new(),
             gates: Vec::new(),
@@ -89,53 +137,51 @@ impl<K: Hash + Eq + std::fmt::Display> Draft<K> {
     /// The circuit, if each net is driven once and, where there may be no loops, each gate reads only gates before it.
     pub fn circuit(self, loops: bool) -> Result<Circuit, String> {
         let nodes = self.nodes()?;
-        let node = |net: &K| {
-            nodes
-                .get(net)
-                .copied()
-                .ok_or(format!("nothing drives {net}"))
+        let node = |net: Net| {
+            let unknown = || format!("nothing drives {}", self.nets.name(net));
+            nodes[net].ok_or_else(unknown)
         };
         let first = PINS + self.pins.len();
         let mut gates = Vec::with_capacity(self.gates.len());
-        for (number, (_, function, operands)) in self.gates.iter().enumerate() {
-            let mut reads = Vec::with_capacity(operands.len());
-            for operand in operands {
-                reads.push(match operand {
-                    Operand::Constant(value) => usize::from(*value),
+        for (number, driver) in self.gates.iter().enumerate() {
+            let mut reads = Reads::none();
+            for &operand in driver.reads.all() {
+                let read = match operand {
+                    Operand::Constant(value) => usize::from(value),
                     Operand::Gate(gate) => first + gate,
                     Operand::Net(net) => node(net)?,
-                });
+                };
+                if !loops && read >= first + number {
+                    return Err(format!("gate {number} reads itself or a gate below it"));
+                }
+                reads.push(read).ok_or("a gate reads too much")?;
             }
-            if !loops && reads.iter().any(|&read| read >= first + number) {
-                return Err(format!("gate {number} reads itself or a gate below it"));
-            }
-            let function = *function;
+            let function = driver.function;
             gates.push(Gate { function, reads });
         }
-        let mut ports = Vec::with_capacity(self.ports.len());
-        for (port, net) in &self.ports {
-            ports.push((port.clone(), node(net)?));
-        }
-        drop(nodes);
-        let pins = self.pins.into_iter().map(|(pin, _)| pin).collect();
-        let nevers = self.nevers;
+        let ports = self.ports.iter();
+        let ports = ports.map(|(port, net)| Ok((port.clone(), node(*net)?)));
         Ok(Circuit {
-            pins,
-            nevers,
+            ports: ports.collect::<Result<_, String>>()?,
+            pins: self
+                .pins
+                .iter()
+                .map(|&pin| self.nets.name(pin).to_string())
+                .collect(),
+            nevers: self.nevers,
             gates,
-            ports,
         })
     }
 
-    /// The node of each net.
-    fn nodes(&self) -> Result<HashMap<&K, Node>, String> {
-        let pins = self.pins.iter().map(|(_, net)| Some(net));
-        let driven = self.gates.iter().map(|(net, _, _)| net.as_ref());
-        let mut nodes = HashMap::with_capacity(self.pins.len() + self.gates.len());
-        for (node, net) in (PINS..).zip(pins.chain(driven)) {
+    /// The node of each net that is driven.
+    fn nodes(&self) -> Result<Vec<Option<Node>>, String> {
+        let mut nodes = vec![None; self.nets.count()];
+        let driven = self.gates.iter().map(|driver| driver.net);
+        let driven = self.pins.iter().map(|&pin| Some(pin)).chain(driven);
+        for (node, net) in (PINS..).zip(driven) {
             let Some(net) = net else { continue };
-            if nodes.insert(net, node).is_some() {
-                return Err(format!("{net} is driven twice"));
+            if nodes[net].replace(node).is_some() {
+                return Err(format!("{} is driven twice", self.nets.name(net)));
             }
         }
         Ok(nodes)

@@ -1,28 +1,33 @@
 //! A reader of netlist texts, by the grammar of docs/SPECIFICATION.md 1.
 
-use super::circuit::{Circuit, Draft, Function, Never, Operand};
+use super::circuit::{Circuit, Draft, Driver, Function, Never, Operand, Reads};
+use super::nets::Net;
 
 const NAME_BYTES: usize = 8;
 const DEPTH: usize = 8;
 
 /// The circuit of a text; `loops`: whether a gate may read itself or a gate below it.
-pub fn read(text: &[u8], loops: bool) -> Result<Circuit, String> {
+pub fn read(text: &str, loops: bool) -> Result<Circuit, String> {
     let mut reader = Reader {
         text,
         at: 0,
-        draft: Draft::new(),
+        draft: Draft::of(text),
     };
     let mut part = 0;
     while reader.at < text.len() {
         let began = reader.at;
         let found = reader.line().filter(|&found| found >= part);
         part = found.ok_or_else(|| {
-            let line = text[..began].iter().filter(|&&byte| byte == b'\n').count() + 1;
+            let line = text.as_bytes()[..began]
+                .iter()
+                .filter(|&&byte| byte == b'\n')
+                .count()
+                + 1;
             format!("line {line} is no line of a netlist, or out of its place")
         })?;
     }
     let ports = &reader.draft.ports;
-    let twice = |(index, port): &(usize, &(String, &str))| {
+    let twice = |(index, port): &(usize, &(String, Net))| {
         ports[..*index].iter().any(|(name, _)| *name == port.0)
     };
     if let Some((_, (port, _))) = ports.iter().enumerate().find(twice) {
@@ -32,9 +37,9 @@ pub fn read(text: &[u8], loops: bool) -> Result<Circuit, String> {
 }
 
 struct Reader<'a> {
-    text: &'a [u8],
+    text: &'a str,
     at: usize,
-    draft: Draft<&'a str>,
+    draft: Draft<'a>,
 }
 
 impl<'a> Reader<'a> {
@@ -42,7 +47,8 @@ impl<'a> Reader<'a> {
     fn line(&mut self) -> Option<usize> {
         let part = if self.takes(b"(in ") {
             let pin = self.plain()?;
-            self.draft.pins.push((pin.to_string(), pin));
+            let pin = self.draft.nets.of(pin);
+            self.draft.pins.push(pin);
             0
         } else if self.takes(b"(never") {
             let never = self.never()?;
@@ -57,8 +63,9 @@ impl<'a> Reader<'a> {
             self.must(b"(out ")?;
             let port = self.plain()?.to_string();
             self.must(b" ")?;
-            let node = self.name()?;
-            self.draft.ports.push((port, node));
+            let shown = self.name()?;
+            let shown = self.draft.nets.of(shown);
+            self.draft.ports.push((port, shown));
             3
         };
         self.must(b")\n")?;
@@ -70,7 +77,8 @@ impl<'a> Reader<'a> {
         let mut never = Never { fixed: 0, ones: 0 };
         while self.takes(b" (") {
             let name = self.name()?;
-            let pin = self.draft.pins.iter().position(|(pin, _)| pin == name)?;
+            let net = self.draft.nets.of(name);
+            let pin = self.draft.pins.iter().position(|&pin| pin == net)?;
             let bit = 1_u32
                 .checked_shl(pin as u32)
                 .filter(|bit| never.fixed & bit == 0)?;
@@ -87,28 +95,36 @@ impl<'a> Reader<'a> {
     /// An expression behind its bracket: a gate, whose inner ones come before it.
     fn expression(&mut self, name: Option<&'a str>, depth: usize) -> Option<()> {
         let word = self.letters();
-        let mut operands = Vec::new();
+        let mut reads = Reads::none();
         while self.takes(b" ") {
-            operands.push(self.operand(depth)?);
+            reads.push(self.operand(depth)?)?;
         }
         self.must(b")")?;
-        let function = Function::of_word(word, operands.len())?;
-        self.draft.gates.push((name, function, operands));
+        let function = Function::of_word(word, reads.all().len())?;
+        let net = name.map(|name| self.draft.nets.of(name));
+        self.draft.gates.push(Driver {
+            net,
+            function,
+            reads,
+        });
         Some(())
     }
 
-    fn operand(&mut self, depth: usize) -> Option<Operand<&'a str>> {
+    fn operand(&mut self, depth: usize) -> Option<Operand> {
         if self.takes(b"(") {
             (depth < DEPTH).then_some(())?;
             self.expression(None, depth + 1)?;
             return Some(Operand::Gate(self.draft.gates.len() - 1));
         }
-        match self.text.get(self.at)? {
+        match self.text.as_bytes().get(self.at)? {
             b'0' | b'1' => {
                 self.at += 1;
-                Some(Operand::Constant(self.text[self.at - 1] == b'1'))
+                Some(Operand::Constant(self.text.as_bytes()[self.at - 1] == b'1'))
             }
-            _ => Some(Operand::Net(self.name()?)),
+            _ => {
+                let name = self.name()?;
+                Some(Operand::Net(self.draft.nets.of(name)))
+            }
         }
     }
 
@@ -125,16 +141,16 @@ impl<'a> Reader<'a> {
 
     /// All bytes from here on that may stand in a name.
     fn letters(&mut self) -> &'a str {
-        let rest = &self.text[self.at..];
         let of_a_name = |byte: &&u8| matches!(byte, b'a'..=b'z' | b'0'..=b'9' | b'_');
-        let length = rest.iter().take_while(of_a_name).count();
-        self.at += length;
-        std::str::from_utf8(&rest[..length]).unwrap_or_default()
+        let rest = self.text.as_bytes()[self.at..].iter();
+        let began = self.at;
+        self.at += rest.take_while(of_a_name).count();
+        &self.text[began..self.at]
     }
 
     /// Goes past these bytes, if they stand here.
     fn takes(&mut self, bytes: &[u8]) -> bool {
-        let here = self.text[self.at..].starts_with(bytes);
+        let here = self.text.as_bytes()[self.at..].starts_with(bytes);
         self.at += if here { bytes.len() } else { 0 };
         here
     }

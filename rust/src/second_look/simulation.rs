@@ -158,7 +158,7 @@ impl Simulation<'_> {
             .zip(0..)
             .for_each(|(&gate, at)| place[gate] = at);
         let behind = |&gate: &usize| {
-            let mut reads = circuit.gates[gate].reads.iter();
+            let mut reads = circuit.gates[gate].reads.all().iter();
             reads.all(|&read| read < first || place[read - first] < place[gate])
         };
         let straight = order.iter().all(behind);
@@ -194,7 +194,7 @@ impl Simulation<'_> {
 
 /// A gate's values from those of what it reads.
 fn evaluated(gate: &Gate, values: &[Values]) -> Values {
-    let reads = gate.reads.iter().map(|&read: &Node| values[read]);
+    let reads = gate.reads.all().iter().map(|&read: &Node| values[read]);
     match gate.function {
         Function::And(inverted) => reads
             .fold(Values::of(u64::MAX), Values::and)
@@ -245,7 +245,7 @@ fn order(circuit: &Circuit) -> Vec<usize> {
             waiting.push((root, 0));
         }
         while let Some((gate, followed)) = waiting.last_mut() {
-            let Some(&read) = circuit.gates[*gate].reads.get(*followed) else {
+            let Some(&read) = circuit.gates[*gate].reads.all().get(*followed) else {
                 order.push(*gate);
                 waiting.pop();
                 continue;

@@ -1,149 +1,128 @@
 //! A reader of Verilog modules as they are written here: declarations of ports and wires, gates of Verilog's own, and assignments of a net.
 
-use super::circuit::{Circuit, Draft, Function, Operand};
-use std::collections::{HashMap, HashSet};
-use std::fmt;
+use super::circuit::{Circuit, Draft, Driver, Function, Operand, Reads};
+use super::nets::Net;
 
 /// The circuit of a module; `loops`: whether a gate may read its own net or one that is driven below it.
 pub fn read(text: &str, loops: bool) -> Result<Circuit, String> {
     let mut module = Module {
-        words: words(text)?,
-        at: 0,
+        rest: text,
         listed: Vec::new(),
-        declared: HashMap::new(),
-        draft: Draft::new(),
+        declared: Vec::new(),
+        draft: Draft::of(text),
     };
     module.whole().ok_or_else(|| {
-        let word = module.words.get(module.at.saturating_sub(1));
-        let word = word.map_or("its end", |word| word.text);
-        format!("what stands about '{word}' is no part of such a module")
+        let left = module.rest.lines().next().unwrap_or_default();
+        format!("what stands before '{left}' is no part of such a module")
     })?;
     module.circuit(loops)
 }
 
-/// A word or a sign; an escaped name is without its backslash.
+/// What a name is declared as.
 #[derive(Clone, Copy, PartialEq, Eq)]
-struct Word<'a> {
-    text: &'a str,
-    escaped: bool,
+enum Role {
+    Input,
+    Output,
+    Wire,
 }
 
-/// The words and signs of a text, comments left out.
-fn words(text: &str) -> Result<Vec<Word<'_>>, String> {
-    let plain = |c: char| !(c.is_ascii_alphanumeric() || "_'".contains(c));
-    let mut words = Vec::new();
-    for line in text.lines() {
-        let mut rest = line.trim_start();
-        while !rest.is_empty() && !rest.starts_with("//") {
-            let escaped = rest.starts_with('\\');
-            let (skipped, end) = match escaped {
-                true => (1, rest.find(char::is_whitespace)),
-                false => (0, rest.find(plain).map(|end| end.max(1))),
-            };
-            let end = end.unwrap_or(rest.len());
-            let text = rest.get(skipped..end).filter(|text| !text.is_empty());
-            let text = text.ok_or_else(|| format!("the line '{line}' is no Verilog"))?;
-            words.push(Word { text, escaped });
-            rest = rest[end..].trim_start();
-        }
-    }
-    Ok(words)
+/// A declaration: as what, and the nets, of which a vector has one for each bit. Names are nets by themselves, so a vector has others.
+#[derive(Clone, Copy)]
+struct Declared {
+    role: Role,
+    first: Net,
+    width: Option<usize>,
 }
-
-/// A net: by its name, or as a bit of a vector.
-#[derive(Clone, Copy, PartialEq, Eq, Hash)]
-struct Net<'a> {
-    name: &'a str,
-    bit: Option<usize>,
-}
-
-impl fmt::Display for Net<'_> {
-    fn fmt(&self, f: &mut fmt::Formatter<'_>) -> fmt::Result {
-        match self.bit {
-            Some(bit) => write!(f, "{}[{bit}]", self.name),
-            None => write!(f, "{}", self.name),
-        }
-    }
-}
-
-/// How a name is declared: as what, and for a vector how wide.
-type Declared<'a> = (&'a str, Option<usize>);
 
 struct Module<'a> {
-    words: Vec<Word<'a>>,
-    at: usize,
-    listed: Vec<&'a str>,
-    declared: HashMap<&'a str, Declared<'a>>,
-    draft: Draft<Net<'a>>,
+    rest: &'a str,
+    listed: Vec<Net>,
+    /// By the number of the name.
+    declared: Vec<Option<Declared>>,
+    draft: Draft<'a>,
 }
 
 impl<'a> Module<'a> {
     /// Takes the whole module.
     fn whole(&mut self) -> Option<()> {
-        self.sign("module")?;
+        self.skip();
+        while self.rest.starts_with("//") {
+            self.rest = self.rest.split_once('\n')?.1;
+            self.skip();
+        }
+        (self.word()? == "module").then_some(())?;
         self.name()?;
-        self.sign("(")?;
-        if !self.is(")") {
+        self.sign(b'(')?;
+        if !self.is(b')') {
             self.listed = self.list(Self::name)?;
         }
-        self.sign(")")?;
-        self.sign(";")?;
-        while !self.is("endmodule") {
-            self.statement()?;
-            self.sign(";")?;
+        self.sign(b')')?;
+        self.sign(b';')?;
+        loop {
+            match self.word()? {
+                "endmodule" => return self.rest.is_empty().then_some(()),
+                "input" => self.declaration(Role::Input)?,
+                "output" => self.declaration(Role::Output)?,
+                "wire" => self.declaration(Role::Wire)?,
+                "assign" => self.assignment()?,
+                word => self.gate(word)?,
+            }
+            self.sign(b';')?;
         }
-        self.at += 1;
-        (self.at == self.words.len()).then_some(())
     }
 
-    fn statement(&mut self) -> Option<()> {
-        let Word {
-            text: word,
-            escaped: false,
-        } = self.next()?
-        else {
-            return None;
-        };
-        match word {
-            "input" | "output" | "wire" => return self.declaration(word),
-            "assign" => {
-                let net = self.net()?;
-                self.sign("=")?;
-                let read = vec![self.operand()?];
-                self.draft
-                    .gates
-                    .push((Some(net), Function::And(false), read));
-            }
-            _ => {
-                self.sign("(")?;
-                let mut pins = self.list(Self::operand)?;
-                self.sign(")")?;
-                let Operand::Net(net) = pins.remove(0) else {
-                    return None;
-                };
-                let function = Function::of_word(word, pins.len())?;
-                self.draft.gates.push((Some(net), function, pins));
-            }
+    fn assignment(&mut self) -> Option<()> {
+        let net = self.net()?;
+        self.sign(b'=')?;
+        let mut reads = Reads::none();
+        reads.push(self.operand()?)?;
+        self.drive(net, Function::And(false), reads)
+    }
+
+    /// A gate: behind its word its net and what it reads.
+    fn gate(&mut self, word: &str) -> Option<()> {
+        self.sign(b'(')?;
+        let net = self.net()?;
+        let mut reads = Reads::none();
+        while self.is(b',') {
+            self.sign(b',')?;
+            reads.push(self.operand()?)?;
         }
+        self.sign(b')')?;
+        let function = Function::of_word(word, reads.all().len())?;
+        self.drive(net, function, reads)
+    }
+
+    fn drive(&mut self, net: Net, function: Function, reads: Reads<Operand>) -> Option<()> {
+        self.draft.gates.push(Driver {
+            net: Some(net),
+            function,
+            reads,
+        });
         Some(())
     }
 
     /// Names behind `input`, `output` or `wire`; a vector has its range before the name.
-    fn declaration(&mut self, word: &'a str) -> Option<()> {
-        let width = match self.is("[") {
-            true => {
-                self.at += 1;
-                let last: usize = self.next()?.text.parse().ok()?;
-                [":", "0", "]"]
-                    .iter()
-                    .try_for_each(|sign| self.sign(sign))?;
-                Some(last + 1)
-            }
-            false => None,
-        };
+    fn declaration(&mut self, role: Role) -> Option<()> {
+        let mut width = None;
+        if self.is(b'[') {
+            self.sign(b'[')?;
+            width = Some(self.word()?.parse::<usize>().ok()?.checked_add(1)?);
+            self.sign(b':')?;
+            (self.word()? == "0").then_some(())?;
+            self.sign(b']')?;
+        }
         for name in self.list(Self::name)? {
-            let before = self.declared.insert(name, (word, width));
-            before.is_none().then_some(())?;
+            let mut first = name;
+            if let Some(width) = width {
+                let base = self.draft.nets.name(name).to_string();
+                let bits = (0..width.min(u16::MAX.into())).map(|bit| format!("{base}[{bit}]"));
+                let bits: Vec<Net> = bits.map(|bit| self.draft.nets.further(bit)).collect();
+                first = *bits.first()?;
+            }
+            let new = Declared { role, first, width };
+            self.declared.resize(self.draft.nets.count(), None);
+            self.declared[name].replace(new).is_none().then_some(())?;
         }
         Some(())
     }
@@ -151,81 +130,108 @@ impl<'a> Module<'a> {
     /// Parts with commas between them.
     fn list<T>(&mut self, part: impl Fn(&mut Self) -> Option<T>) -> Option<Vec<T>> {
         let mut parts = vec![part(self)?];
-        while self.is(",") {
-            self.at += 1;
+        while self.is(b',') {
+            self.sign(b',')?;
             parts.push(part(self)?);
         }
         Some(parts)
     }
 
-    fn operand(&mut self) -> Option<Operand<Net<'a>>> {
+    fn operand(&mut self) -> Option<Operand> {
         for (constant, value) in [("1'b0", false), ("1'b1", true)] {
-            if self.is(constant) {
-                self.at += 1;
+            if let Some(rest) = self.rest.strip_prefix(constant) {
+                self.rest = rest;
+                self.skip();
                 return Some(Operand::Constant(value));
             }
         }
         Some(Operand::Net(self.net()?))
     }
 
-    fn net(&mut self) -> Option<Net<'a>> {
-        let (name, mut bit) = (self.name()?, None);
-        if self.is("[") {
-            self.at += 1;
-            bit = Some(self.next()?.text.parse().ok()?);
-            self.sign("]")?;
-        }
-        let (_, width) = self.declared.get(name)?;
-        let there = match (bit, width) {
-            (None, None) => true,
-            (Some(bit), Some(width)) => bit < *width,
-            _ => false,
+    /// A net that is declared: a name's, or a bit of a vector.
+    fn net(&mut self) -> Option<Net> {
+        let name = self.name()?;
+        let Declared { first, width, .. } = (*self.declared.get(name)?)?;
+        let Some(width) = width else {
+            return Some(first);
         };
-        there.then_some(Net { name, bit })
+        self.sign(b'[')?;
+        let bit = self
+            .word()?
+            .parse()
+            .ok()
+            .filter(|&bit: &usize| bit < width)?;
+        self.sign(b']')?;
+        Some(first + bit)
     }
 
-    fn name(&mut self) -> Option<&'a str> {
-        let Word { text, escaped } = self.next()?;
-        let begins = text.starts_with(|first: char| first.is_ascii_alphabetic() || first == '_');
-        (escaped || begins && !text.contains('\'')).then_some(text)
+    /// A name, escaped or not.
+    fn name(&mut self) -> Option<Net> {
+        let name = match self.rest.strip_prefix('\\') {
+            Some(escaped) => {
+                let (name, rest) = escaped
+                    .split_once(' ')
+                    .filter(|(name, _)| !name.is_empty())?;
+                self.rest = rest;
+                self.skip();
+                name
+            }
+            None => self
+                .word()
+                .filter(|word| !word.as_bytes()[0].is_ascii_digit())?,
+        };
+        Some(self.draft.nets.of(name))
     }
 
-    fn next(&mut self) -> Option<Word<'a>> {
-        self.at += 1;
-        self.words.get(self.at - 1).copied()
+    /// Letters, digits and `_`, at least one.
+    fn word(&mut self) -> Option<&'a str> {
+        let of_a_word = |byte: u8| byte.is_ascii_alphanumeric() || byte == b'_';
+        let length = self
+            .rest
+            .bytes()
+            .take_while(|&byte| of_a_word(byte))
+            .count();
+        let (word, rest) = self.rest.split_at(length);
+        self.rest = rest;
+        self.skip();
+        (length > 0).then_some(word)
     }
 
-    fn is(&self, sign: &str) -> bool {
-        let word = self.words.get(self.at);
-        word.is_some_and(|word| !word.escaped && word.text == sign)
+    fn is(&self, sign: u8) -> bool {
+        self.rest.as_bytes().first() == Some(&sign)
     }
 
-    fn sign(&mut self, sign: &str) -> Option<()> {
-        let is = self.is(sign);
-        self.at += 1;
-        is.then_some(())
+    fn sign(&mut self, sign: u8) -> Option<()> {
+        self.is(sign).then(|| self.rest = &self.rest[1..])?;
+        self.skip();
+        Some(())
+    }
+
+    /// Goes past blanks.
+    fn skip(&mut self) {
+        self.rest = self.rest.trim_ascii_start();
     }
 
     /// The ports in the order in which the module lists them, the bits of a vector from 0 on.
     fn circuit(mut self, loops: bool) -> Result<Circuit, String> {
-        let mut seen = HashSet::new();
-        for &name in &self.listed {
-            let (word, width) = match self.declared.get(name) {
-                Some(&(word, width)) if word != "wire" && seen.insert(name) => (word, width),
-                _ => return Err(format!("{name} is no port, or listed twice")),
+        for name in self.listed {
+            let declared = self.declared.get_mut(name).and_then(Option::take);
+            let port = declared.filter(|declared| declared.role != Role::Wire);
+            let Some(Declared { role, first, width }) = port else {
+                let name = self.draft.nets.name(name);
+                return Err(format!("{name} is declared as no port, or listed twice"));
             };
-            let bits = width.map_or(vec![None], |width| (0..width).map(Some).collect());
-            for bit in bits {
-                let net = Net { name, bit };
-                let list = match word {
-                    "input" => &mut self.draft.pins,
-                    _ => &mut self.draft.ports,
-                };
-                list.push((net.to_string(), net));
+            let bits = first..first + width.unwrap_or(1);
+            match role {
+                Role::Input => self.draft.pins.extend(bits),
+                _ => {
+                    let named = bits.map(|net| (self.draft.nets.name(net).to_string(), net));
+                    self.draft.ports.extend(named);
+                }
             }
         }
-        let ports = self.declared.values().filter(|(word, _)| *word != "wire");
-        if ports.count() != seen.len() {
+        let mut left = self.declared.iter().flatten();
+        if left.any(|declared| declared.role != Role::Wire) {
             return Err("a port is declared that is not listed".to_string());
         }
         self.draft.circuit(loops)

@@ -195,12 +195,15 @@ fn plan(program: &Program, base: &Path) -> Result<Plan, String> {
     })
 }
 
+/// What is told of a file that changes, and its content; none where it is removed.
+type Changed = (String, Option<Vec<u8>>);
+
 /// The table of cells, where one is stored that doesn't hold: that of the program's rendering, or none where the original is refused.
 fn cells(
     base: &Path,
     entry: &Entry,
     block: &Result<Block, Refusal>,
-) -> Result<Option<(String, Option<Vec<u8>>)>, String> {
+) -> Result<Option<Changed>, String> {
     let (Some(stored), Some(original)) = (&entry.cells, &entry.original) else {
         return Ok(None);
     };
