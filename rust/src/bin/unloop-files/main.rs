@@ -11,6 +11,7 @@ mod export;
 mod folder;
 mod from_blif;
 mod looked;
+mod naming;
 mod options;
 mod output;
 mod page;
