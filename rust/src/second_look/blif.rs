@@ -14,9 +14,7 @@ pub fn read(text: &str, loops: bool) -> Result<Circuit, String> {
     };
     let mut words: Vec<&str> = Vec::new();
     for (line, number) in text.lines().zip(1..) {
-        let code = line.split('#').next().unwrap_or_default();
-        words.clear();
-        words.extend(code.split_ascii_whitespace());
+        split(line, &mut words);
         let taken = words.is_empty() || model.line(&words).is_some();
         if !taken {
             return Err(format!(
@@ -31,6 +29,22 @@ pub fn read(text: &str, loops: bool) -> Result<Circuit, String> {
     let named = |net: Net| (draft.nets.name(net).to_string(), net);
     draft.ports = outputs.into_iter().map(named).collect();
     draft.circuit(loops)
+}
+
+/// The words of a line, up to a comment.
+fn split<'a>(line: &'a str, words: &mut Vec<&'a str>) {
+    words.clear();
+    let mut began = 0;
+    let bytes = line.bytes().chain([b'#']).enumerate();
+    for (at, byte) in bytes {
+        if matches!(byte, b' ' | b'\t' | b'#') {
+            words.extend((at > began).then(|| &line[began..at]));
+            began = at + 1;
+        }
+        if byte == b'#' {
+            break;
+        }
+    }
 }
 
 /// A table whose rows are being read.

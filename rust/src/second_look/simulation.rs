@@ -152,16 +152,14 @@ impl Simulation<'_> {
     fn of(circuit: &Circuit) -> Simulation<'_> {
         let order = order(circuit);
         let first = PINS + circuit.pins.len();
-        let mut place = vec![0; circuit.gates.len()];
-        order
-            .iter()
-            .zip(0..)
-            .for_each(|(&gate, at)| place[gate] = at);
-        let behind = |&gate: &usize| {
+        let mut before = vec![false; first + circuit.gates.len()];
+        before[..first].fill(true);
+        let straight = order.iter().all(|&gate| {
             let mut reads = circuit.gates[gate].reads.all().iter();
-            reads.all(|&read| read < first || place[read - first] < place[gate])
-        };
-        let straight = order.iter().all(behind);
+            let behind = reads.all(|&read| before[read]);
+            before[first + gate] = true;
+            behind
+        });
         let values = vec![UNDEFINED; first + circuit.gates.len()];
         Simulation {
             circuit,
@@ -233,26 +231,30 @@ fn by_table(table: u16, reads: impl ExactSizeIterator<Item = Values> + Clone) ->
     }
 }
 
-/// An order of the gates in which each stands behind what it reads, but where a loop closes.
+/// The gates that the ports need, in an order in which each stands behind what it reads, but where a loop closes.
 fn order(circuit: &Circuit) -> Vec<usize> {
     let first = PINS + circuit.pins.len();
     let mut begun = vec![false; circuit.gates.len()];
     let mut order = Vec::with_capacity(circuit.gates.len());
     // The gates that wait, each with the number of its operands that have been followed.
     let mut waiting: Vec<(usize, usize)> = Vec::new();
-    for root in 0..circuit.gates.len() {
-        if !std::mem::replace(&mut begun[root], true) {
-            waiting.push((root, 0));
-        }
+    let mut begin = |node: Node| {
+        let gate = node.checked_sub(first)?;
+        (!std::mem::replace(&mut begun[gate], true)).then_some((gate, 0))
+    };
+    for (_, shown) in &circuit.ports {
+        waiting.extend(begin(*shown));
         while let Some((gate, followed)) = waiting.last_mut() {
-            let Some(&read) = circuit.gates[*gate].reads.all().get(*followed) else {
-                order.push(*gate);
-                waiting.pop();
-                continue;
-            };
-            *followed += 1;
-            if read >= first && !std::mem::replace(&mut begun[read - first], true) {
-                waiting.push((read - first, 0));
+            let reads = circuit.gates[*gate].reads.all();
+            match reads.get(*followed) {
+                Some(&read) => {
+                    *followed += 1;
+                    waiting.extend(begin(read));
+                }
+                None => {
+                    order.push(*gate);
+                    waiting.pop();
+                }
             }
         }
     }
