@@ -3,7 +3,7 @@
 use crate::folder::Folder;
 use crate::looked::looked_at;
 use crate::options::{Export, Form, Target};
-use crate::report::{notes, report};
+use crate::report::{notes_of, report};
 use crate::screen::Screen;
 use crate::source::{reason, shown, Source};
 use crate::{put, sources, tally, Stopped};
@@ -79,11 +79,15 @@ impl Writer {
         let refused = |refusal| Failure::Refused(report(refusal, &name, &text));
         let read = Block::read(&text).map_err(refused)?;
         let labels = self.labels(source, &text, &read).map_err(Failure::Error)?;
-        let module = labels.module.clone();
+        let notes = match self.original {
+            true => Vec::new(),
+            false => notes_of(&name, &read),
+        };
         let form = self.looked_for(&labels.names);
         let written = self.in_form(read, &labels).map_err(refused)?;
         let looked = looked_at(&text, written.as_bytes(), form);
         looked.map_err(|reason| Failure::Error(format!("{name}: {reason}")))?;
+        let module = &labels.module;
         if !self.taken.insert(module.to_string()) {
             let reason = format!("{name}: a FILE before it gives the name {module} too");
             return Err(Failure::Error(reason));
@@ -96,9 +100,7 @@ impl Writer {
             }
             _ => put(written.as_bytes()),
         };
-        if !self.original {
-            Screen::plain().say(&notes(&name, &text));
-        }
+        Screen::plain().say(&notes);
         Ok(done)
     }
 

@@ -88,6 +88,7 @@ fn write(
     if entries.is_empty() {
         return Ok(ExitCode::from(tally::ERROR));
     }
+    entries.iter().try_for_each(Entry::looked_at)?;
     // The index is first: where a page stands already, nothing else is written.
     let folder = Folder::open(target.folder.clone(), target.force, files)?;
     let put = |name: &str, content: &str| folder.put(Path::new(name), content.as_bytes());
