@@ -302,6 +302,28 @@ fn undefined_and_excluded() {
     );
 }
 
+/// Without pins there is one setting; of more than can be tried none is.
+#[test]
+fn no_pins_and_too_many() {
+    let form = Form::rendering(Language::Netlist);
+    let (one, zero) = (
+        "(gate p (or p 1))\n(out y p)\n",
+        "(gate _0 (and 0 1))\n(out y _0)\n",
+    );
+    let differs = agrees(one.as_bytes(), zero.as_bytes(), form).unwrap_err();
+    let shows = "it shows y = 0, and the original simulated again shows y = 1";
+    assert_eq!(differs.to_string(), shows);
+    for (count, tried) in [(16, true), (17, false)] {
+        let pins: String = (0..count).map(|pin| format!("(in a{pin})\n")).collect();
+        let last = count - 1;
+        let text = format!("{pins}(gate _0 (and a0 a{last}))\n(out y _0)\n");
+        let looked = agrees(text.as_bytes(), text.as_bytes(), form);
+        assert_eq!(looked.is_ok(), tried, "{looked:?}");
+        let other = text.replace("(and a0", "(and a1");
+        assert!(agrees(text.as_bytes(), other.as_bytes(), form).is_err());
+    }
+}
+
 /// Texts that are of no form, have a loop, or another interface.
 #[test]
 fn texts_that_are_spoiled_otherwise() {

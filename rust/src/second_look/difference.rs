@@ -64,17 +64,14 @@ impl fmt::Display for Difference {
                 let pins = setting.iter();
                 let pins = pins.map(|(pin, value)| format!("{pin} = {}", u8::from(*value)));
                 let pins: Vec<String> = pins.collect();
-                let with = if pins.is_empty() { "" } else { "with " };
-                let space = if pins.is_empty() { "" } else { " " };
+                if !pins.is_empty() {
+                    write!(f, "with {} ", pins.join(", "))?;
+                }
                 write!(
                     f,
-                    "{with}{}{space}it shows {port} = {written}, ",
-                    pins.join(", ")
+                    "it shows {port} = {written}, and the original simulated again shows "
                 )?;
-                write!(
-                    f,
-                    "and the original simulated again shows {port} = {original}"
-                )
+                write!(f, "{port} = {original}")
             }
         }
     }
