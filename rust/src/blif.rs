@@ -2,6 +2,7 @@
 
 use crate::export::{Nets, CONSTANTS};
 use crate::{Assignment, Block, Gate, Kind, Labels, Operand};
+use std::collections::HashMap;
 
 /// The model of a block, straight or looped.
 ///
@@ -30,11 +31,14 @@ pub fn blif(block: &Block, labels: impl Into<Labels>) -> String {
             lines.extend(value.then(|| "1".to_string()));
         }
     }
+    // Gates of one kind and as many operands have the same rows.
+    let mut known: HashMap<(Kind, usize), String> = HashMap::new();
     for (gate, net) in gates.iter().zip(&nets.gates) {
         let operands = gate.operands.iter();
         let operands: Vec<String> = operands.map(|&node| nets.net(node, constants)).collect();
         lines.push(format!(".names {} {net}", operands.join(" ")));
-        lines.extend(rows(gate.kind, &vec![None; gate.operands.len()]));
+        let rows = known.entry((gate.kind, gate.operands.len()));
+        lines.push(rows.or_insert_with(|| self::rows(gate.kind, &vec![None; gate.operands.len()]).join("\n")).clone());
     }
     for (port, &node) in nets.ports.iter().zip(&block.outputs_show()) {
         if !nets.is_gate(port) {

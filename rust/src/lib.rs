@@ -55,6 +55,7 @@ pub mod proved;
 pub mod raw;
 mod refusal;
 mod results;
+pub mod second_look;
 mod sheet;
 pub mod tools;
 mod value;

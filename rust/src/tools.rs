@@ -16,4 +16,4 @@ pub use crate::opening::Opening;
 pub use crate::pins::PinsError;
 pub use crate::verilog::verilog;
 pub use crate::visible::visible;
-pub use crate::{audit, blif_model, declarations, design, drawing, json, orders};
+pub use crate::{audit, blif_model, declarations, design, drawing, json, orders, second_look};

@@ -373,6 +373,38 @@ fn a_first_rendering_needs_the_program_alone() {
     }
 }
 
+/// Makes a driver that finds fault with what it is given, which it keeps.
+const STRICT_CARGO: &str = r#"#!/usr/bin/env bash
+echo "cargo $1" >> calls
+mkdir -p target/driver/release
+cat > target/driver/release/unloop-files <<'DRIVER'
+#!/usr/bin/env bash
+cat -- "$3" > "${0%/*}/looked"
+echo "unloop: $3: internal error, nothing is written: a second look found that it shows y = 1" >&2
+exit 2
+DRIVER
+chmod +x target/driver/release/unloop-files
+"#;
+
+/// What the driver, once it is built, finds wrong with a rendering that was written before is told.
+#[test]
+fn a_first_rendering_is_looked_at_again() {
+    let scratch = repository();
+    scratch.put("a.net", "the input\n");
+    let file = scratch.path("a.net").display().to_string();
+    for words in [&[][..], &[&file[..]]] {
+        let scratch = repository();
+        scratch.put_script("tools/cargo", STRICT_CARGO);
+        let ended = run(&scratch, words);
+        let wrong = "unloop: the rendering that was written is wrong: it shows y = 1\n";
+        let building = [WHY, PROGRAM, RENDERED, LIBRARY, DRIVER, wrong].concat();
+        told(&scratch, &ended, 2, &building, ALL_BUILT);
+        assert_eq!(ended.stdout, b"the input\n");
+        let looked = scratch.get("target/driver/release/looked");
+        assert_eq!(looked, "the input\n");
+    }
+}
+
 /// What fails behind the rendering is told, and tried again with the next run; the status is the rendering's.
 #[test]
 fn a_library_that_fails_behind_a_rendering() {

@@ -1,5 +1,6 @@
 //! Files that appear whole or not at all: in the folder of `--into` and `--page`, and beside the originals of `--store`.
 
+use crate::naming::name_anew;
 use crate::source::{reason, shown};
 use std::collections::HashSet;
 use std::ffi::{OsStr, OsString};
@@ -69,8 +70,7 @@ impl Folder {
         file.write_all(rendering)?;
         match self.force {
             true => fs::rename(&held.0, target),
-            // Unlike renaming, this fails where there is something, even if it came this moment.
-            false => fs::hard_link(&held.0, target),
+            false => name_anew(&held.0, target),
         }
     }
 }

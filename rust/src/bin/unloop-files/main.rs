@@ -14,6 +14,8 @@ mod export;
 mod fit;
 mod folder;
 mod from_blif;
+mod looked;
+mod naming;
 mod options;
 mod output;
 mod page;

@@ -95,6 +95,7 @@ fn write(
     if entries.is_empty() {
         return Ok(ExitCode::from(tally::ERROR));
     }
+    entries.iter().try_for_each(Entry::looked_at)?;
     let folder = Folder::open(target.folder.clone(), target.force, kept)?;
     put_overview(&folder, &entries, &errors)?;
     let beside = Folder::open(target.folder.join(files::FOLDER), target.force, kept)?;

@@ -51,8 +51,12 @@ pub fn unsettled(refusal: Refusal, block: &Block) -> Option<usize> {
 /// What is told of a text that was rendered: the settings that its never lines exclude, if any.
 pub fn notes(name: &str, text: &[u8]) -> Vec<String> {
     let block = Block::read(text);
-    let exclusions = block.map(|block| exclusions(&block)).unwrap_or_default();
-    let lines = exclusions.into_iter();
+    block.map_or(Vec::new(), |block| notes_of(name, &block))
+}
+
+/// The same of its block.
+pub fn notes_of(name: &str, block: &Block) -> Vec<String> {
+    let lines = exclusions(block).into_iter();
     lines.map(|line| format!("{name}: {line}")).collect()
 }
 

@@ -6,9 +6,10 @@ use crate::audit::{
 use crate::catalogue::{beside, read, Entry, Found, CELLS, COVER, ORIGINAL, OUT};
 use crate::export::made_from;
 use crate::folder::replace;
+use crate::looked::looked_at;
 use crate::parallel::in_order;
 use crate::program::Program;
-use crate::report::{refusal_in, ENTRIES_TOLD};
+use crate::report::ENTRIES_TOLD;
 use crate::screen::Screen;
 use crate::source::shown;
 use crate::{put, tally, Stopped};
@@ -17,6 +18,7 @@ use std::ops::ControlFlow;
 use std::path::{Path, PathBuf};
 use std::process::ExitCode;
 use unloop::audit::{cover_text, entry_lines, Audit, Cover, Never, Rendering};
+use unloop::second_look::{Form, Language};
 use unloop::{cell_table, module_name, Block, Labels, Refusal};
 
 /// What is to be stored.
@@ -169,8 +171,8 @@ fn plan(program: &Program, base: &Path) -> Result<Plan, String> {
     let mut answer = None;
     if found.rendering != Rendering::Holds || becomes_refusal(&found, &entry, &block).is_some() {
         let named = |why| format!("{}: {why}", shown(&path(ORIGINAL)));
-        let output = program.run(original).map_err(named)?;
-        answer = Some(refusal_in(&output).map_err(named)?);
+        let (output, refusal) = program.answer(original).map_err(named)?;
+        answer = Some(refusal);
         files.push((path(OUT), Some(output)));
     }
     let covered = found.never == Never::Holds && found.cover == Cover::Holds;
@@ -181,7 +183,7 @@ fn plan(program: &Program, base: &Path) -> Result<Plan, String> {
     }
     let mut changes = changes(&found, &entry, &block, answer);
     let mut weaker = weaker(&found, &entry, &block);
-    if let Some((told, cells)) = cells(base, &found, &entry, &block) {
+    if let Some((told, cells)) = cells(base, &found, &entry, &block)? {
         let gone = "what is refused has no cells".to_string();
         weaker.extend(cells.is_none().then_some(gone));
         changes.push(told);
@@ -195,6 +197,9 @@ fn plan(program: &Program, base: &Path) -> Result<Plan, String> {
     })
 }
 
+/// What is told of a file that changes, and its content; none where it is removed.
+type Changed = (String, Option<Vec<u8>>);
+
 /// The table of cells, where one is stored that doesn't hold: that of the program's rendering, or none where the original is refused. What
 /// CompareCells accepts stays as it is, as long as the rendering beside it does.
 fn cells(
@@ -202,10 +207,12 @@ fn cells(
     found: &Audit,
     entry: &Entry,
     block: &Result<Block, Refusal>,
-) -> Option<(String, Option<Vec<u8>>)> {
-    let stored = found.cells.as_ref()?;
+) -> Result<Option<Changed>, String> {
+    let (Some(stored), Some(original)) = (&found.cells, &entry.original) else {
+        return Ok(None);
+    };
     if found.cells_hold() && becomes_refusal(found, entry, block).is_none() {
-        return None;
+        return Ok(None);
     }
     let why = Fact::of_cells(stored, entry, block.as_ref().ok());
     let why = why.why().map_or(String::new(), |why| format!(" ({why})"));
@@ -216,10 +223,12 @@ fn cells(
         ..Labels::from(&module_name(&stem))
     };
     let table = rendering.and_then(|block| cell_table(&block, labels).ok());
-    match table.map(String::into_bytes) {
-        None => Some(("cells are gone".to_string(), None)),
-        today => Some((format!("cells anew{why}"), today)),
-    }
+    let Some(today) = table.map(String::into_bytes) else {
+        return Ok(Some(("cells are gone".to_string(), None)));
+    };
+    looked_at(original, &today, Form::rendering(Language::Cells))
+        .map_err(|why| format!("{}: {why}", shown(&beside(base, CELLS))))?;
+    Ok(Some((format!("cells anew{why}"), Some(today))))
 }
 
 /// What changes, in words; `answer`: what the program says today, where that is stored.

@@ -5,8 +5,10 @@ use super::files::{links, Beside};
 use super::html::{counted, escaped, framed};
 use super::texts::{refused, Lines};
 use super::{drawn, excluded, sheet};
+use crate::looked::looked_at;
 use crate::report;
 use crate::source::Source;
+use unloop::second_look::{Form, Language};
 use unloop::{Assignment, Block, Location, Refusal};
 
 /// The entries of a cover that are shown.
@@ -44,6 +46,16 @@ impl Entry {
             rendering,
             facts: None,
         }
+    }
+
+    /// Whether the rendering that is shown says what the netlist says; else an error in words.
+    pub fn looked_at(&self) -> Result<(), String> {
+        let Ok(rendering) = &self.rendering else {
+            return Ok(());
+        };
+        let form = Form::rendering(Language::Netlist);
+        let looked = looked_at(&self.text, rendering.write().as_bytes(), form);
+        looked.map_err(|reason| format!("{}: {reason}", self.name))
     }
 
     /// Its state as a class and in words; a refusal at a place has its line and column.
