@@ -1,10 +1,10 @@
-//! The package has the header's numbers, names, rooms, layout, functions and version, and README's version of Rust.
+//! The package has the header's numbers, names, rooms, layout, functions and version, and CALLING.md's version of Rust.
 
 use unloop::{limits, Kind, Refusal};
 
 const HEADER: &str = include_str!("../../include/unloop.h");
 const RAW: &str = include_str!("../src/raw.rs");
-const README: &str = include_str!("../../README.md");
+const CALLING: &str = include_str!("../../docs/CALLING.md");
 
 /// The constants of one of the header's enums, in order, without their prefix.
 fn constants(name: &str) -> Vec<(String, usize)> {
@@ -76,7 +76,7 @@ fn functions() {
     expected.sort_unstable();
     assert_eq!(names(ours, "    fn unloop_"), expected);
     assert_eq!(names(ours, "\npub fn "), expected);
-    assert!(declared.len() == 16 && !HEADER.contains("certified"));
+    assert!(declared.len() == 17 && !HEADER.contains("certified"));
 }
 
 #[test]
@@ -115,5 +115,5 @@ fn layout() {
 #[test]
 fn version_of_rust() {
     let told = format!("From Rust ({} or newer)", env!("CARGO_PKG_RUST_VERSION"));
-    assert!(README.contains(&told), "{told}");
+    assert!(CALLING.contains(&told), "{told}");
 }
