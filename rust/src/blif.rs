@@ -38,7 +38,12 @@ pub fn blif(block: &Block, labels: impl Into<Labels>) -> String {
         let operands: Vec<String> = operands.map(|&node| nets.net(node, constants)).collect();
         lines.push(format!(".names {} {net}", operands.join(" ")));
         let rows = known.entry((gate.kind, gate.operands.len()));
-        lines.push(rows.or_insert_with(|| self::rows(gate.kind, &vec![None; gate.operands.len()]).join("\n")).clone());
+        lines.push(
+            rows.or_insert_with(|| {
+                self::rows(gate.kind, &vec![None; gate.operands.len()]).join("\n")
+            })
+            .clone(),
+        );
     }
     for (port, &node) in nets.ports.iter().zip(&block.outputs_show()) {
         if !nets.is_gate(port) {

@@ -10,6 +10,7 @@ use super::{Piece, Refused};
 use crate::blif_model::{BlifError, Instance, Model, Net, Table};
 use crate::from_blif::written;
 use crate::limits::{INPUTS, NEVERS, OUTPUTS};
+use crate::second_look::{agrees, Form, Language};
 use crate::{Block, Operand, Refusal};
 use std::collections::{HashMap, HashSet};
 
@@ -146,12 +147,14 @@ fn rendered(whole: &Whole, cut: &Cut, allowed: &[Allowed]) -> Result<Vec<Block>,
     cut.ports.chunks(OUTPUTS).map(turn).collect()
 }
 
-/// The rendering of a block without the gates that no output needs, if Compare accepts it.
+/// The rendering of a block without the gates that no output needs, if Compare accepts it and a second look finds the same.
 fn accepted(text: &str) -> Result<Option<Block>, Refusal> {
     let own = Block::read(text)?;
     let rendering = needed(&own.render()?)?;
-    let differs = own.compare(&rendering)?;
-    Ok(differs.is_none().then_some(rendering))
+    let form = Form::rendering(Language::Netlist);
+    let same = own.compare(&rendering)?.is_none()
+        && agrees(text.as_bytes(), rendering.write().as_bytes(), form).is_ok();
+    Ok(same.then_some(rendering))
 }
 
 /// The gates that outputs need: each reads only what stands above it.

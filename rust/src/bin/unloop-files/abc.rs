@@ -17,6 +17,8 @@ const NAMES: [&str; 3] = ["abc", "berkeley-abc", "yosys-abc"];
 const MODEL: &str = "in.blif";
 const RESULT: &str = "out.blif";
 const LOG: &str = "log";
+/// The model that is 0 under the settings which never lines exclude.
+const CARE: &str = "care.blif";
 /// How long a script may take.
 const LIMIT: Duration = Duration::from_secs(60);
 
@@ -28,14 +30,11 @@ pub struct Scripts<'a> {
     pub beside: Option<(&'a str, &'a str, &'a str)>,
     /// The commands that differ.
     pub tried: &'a [&'a str],
-    /// What is put behind them once more where never lines exclude settings: it must name the model [`CARE`] of what is cared for.
+    /// What is put behind them once more where never lines exclude settings: it reads care.blif, the model of what is cared for.
     pub care: &'a str,
     /// What ends each script.
     pub last: &'a str,
 }
-
-/// The model that is 0 under the settings which never lines exclude.
-pub const CARE: &str = "care.blif";
 
 impl Scripts<'_> {
     /// The scripts as they are told, without and with what is cared for.
@@ -103,6 +102,7 @@ impl Abc {
         let log = fs::read(folder.0.join(LOG)).unwrap_or_default();
         let log = String::from_utf8_lossy(&log);
         let last = log.lines().last().unwrap_or_default();
+        let last = last.replace(char::is_control, "?");
         match (ended, fs::read_to_string(folder.0.join(RESULT))) {
             (None, _) => Err(format!("ABC took more than {} seconds", LIMIT.as_secs())),
             (Some(status), Ok(result)) if status.success() => Ok(result),

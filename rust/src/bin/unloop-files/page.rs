@@ -138,6 +138,9 @@ fn put_overview(folder: &Folder, entries: &[Entry], errors: &[String]) -> Result
 /// Writes the page of an entry and the files beside it. The drawing of a page that was there stays where it would be the same.
 fn put(entries: &[Entry], index: usize, folder: &Folder, beside: &Folder) -> Result<(), String> {
     let files = files::files(&entries[index]);
+    files
+        .iter()
+        .try_for_each(|file| file.looked_at(&entries[index]))?;
     let name = Path::new(&entries[index].page);
     let before = folder.replaced(name);
     let page = entry::page(entries, index, &files, before.as_deref());

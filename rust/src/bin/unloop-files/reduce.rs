@@ -3,6 +3,7 @@
 use crate::abc::Abc;
 use crate::described::{described, excluded, object, unreadable};
 use crate::folder::Folder;
+use crate::looked::looked_at;
 use crate::options::{Reduce, Reduced, Target};
 use crate::parallel::in_order;
 use crate::report::{notes, report};
@@ -13,6 +14,7 @@ use std::ops::ControlFlow;
 use std::path::{Path, PathBuf};
 use std::process::ExitCode;
 use unloop::json::Json;
+use unloop::second_look::{Form, Language};
 use unloop::{Block, CellTable, Refusal};
 
 /// A file to be made small: its name, its text and what it is.
@@ -145,6 +147,14 @@ impl Reduced {
         accepted == Ok(None)
     }
 
+    /// What a second look takes it for.
+    fn form(self) -> Form<'static> {
+        Form::rendering(match self {
+            Reduced::Cells => Language::Cells,
+            Reduced::Netlist => Language::Netlist,
+        })
+    }
+
     /// What is done without ABC.
     fn instead(self) -> &'static str {
         match self {
@@ -184,6 +194,8 @@ impl Run {
             let why = "what was made of it reads back as something else, and isn't written";
             return Err(format!("{}: {why}", source.name()));
         }
+        looked_at(&text, product.text.as_bytes(), self.to.form())
+            .map_err(|why| format!("{}: {why}", source.name()))?;
         if let (Some(folder), Some(path)) = (&self.folder, source.path()) {
             folder.put(&target(self.to, path), product.text.as_bytes())?;
         }

@@ -5,7 +5,9 @@
 use super::entry::Entry;
 use super::html::escaped;
 use crate::export::made_from;
+use crate::looked::looked_at;
 use unloop::declarations::gate_names;
+use unloop::second_look::{Form, Language};
 use unloop::{blif, cell_table, module_name, verilog, Block, Labels};
 
 /// The folder of these files, in that of the page.
@@ -16,6 +18,24 @@ pub struct Beside {
     pub name: String,
     what: &'static str,
     pub content: Vec<u8>,
+}
+
+impl Beside {
+    /// Whether it says what the netlist says, if it is in a form for other tools; else an error in words.
+    pub fn looked_at(&self, entry: &Entry) -> Result<(), String> {
+        let language = match self.name.rsplit_once('.') {
+            Some((_, "v")) => Language::Verilog,
+            Some((_, "blif")) => Language::Blif,
+            Some((_, "cells")) => Language::Cells,
+            _ => return Ok(()),
+        };
+        let form = Form {
+            loops: entry.rendering.is_err(),
+            ..Form::rendering(language)
+        };
+        looked_at(&entry.text, &self.content, form)
+            .map_err(|reason| format!("{}: {reason}", self.name))
+    }
 }
 
 /// The files of a netlist.
