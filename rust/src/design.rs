@@ -1,5 +1,5 @@
 //! A design of any size with its loops taken out one by one. Each loop group becomes a block of its own, which Render renders and Compare
-//! accepts; its gates are put back in place of the group, and every other line stays as it is. crates/replacement proves that a design with its
+//! accepts; its gates are put back in place of the group, and every other line stays as it is. crates/theory_replacement proves that a design with its
 //! groups replaced so shows what it showed; that the groups are cut out and put back as it says is tested.
 
 mod block;
