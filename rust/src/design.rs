@@ -66,14 +66,18 @@ pub struct Piece {
 pub enum Refused {
     /// The loop is too large for a block, in words.
     TooLarge(String),
-    /// The loop's block is refused: its text, what its pins, ports and gates are called in the model, and the refusal.
-    Block {
-        text: String,
-        names: Names,
-        refusal: Refusal,
-    },
+    /// The loop's block is refused.
+    Block(Box<RefusedBlock>),
     /// Compare does not accept what was rendered, which never happens while Render keeps its promise.
     NotAccepted,
+}
+
+/// A block that was refused: its text, what its pins, ports and gates are called in the model, and the refusal.
+#[derive(Debug, Clone, PartialEq, Eq)]
+pub struct RefusedBlock {
+    pub text: String,
+    pub names: Names,
+    pub refusal: Refusal,
 }
 
 impl<'a> Design<'a> {

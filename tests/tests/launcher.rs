@@ -332,6 +332,8 @@ fn arguments_are_looked_at_first() {
         &["--sheet", "none", "a.net"],
         &["--sheet", "all", "none.net"],
         &["--check=none", "a.net"],
+        &["--design", "--never=none", "a.net"],
+        &["--design", "none.blif"],
         &["--audit=none"],
         &["--audit", "none"],
         &["--store=none"],

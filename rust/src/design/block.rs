@@ -6,7 +6,7 @@ use super::promises::Allowed;
 use super::whole::Whole;
 use super::wider::{wider, STEPS};
 use super::wiring::{Listed, Source};
-use super::{Piece, Refused};
+use super::{Piece, Refused, RefusedBlock};
 use crate::blif_model::{BlifError, Instance, Model, Net, Table};
 use crate::from_blif::written;
 use crate::limits::{INPUTS, NEVERS, OUTPUTS};
@@ -34,13 +34,13 @@ pub fn taken_out(
         }
     }
     match refused {
-        Refused::Block { .. } if allowed.len() > NEVERS => {
+        Refused::Block(_) if allowed.len() > NEVERS => {
             let (count, name) = (allowed.len(), called(whole, cut));
             Err(Refused::TooLarge(format!(
                 "{count} promises are about {name}, and a block may have {NEVERS} never lines"
             )))
         }
-        Refused::Block { .. } if !allowed.is_empty() => {
+        Refused::Block(_) if !allowed.is_empty() => {
             let turns = rendered(whole, cut, allowed)?;
             Ok(piece(whole, cut, number, turns, allowed))
         }
@@ -52,7 +52,7 @@ pub fn taken_out(
 fn may_be_wider(refused: &Refused, cut: &Cut) -> bool {
     match refused {
         Refused::TooLarge(_) => cut.boundary.len() > INPUTS,
-        Refused::Block { refusal, .. } => matches!(refusal, Refusal::NotSettled { .. }),
+        Refused::Block(block) => matches!(block.refusal, Refusal::NotSettled { .. }),
         Refused::NotAccepted => false,
     }
 }
@@ -137,11 +137,11 @@ fn rendered(whole: &Whole, cut: &Cut, allowed: &[Allowed]) -> Result<Vec<Block>,
         match accepted(&text) {
             Ok(Some(rendering)) => Ok(rendering),
             Ok(None) => Err(Refused::NotAccepted),
-            Err(refusal) => Err(Refused::Block {
+            Err(refusal) => Err(Refused::Block(Box::new(RefusedBlock {
                 text,
                 names,
                 refusal,
-            }),
+            }))),
         }
     };
     cut.ports.chunks(OUTPUTS).map(turn).collect()

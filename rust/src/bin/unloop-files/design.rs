@@ -11,7 +11,7 @@ use crate::{put, tally, Stopped};
 use std::collections::BTreeSet;
 use std::io::{self, IsTerminal};
 use std::ops::ControlFlow;
-use std::path::Path;
+use std::path::PathBuf;
 use std::process::ExitCode;
 use unloop::design::{Design, Loop, Piece, Promises, Refused};
 
@@ -26,15 +26,17 @@ pub struct Finding<'a> {
 
 /// Takes the loops out and writes the model, where all could be taken out or the rest may stay.
 pub fn run(asked: options::Design) -> Result<ExitCode, String> {
+    let named = |path: PathBuf| Ok::<_, String>((shown(&path), text_of(&Source::of(path))?));
+    let never = asked.never.map(named).transpose()?;
     let source = asked.file.map_or(Source::Input, Source::of);
     let name = source.name();
     let text = text_of(&source)?;
     let design = Design::read(&text, asked.model.as_deref());
     let design = design.map_err(|error| format!("{name}:{error}"))?;
-    let promises = match &asked.never {
-        Some(path) => promises(&design, path)?,
-        None => Promises::default(),
-    };
+    let promises = never.map_or(Ok(Promises::default()), |(name, text)| {
+        let promises = design.promises(&text);
+        promises.map_err(|error| format!("{name}:{error}"))
+    })?;
     let Some(found) = Finding::of(name, design, promises, asked.json) else {
         return Ok(ExitCode::from(tally::ERROR));
     };
@@ -60,12 +62,6 @@ fn text_of(source: &Source) -> Result<String, String> {
     let text = source.whole_text();
     let text = String::from_utf8(text.map_err(|error| named(&reason(&error)))?);
     text.map_err(|_| named("is no text"))
-}
-
-fn promises(design: &Design, path: &Path) -> Result<Promises, String> {
-    let text = text_of(&Source::of(path.to_path_buf()))?;
-    let promises = design.promises(&text);
-    promises.map_err(|error| format!("{}:{error}", shown(path)))
 }
 
 impl<'a> Finding<'a> {

@@ -3,9 +3,9 @@
 use super::Finding;
 use crate::described::{object, pins};
 use crate::report::{other, undefined, unsettled};
-use unloop::design::{Loop, Piece, Refused};
+use unloop::design::{Loop, Piece, Refused, RefusedBlock};
 use unloop::json::Json;
-use unloop::{circle, hint, Block, Names, Refusal};
+use unloop::{circle, hint, Block};
 
 impl Finding<'_> {
     /// The objects; the last has the model where it is written.
@@ -61,18 +61,15 @@ impl Finding<'_> {
                 ("hint".to_string(), Json::text(reason)),
             ],
             Err(Refused::NotAccepted) => vec![("word".to_string(), Json::text("not accepted"))],
-            Err(Refused::Block {
-                text,
-                names,
-                refusal,
-            }) => block(text, names, *refusal),
+            Err(Refused::Block(refused)) => block(refused),
         });
         fields
     }
 }
 
 /// What is known of a block that was refused, by the names of the model.
-fn block(text: &str, names: &Names, refusal: Refusal) -> Vec<(String, Json)> {
+fn block(refused: &RefusedBlock) -> Vec<(String, Json)> {
+    let (text, names, refusal) = (&refused.text, &refused.names, refused.refusal);
     let mut fields = object([
         ("word", Json::text(refusal.word())),
         ("number", Json::Number(refusal.number())),

@@ -3,7 +3,7 @@
 use super::Finding;
 use crate::report::{settings_told, unsettled, ENTRIES_TOLD};
 use crate::tally::counted;
-use unloop::design::{Loop, Refused};
+use unloop::design::{Loop, Refused, RefusedBlock};
 use unloop::{hint, Block};
 
 /// The nets of a boundary that are told.
@@ -18,26 +18,28 @@ pub fn refused(name: &str, found: &Loop, refused: &Refused) -> Vec<String> {
             "{at}: Compare doesn't accept the rendering of {}",
             called(found)
         )],
-        Refused::Block {
-            text,
-            names,
-            refusal,
-        } => {
-            let word = refusal.word();
-            let hint =
-                hint(*refusal, text.as_bytes()).map_or(String::new(), |hint| format!(": {hint}"));
-            let mut lines = vec![format!("{at}: {}: {word}{hint}", called(found))];
-            if let Ok(block) = Block::read(text) {
-                let setting = unsettled(*refusal, &block);
-                let told =
-                    setting.map(|setting| settings_told(&block, setting, text.as_bytes(), names));
-                lines.extend(told.unwrap_or_default());
-            }
-            lines
-        }
+        Refused::Block(block) => undecided(&format!("{at}: {}", called(found)), block),
     };
     let boundary = listed(&found.boundary, BOUNDARY_TOLD);
     lines.push(format!("  it reads from outside {boundary}"));
+    lines
+}
+
+/// What is known of a block that was refused, by the names of the model.
+fn undecided(name: &str, refused: &RefusedBlock) -> Vec<String> {
+    let RefusedBlock {
+        text,
+        names,
+        refusal,
+    } = refused;
+    let (word, text) = (refusal.word(), text.as_bytes());
+    let hint = hint(*refusal, text).map_or(String::new(), |hint| format!(": {hint}"));
+    let mut lines = vec![format!("{name}: {word}{hint}")];
+    if let Ok(block) = Block::read(text) {
+        let setting = unsettled(*refusal, &block);
+        let told = setting.map(|setting| settings_told(&block, setting, text, names));
+        lines.extend(told.unwrap_or_default());
+    }
     lines
 }
 
