@@ -83,7 +83,7 @@ fn faulty(scratch: &Scratch, fault: &str, words: &[&str]) -> Output {
     ended(command, b"")
 }
 
-/// The files of a folder that are not the command's own for the while, with their contents.
+/// The files of a folder, and of those below it, that are not the command's own for the while, with their contents.
 fn contents(folder: &Path) -> BTreeMap<Vec<u8>, Vec<u8>> {
     let Ok(entries) = fs::read_dir(folder) else {
         return BTreeMap::new();
@@ -91,9 +91,16 @@ fn contents(folder: &Path) -> BTreeMap<Vec<u8>, Vec<u8>> {
     let entries = entries.map(|entry| entry.unwrap());
     let named = entries.map(|entry| (entry.file_name().as_bytes().to_vec(), entry.path()));
     let named = named.filter(|(name, _)| !name.starts_with(b".unloop-"));
-    named
-        .map(|(name, path)| (name, fs::read(path).unwrap()))
-        .collect()
+    let mut found = BTreeMap::new();
+    for (name, path) in named {
+        if path.is_dir() {
+            let inside = contents(&path).into_iter();
+            found.extend(inside.map(|(file, text)| ([&name[..], b"/", &file].concat(), text)));
+        } else {
+            found.insert(name, fs::read(path).unwrap());
+        }
+    }
+    found
 }
 
 /// A typical netlist of so many thousand bytes or more, and its rendering, which is as long.
@@ -241,7 +248,7 @@ fn file_systems_without_hard_links() {
                 .code(),
             Some(2)
         );
-        assert_eq!(scratch.names("p").len(), 4);
+        assert_eq!(scratch.names("p").len(), 5); // index, style, script, the page, and the files beside it
     }
 }
 

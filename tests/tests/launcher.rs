@@ -18,7 +18,7 @@ const RESULTS: [&str; 3] = [
 /// What the library is built on is proved side by side before it, and it itself once.
 const LIBRARY_BUILT: &str = "rt check prelude netlist\nrt staticlib exports\n";
 const ALL_BUILT: &str =
-    "rt check unloop\nrt check laws netlist\nrt staticlib exports\ncargo build\n";
+    "rt check unloop\nrt check prelude netlist\nrt staticlib exports\ncargo build\n";
 
 /// Words that need all.
 const ALL: &[&str] = &["--json"];
@@ -162,7 +162,7 @@ fn tools_that_are_missing() {
         (
             "cargo",
             "target/driver/release/unloop-files",
-            "rt check unloop\nrt check laws netlist\nrt staticlib exports\n",
+            "rt check unloop\nrt check prelude netlist\nrt staticlib exports\n",
         ),
     ] {
         let scratch = repository();
@@ -221,7 +221,7 @@ fn builds_that_fail() {
 
 /// Proves one crate, takes so long that the script looks, and then ends as it is told to.
 fn slow_rt(then: &str) -> String {
-    let first = "rt: laws proved (1 s)\nlogic=proved\nrt: netlist proved (unchanged since it was last proved)";
+    let first = "rt: prelude proved (1 s)\nlogic=proved\nrt: netlist proved (unchanged since it was last proved)";
     format!("#!/usr/bin/env bash\n[ $1 != version ] || exit 0\ncat <<'SAID'\nlogic=proved\n{first}\nSAID\nsleep 2.5\n{then}")
 }
 
@@ -264,7 +264,7 @@ fn tells_why_it_failed() {
     told(&scratch, &ended, 2, &expected.concat(), "");
     assert!(scratch
         .get("target/built/unloop.log")
-        .starts_with("logic=proved\nrt: laws proved (1 s)\n"));
+        .starts_with("logic=proved\nrt: prelude proved (1 s)\n"));
 }
 
 /// On a terminal: one line, rewritten, with the crate that is at work.

@@ -29,7 +29,12 @@ const OF_RENDERINGS: [(&[&str], &str, &str, &str); 4] = [
     (&["--into", "texts"], "rendering", "out.txt", "net"),
     (&["--verilog", "--into", "verilog"], "Verilog", "v", "v"),
     (&["--blif", "--into", "blif"], "BLIF", "blif", "blif"),
-    (&["--cells", "--into", "cells"], "cells", "cells", "cells"),
+    (
+        &["--cells", "--into", "cells"],
+        "cells",
+        "cells.txt",
+        "cells",
+    ),
 ];
 const OF_ORIGINALS: [(&[&str], &str, &str, &str); 2] = [
     (
@@ -82,8 +87,8 @@ fn files_of_the_catalogue() {
     assert_eq!(scratch.names("out/files"), all);
 }
 
-/// A table of cells that is a fact of an entry is never overwritten, though the page's folder of files is the catalogue. And the files are no
-/// entries: an audit of the folder above finds those that were there.
+/// No fact of an entry is overwritten, though the page's folder of files is the catalogue. And the files are no entries: an audit of the folder
+/// above finds those that were there.
 #[test]
 fn facts_are_not_overwritten() {
     let entry = |ending: &str| {
@@ -91,22 +96,21 @@ fn facts_are_not_overwritten() {
         fs::read_to_string(path).unwrap()
     };
     let (net, out, cover) = (entry("net"), entry("out"), entry("cover"));
-    let files = [
+    let scratch = with(&[
         ("files/a.net", &net[..]),
         ("files/a.out", &out),
         ("files/a.cover", &cover),
-        ("files/a.cells", "kept"),
-    ];
-    let scratch = with(&files);
+    ]);
+    let cells = run(&scratch, &["--cells", "files/a.net"]).stdout;
+    scratch.put("files/a.cells", &cells);
     let ended = run(&scratch, &["--page", ".", "--force", "--audit", "files"]);
-    let why = "unloop: ./files/a.cells: is one of the FILEs, and isn't overwritten\n";
-    assert_eq!(ended.status.code(), Some(2));
-    let errors = String::from_utf8(ended.stderr).unwrap();
-    assert!(errors.starts_with(why), "{errors}");
-    for (name, text) in files {
-        assert_eq!(scratch.get(name), text);
+    assert_eq!(ended.status.code(), Some(0), "{ended:?}");
+    for (name, text) in [("a.net", net), ("a.out", out), ("a.cover", cover)] {
+        assert_eq!(scratch.get(&format!("files/{name}")), text);
     }
+    assert_eq!(scratch.get("files/a.cells").as_bytes(), cells);
     assert!(scratch.path("files/a.out.txt").is_file());
+    assert!(scratch.path("files/a.cells.txt").is_file());
     let ended = run(&scratch, &["--audit", "--recursive", "--quiet", "."]);
     told(ended, 0, "1 entry: 1 hold, 0 lost\n", "");
 }

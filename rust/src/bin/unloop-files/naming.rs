@@ -42,7 +42,7 @@ const REPLACE_NOTHING: c_uint = 1;
 
 fn renamed_anew(file: &Path, name: &Path) -> io::Result<()> {
     let (file, name) = (c_path(file)?, c_path(name)?);
-    // Sound: both are C strings that live until it returns.
+    // SAFETY: both are C strings that live until it returns.
     let status = unsafe {
         renameat2(
             CURRENT_FOLDER,

@@ -1,6 +1,6 @@
 //! The files beside a netlist's page, in the folder `files`: its text, its rendering, and that in the forms for other tools. Of a netlist
-//! that is refused for its loops the forms are of the original, its loops kept. The two texts end with `.txt`, so that no audit of a folder
-//! above takes them for an entry of a catalogue, and a browser shows them.
+//! that is refused for its loops the forms are of the original, its loops kept. The texts and the table of cells end with `.txt`, so that no audit
+//! of a folder above takes them for an entry of a catalogue, and a browser shows them.
 
 use super::entry::Entry;
 use super::html::escaped;
@@ -23,11 +23,14 @@ pub struct Beside {
 impl Beside {
     /// Whether it says what the netlist says, if it is in a form for other tools; else an error in words.
     pub fn looked_at(&self, entry: &Entry) -> Result<(), String> {
-        let language = match self.name.rsplit_once('.') {
-            Some((_, "v")) => Language::Verilog,
-            Some((_, "blif")) => Language::Blif,
-            Some((_, "cells")) => Language::Cells,
-            _ => return Ok(()),
+        let languages = [
+            (".v", Language::Verilog),
+            (".blif", Language::Blif),
+            (".cells.txt", Language::Cells),
+        ];
+        let ends = |(ending, _): &&(&str, Language)| self.name.ends_with(ending);
+        let Some(&(_, language)) = languages.iter().find(ends) else {
+            return Ok(());
         };
         let form = Form {
             loops: entry.rendering.is_err(),
@@ -54,7 +57,7 @@ pub fn files(entry: &Entry) -> Vec<Beside> {
             files.push(file("out.txt", "rendering", rendering.write().into_bytes()));
             files.push(file("v", "Verilog", in_verilog(rendering, &labels)));
             files.push(file("blif", "BLIF", blif(rendering, labels).into_bytes()));
-            files.extend(cells.map(|cells| file("cells", "cells", cells.into_bytes())));
+            files.extend(cells.map(|cells| file("cells.txt", "cells", cells.into_bytes())));
         }
         (Ok(block), Err(_)) => {
             let labels = labels(entry, true);
