@@ -50,7 +50,7 @@ chmod +x target/driver/release/unloop-files
 
 /// Six crates, four of which the program needs and three the library.
 const CRATES: &str =
-    "# NAME: what it is built on\nlaws:\nunloop: prelude words netlist io\nnetlist: prelude\n\
+    "# NAME: what it is built on\nprelude:\nunloop: prelude words netlist io\nnetlist: prelude\n\
     words: prelude netlist # not in rt's order\nexports: prelude netlist\nbench: prelude\n";
 
 /// A repository with nothing built, its sources two hours old.
