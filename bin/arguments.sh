@@ -1,15 +1,27 @@
 # Sourced by bin/unloop where something has to be built: looks at the words of the command line first, since nobody should wait minutes for the
-# answer to a mistake. The options are those that usage.txt lists; what goes with what is the driver's matter (options.rs).
+# answer to a mistake. The options are those that usage.txt lists; what goes with what is the driver's matter (options.rs). completions.sh has the
+# same list from here.
 usage=$root/rust/src/bin/unloop-files/usage.txt
 
-# Of each option what it needs, as DIR, or nothing.
-declare -A needed
+# Of each option what it needs, as DIR, or nothing; of each long one its text and its short form; and the long ones in their order.
+declare -A needed told short
+long_options=()
 read_options() {
-  local line listed='^  ((-[a-zA-Z]), )?(--[a-z-]+)( ([A-Z]+))?( |$)'
+  local line option='' text listed='^  ((-[a-zA-Z]), )?(--[a-z-]+)(.*)' needs='^ ([A-Z]+)( +(.*)|$)' indented='^ {14}(.*)'
   while IFS= read -r line; do
-    [[ $line =~ $listed ]] || continue
-    needed[${BASH_REMATCH[3]}]=${BASH_REMATCH[5]}
-    if [[ -n ${BASH_REMATCH[2]} ]]; then needed[${BASH_REMATCH[2]}]=${BASH_REMATCH[5]}; fi
+    if [[ $line =~ $listed ]]; then
+      option=${BASH_REMATCH[3]} text=${BASH_REMATCH[4]}
+      long_options+=("$option")
+      short[$option]=${BASH_REMATCH[2]}
+      needed[$option]=
+      if [[ $text =~ $needs ]]; then needed[$option]=${BASH_REMATCH[1]} text=${BASH_REMATCH[3]}; fi
+      told[$option]=${text#"${text%%[! ]*}"}
+      if [[ -n ${short[$option]} ]]; then needed[${short[$option]}]=${needed[$option]}; fi
+    elif [[ -n $option && $line =~ $indented ]]; then
+      told[$option]+="${told[$option]:+ }${BASH_REMATCH[1]}"
+    else
+      option=
+    fi
   done <"$usage"
 }
 
@@ -45,7 +57,8 @@ look_at() {
     case $option in
       -h | --help) exec cat "$usage" ;;
       -V | --version) exec sed -n 's/^version = "\(.*\)"/unloop \1/p' "$root/rust/Cargo.toml" ;;
-      --sheet | --run-cells | --check) [[ $value == all && $option != --check ]] || readable+=("$value") ;;
+      --sheet | --run-cells) [[ $value == all ]] || readable+=("$value") ;;
+      --check | --check-cells | --never) readable+=("$value") ;;
       --audit) given=entries ;;
       --store)
         [[ -d $value ]] || fail "$value: No such file or directory"
@@ -58,7 +71,7 @@ look_at() {
     case $given in
       files) look_at_path "$path" ;;
       entries) # folders too, and files of an entry that are gone
-        [[ -e $path || $path == *.@(net|out|cover) ]] || fail "$path: No such file or directory"
+        [[ -e $path || $path == *.@(net|out|cover|cells) ]] || fail "$path: No such file or directory"
         ;;
     esac
   done

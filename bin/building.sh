@@ -5,12 +5,10 @@ program=$root/target/bin/unloop
 library=$root/target/staticlib/libexports.a
 driver=$root/target/driver/release/unloop-files
 kit=$(rt version 2>/dev/null || true)
+unset UNLOOP_LIBRARY # for tests alone: the driver is linked with what ships
 source "$root/bin/progress.sh"
 
-fail() {
-  printf '%s: %s\n' "$command" "${1//[[:cntrl:]]/?}" >&2
-  exit 2
-}
+source "$root/bin/telling.sh"
 
 # Whether a result is missing, older than one of its sources, or made by another kit than the one that is here. A build that finds nothing to
 # do leaves its result old, so the stamp of the last build counts as well; it names the kit, unless rt was run by hand.

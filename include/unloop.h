@@ -1,4 +1,4 @@
-/* unloop: takes loops out of gate netlists. The static library of the proved crate `exports`, for x86-64 Linux.
+/* unloop: takes loops out of gate netlists. The library of the proved crate `exports`, static or shared, for x86-64 Linux.
 
    Each function keeps its operation's promise for every argument, and none has a condition but those on slices and stack below. What an operation
    answers is defined in docs/SPECIFICATION.md, section 7.
@@ -116,7 +116,7 @@ unloop_reply unloop_pass(const uint16_t *block, size_t block_length, const uint8
 unloop_reply unloop_sheet(const uint16_t *block, size_t block_length, unloop_record *records, size_t records_length);
 
 /* Verdict: count: settled settings, where every output is 0 or 1; detail: the number of the lowest other, or 2^n if none. A setting that a never
-   line excludes is neither counted nor told. 6. Stack: 32 KiB. */
+   line excludes is neither counted nor told. 6. Stack: 64 KiB. */
 unloop_reply unloop_verdict(const uint16_t *block, size_t block_length);
 
 /* Cover: the minimal partial assignments under which every setting that may come is settled, ascending. Two words an entry: the mask of the inputs
@@ -134,7 +134,7 @@ unloop_reply unloop_render(const uint16_t *block, size_t block_length, uint16_t 
 /* Compare: is a straight block made elsewhere as good as ours? Accepted: count and detail 0. Else detail: the number of the lowest
    settled setting of ours under which an output shows another value; count: the lowest such output, from 0, plus 1.
    Settings that ours excludes do not count; the never lines of theirs play no part.
-   6 (either block), 10 (theirs), 12 (other input names or ports, or another order). Stack: 64 KiB. */
+   6 (either block), 10 (theirs), 12 (other input names or ports, or another order). Stack: 128 KiB. */
 unloop_reply unloop_compare(const uint16_t *ours, size_t ours_length, const uint16_t *theirs, size_t theirs_length);
 
 /* CompareCells: are cells made elsewhere, legal for the block's n inputs as Run has it, as good as the block? The list has a word for each output:

@@ -1,9 +1,12 @@
-//! Links the proved library, which `rt staticlib exports` makes.
+//! Links the proved library, which `rt staticlib exports` makes; or another build of it, from the folder that UNLOOP_LIBRARY names (tests/levels).
 
-use std::path::Path;
+use std::env;
+use std::path::{Path, PathBuf};
 
 fn main() {
-    let folder = Path::new(env!("CARGO_MANIFEST_DIR")).join("../target/staticlib");
+    let made = Path::new(env!("CARGO_MANIFEST_DIR")).join("../target/staticlib");
+    println!("cargo::rerun-if-env-changed=UNLOOP_LIBRARY");
+    let folder = env::var_os("UNLOOP_LIBRARY").map_or(made, PathBuf::from);
     let library = folder.join("libexports.a");
     println!("cargo::rerun-if-changed={}", library.display());
     if !library.exists() {

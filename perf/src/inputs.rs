@@ -1,7 +1,8 @@
 //! What the operations are measured on.
 
-use crate::operations::Two;
+use crate::operations::{Two, WithCells};
 use simulator::block::{Block, Gate, Kind, Source};
+use simulator::compare::cells::list_of;
 use simulator::executed::root;
 use simulator::generate::{for_typical_blocks, large, long_texts, longest_written, widest_cover};
 use simulator::limits::{BLOCK_WORDS, CELL_WORDS, GATES, OLD_INPUTS, TEXT_BYTES, WRITTEN_BYTES};
@@ -83,6 +84,14 @@ pub fn cells_of(words: &[u16]) -> Vec<u16> {
 pub fn with_renderings(largest: &[&str]) -> Vec<Set<Two>> {
     mapped(blocks(largest), |words| {
         rendered(&words).map(|rendered| (words, rendered))
+    })
+}
+
+/// Blocks with the cells of what Render makes of them, and the nodes that show the outputs there.
+pub fn with_cells(largest: &[&str]) -> Vec<Set<WithCells>> {
+    mapped(with_renderings(largest), |(words, rendered)| {
+        let shown = list_of(&Block::from_words(&rendered));
+        Some((words, cells_of(&rendered), shown))
     })
 }
 

@@ -93,6 +93,7 @@ fn measure_results(print: fn(&Line)) {
         "half-excluded",
     ];
     measure(print, COMPARE, inputs::with_renderings(&rendered));
+    measure(print, COMPARE_CELLS, inputs::with_cells(&rendered));
 }
 
 fn measure_orders(print: fn(&Line)) {

@@ -149,6 +149,17 @@ pub const COMPARE: Operation<Two, u16> = Operation {
     plain: |(ours, theirs), _| plain::compare(ours, theirs),
 };
 
+/// A block's words, cells, and the node of each output.
+pub type WithCells = (Vec<u16>, Vec<u16>, Vec<u16>);
+
+pub const COMPARE_CELLS: Operation<WithCells, u16> = Operation {
+    name: "compare-cells",
+    room: 0,
+    filler: 0,
+    library: |(ours, cells, shown), _| raw::compare_cells(ours, cells, shown),
+    plain: |(ours, cells, shown), _| plain::compare_cells(ours, cells, shown),
+};
+
 /// The list of old numbers stands behind the block.
 pub const GATHER: OnBlock = Operation {
     name: "gather",

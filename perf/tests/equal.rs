@@ -2,11 +2,12 @@
 
 use perf::plain;
 use simulator::block::Block;
+use simulator::compare::cells::list_of;
 use simulator::generate::{
-    about_1024_copies, bad_orders, bench_input, cell_setting, for_blocks, for_texts,
-    for_typical_blocks, foreign_cells, malformed, malformed_before, malformed_cells, mutant,
-    near_a_limit, odd_bench_input, order, spoiled, strange_never, stranger, widest_cover, Change,
-    Random, Report, Size,
+    about_1024_copies, bad_orders, bench_input, cell_setting, changed_tables, for_blocks,
+    for_texts, for_typical_blocks, foreign_cells, malformed, malformed_before, malformed_cells,
+    mutant, near_a_limit, odd_bench_input, order, spoiled, strange_never, strange_tables, stranger,
+    widest_cover, Change, Random, Report, Size,
 };
 use simulator::limits::{GATES, INPUTS};
 use simulator::render::copied;
@@ -150,6 +151,13 @@ fn held_pair(ours: &[u16], theirs: &[u16]) -> usize {
     told.count
 }
 
+fn held_table(ours: &[u16], cells: &[u16], list: &[u16]) -> usize {
+    let told = Answer::from(plain::compare_cells(ours, cells, list));
+    let expected = simulator::compared_cells(ours, cells, list);
+    assert_eq!(told, expected, "{ours:?} with {cells:?}, {list:?}");
+    told.count
+}
+
 fn held_block(random: &mut Random, words: &[u16]) {
     held_words(words);
     held_sheet(random, words, 3);
@@ -255,6 +263,31 @@ fn pairs() {
     for_blocks(0..600, Size::SMALL, &mut compare);
     for_typical_blocks(0..20, &mut compare);
     assert!(differ > 300, "{differ}");
+}
+
+/// Tables of cells, right ones, ones with a change and strange ones.
+#[test]
+fn tables() {
+    let mut differ = 0;
+    let mut compare = |random: &mut Random, block: &Block, words: &[u16]| {
+        let straight = copied(block);
+        if straight.gates.len() > GATES {
+            return;
+        }
+        let (n, list) = (block.inputs.len(), list_of(&straight));
+        let cells = simulator::cells(&straight.to_words(), usize::MAX).1;
+        assert_eq!(held_table(words, &cells, &list), 0);
+        for (cells, list) in changed_tables(random, n, &cells, &list) {
+            differ += usize::from(held_table(words, &cells, &list) > 0);
+        }
+        for (cells, list) in strange_tables(random, n, &cells, &list) {
+            held_table(words, &cells, &list);
+        }
+        held_table(&words[1..], &cells, &list);
+    };
+    for_blocks(0..600, Size::SMALL, &mut compare);
+    for_typical_blocks(0..20, &mut compare);
+    assert!(differ > 200, "{differ}");
 }
 
 #[test]

@@ -97,6 +97,7 @@ fn what_is_measured_is_not_refused() {
     taken(CELLS, inputs::straight(&["straight-chain"]));
     taken(RUN, inputs::cells(&["straight-chain"]));
     taken(COMPARE, inputs::with_renderings(&["ring-of-1024"]));
+    taken(COMPARE_CELLS, inputs::with_cells(&["straight-fours"]));
     taken(SCATTER, inputs::gathered(&["shuffled-ring"]));
     taken(SHEET, sheets::pages(&["ring-of-1024"]));
 }

@@ -1,12 +1,12 @@
 //! An entry of a catalogue: an original, and three facts that are stored beside it: its rendering (or its refusal), its never lines and its
 //! cover. Do they still hold? Judged by Read, Render, Compare and Cover; only the lines of the stored cover are read here.
 //!
-//! A table of cells may stand beside them too. It is no fact yet: what CompareCells says of it belongs into [`Audit`] and [`audit`].
+//! A table of cells may stand beside them too, made here or elsewhere: a fourth fact, judged by CompareCells.
 
 mod names;
 mod stored;
 
-use crate::{Assignment, Block, Disagreement, Refusal};
+use crate::{Assignment, Block, CellTable, Disagreement, Refusal};
 pub use names::Names;
 use std::collections::{BTreeSet, HashSet};
 pub use stored::{cover_text, entry_lines};
@@ -127,7 +127,22 @@ pub enum Cover {
     Entries,
 }
 
-/// All three, and how the pins and ports are others than those that are stored.
+/// What became of a stored table of cells.
+#[derive(Debug, Clone, PartialEq, Eq)]
+pub enum Table {
+    /// CompareCells accepts it.
+    Holds,
+    /// It shows another value somewhere.
+    Differs(Disagreement),
+    /// It is no table, and why.
+    Illegible(String),
+    /// It has other inputs or ports than the original has pins and ports; these are the table's.
+    Strangers { pins: Names, ports: Names },
+    /// The original can't be read any more.
+    Original(Refusal),
+}
+
+/// All of them, and how the pins and ports are others than those that are stored.
 #[derive(Debug, Clone, PartialEq, Eq)]
 pub struct Audit {
     /// Against the stored rendering's; where none is stored, those that the stored cover names and that are gone.
@@ -136,13 +151,75 @@ pub struct Audit {
     pub rendering: Rendering,
     pub never: Never,
     pub cover: Cover,
+    /// None where no table of cells is stored.
+    pub cells: Option<Table>,
 }
 
 impl Audit {
     pub fn holds(&self) -> bool {
+        self.netlist_holds() && self.cells_hold()
+    }
+
+    /// Whether the rendering, the never lines and the cover hold.
+    pub fn netlist_holds(&self) -> bool {
         self.rendering == Rendering::Holds
             && self.never == Never::Holds
             && self.cover == Cover::Holds
+    }
+
+    /// Whether the table of cells holds, if one is stored.
+    pub fn cells_hold(&self) -> bool {
+        self.cells
+            .as_ref()
+            .is_none_or(|cells| *cells == Table::Holds)
+    }
+
+    /// The same with a stored table of cells, NAME.cells, where it is there.
+    ///
+    /// ```
+    /// # use unloop::audit::{audit, Table};
+    /// let original = b"(in a)\n(in b)\n(gate p (and a q))\n(gate q (or b p))\n(out y q)\n";
+    /// let cells = |cells: &[u8]| audit(original, None, None).with_cells(original, Some(cells)).cells;
+    /// assert_eq!(cells(b"# inputs 2 a b\n# outputs 1\n# output y 1\n"), Some(Table::Holds));
+    /// assert!(matches!(cells(b"# inputs 2 a b\n# outputs 1\n# output y 0\n"), Some(Table::Differs(_))));
+    /// assert!(matches!(cells(b"# inputs 2 a c\n# outputs 1\n# output y 0\n"), Some(Table::Strangers { .. })));
+    /// assert_eq!(cells(b""), Some(Table::Illegible("no line '# inputs NUMBER NAME ...'".to_string())));
+    /// ```
+    pub fn with_cells(mut self, original: &[u8], cells: Option<&[u8]>) -> Audit {
+        self.cells = cells.map(|cells| judged(original, cells));
+        self
+    }
+}
+
+/// What CompareCells says of a table.
+fn judged(original: &[u8], cells: &[u8]) -> Table {
+    let block = match Block::read(original) {
+        Ok(block) => block,
+        Err(refusal) => return Table::Original(refusal),
+    };
+    let table = match CellTable::read(&String::from_utf8_lossy(cells)) {
+        Ok(table) => table,
+        Err(error) => return Table::Illegible(error.to_string()),
+    };
+    match block.compare_table(&table) {
+        Ok(None) => Table::Holds,
+        Ok(Some(found)) => Table::Differs(found),
+        Err(_) => {
+            let ports: Vec<String> = table
+                .outputs()
+                .iter()
+                .map(|(port, _)| port.clone())
+                .collect();
+            // Of a table the names count, in whatever order they stand.
+            let between = |theirs: &[String], ours: &[String]| Names {
+                reordered: false,
+                ..Names::between(theirs, ours)
+            };
+            Table::Strangers {
+                pins: between(table.inputs(), &block.input_names()),
+                ports: between(&ports, &block.output_names()),
+            }
+        }
     }
 }
 
@@ -175,6 +252,7 @@ pub fn audit(original: &[u8], out: Option<&[u8]>, cover: Option<&[u8]>) -> Audit
         rendering,
         never: Never::Holds,
         cover: Cover::Holds,
+        cells: None,
     };
     match (&block, cover) {
         (Err(_), None) => {}

@@ -5,6 +5,9 @@ mod flat;
 mod lines;
 mod reader;
 
+pub(crate) use flat::{Placed, Placement};
+pub(crate) use lines::logical_lines;
+
 use std::fmt;
 
 /// Why a file or a model is not read: the line, from 1, and what is wrong with it.
@@ -89,6 +92,8 @@ pub struct Instance {
 pub struct Latch {
     pub input: Net,
     pub output: Net,
+    /// The net of its clock.
+    pub control: Option<Net>,
     pub rest: Vec<String>,
     pub line: usize,
 }

@@ -1,8 +1,10 @@
 //! Cells as a table of decimal words for a board's filler, and back. What stands behind a `#` is a comment to a filler; some comments
 //! tell the names here: `# inputs N NAME ...` at the head, `# outputs N` and `# output PORT NODE` at the end; before each cell stands its gate.
 
+use crate::gate::ZERO;
 use crate::limits::{CELL_WORDS, INPUTS};
-use crate::{Block, Cells, Labels, Names, Refusal};
+use crate::{Block, Cells, Disagreement, Labels, ModuleName, Names, Refusal};
+use std::collections::HashSet;
 use std::fmt;
 
 const INPUTS_WORD: &str = "inputs";
@@ -90,25 +92,72 @@ impl std::error::Error for RowError {}
 pub fn cell_table(block: &Block, labels: impl Into<Labels>) -> Result<String, Refusal> {
     let mut labels = labels.into();
     labels.names = Names::default();
-    let cells = block.cells()?;
-    let inputs = [vec![cells.inputs().to_string()], block.input_names()].concat();
-    let mut lines = vec![format!("# cells {} {}", labels.module, block.gates())];
-    let comments = labels.comments(block).into_iter();
-    lines.extend(comments.map(|line| format!("# {line}")));
-    lines.push(format!("# {INPUTS_WORD} {}", inputs.join(" ")));
+    let table = CellTable::of(block)?;
     let gates = block.gate_list();
-    for (number, words) in cells.words().chunks(CELL_WORDS).enumerate() {
-        let decimal: Vec<String> = words.iter().map(u16::to_string).collect();
+    let told = gates.iter().enumerate().map(|(number, gate)| {
         // A gate that is called as a line which tells names would be taken for one.
         let own = labels.gate(number).filter(|name| !WORDS.contains(name));
         let name = own.map_or_else(|| format!("_{number}"), str::to_string);
-        lines.push(format!("# {name} {}", gates[number].kind.word()));
-        lines.push(decimal.join(" "));
+        format!("{name} {}", gate.kind.word())
+    });
+    let told: Vec<String> = told.collect();
+    Ok(table.lines(&labels.module, &labels.comments(block), &told))
+}
+
+impl CellTable {
+    /// The cells of a block in which no gate reads itself or a gate behind it, with its pins and ports.
+    pub fn of(block: &Block) -> Result<CellTable, Refusal> {
+        let ports = block.output_names().into_iter().zip(block.nodes_shown());
+        Ok(CellTable {
+            cells: block.cells()?,
+            inputs: block.input_names(),
+            outputs: ports.collect(),
+        })
     }
-    lines.push(format!("# {OUTPUTS_WORD} {}", block.outputs()));
-    let ports = block.output_names().into_iter().zip(block.nodes_shown());
-    lines.extend(ports.map(|(port, node)| format!("# {OUTPUT_WORD} {port} {node}")));
-    Ok(lines.join("\n") + "\n")
+
+    /// Cells made elsewhere over a block's pins, with the node that each of its ports is to show.
+    pub(crate) fn over(block: &Block, cells: Cells, shown: Vec<usize>) -> CellTable {
+        CellTable {
+            cells,
+            inputs: block.input_names(),
+            outputs: block.output_names().into_iter().zip(shown).collect(),
+        }
+    }
+
+    /// The table as it is written: comments at its head, and before each cell its number and how many operands it has.
+    ///
+    /// ```
+    /// # use unloop::{module_name, CellTable};
+    /// let table = CellTable::read("# inputs 2 a b\n0 1 65534 65534 4369\n# outputs 1\n# output y 2\n").unwrap();
+    /// let text = table.written(&module_name("m"), &["made by hand".to_string()]);
+    /// assert_eq!(text, "# cells m 1\n# made by hand\n# inputs 2 a b\n# _0 lookup 2\n0 1 65534 65534 4369\n# outputs 1\n# output y 2\n");
+    /// ```
+    pub fn written(&self, module: &ModuleName, comments: &[String]) -> String {
+        let cells = self.cells.words().chunks(CELL_WORDS).enumerate();
+        let told = cells.map(|(number, words)| {
+            let operands = words[..CELL_WORDS - 1].iter();
+            let count = operands.filter(|&&word| word < ZERO).count();
+            format!("_{number} lookup {count}")
+        });
+        self.lines(module, comments, &told.collect::<Vec<String>>())
+    }
+
+    /// The text, with a comment before each cell.
+    fn lines(&self, module: &ModuleName, comments: &[String], told: &[String]) -> String {
+        let mut lines = vec![format!("# cells {module} {}", told.len())];
+        lines.extend(comments.iter().map(|line| format!("# {line}")));
+        let inputs = [vec![self.inputs.len().to_string()], self.inputs.clone()].concat();
+        lines.push(format!("# {INPUTS_WORD} {}", inputs.join(" ")));
+        for (words, told) in self.cells.words().chunks(CELL_WORDS).zip(told) {
+            let decimal: Vec<String> = words.iter().map(u16::to_string).collect();
+            lines.push(format!("# {told}"));
+            lines.push(decimal.join(" "));
+        }
+        lines.push(format!("# {OUTPUTS_WORD} {}", self.outputs.len()));
+        let ports = self.outputs.iter();
+        lines.extend(ports.map(|(port, node)| format!("# {OUTPUT_WORD} {port} {node}")));
+        lines.join("\n") + "\n"
+    }
 }
 
 impl CellTable {
@@ -146,11 +195,75 @@ impl CellTable {
         &self.outputs
     }
 
+    /// How many cells there are.
+    pub fn count(&self) -> usize {
+        self.cells.words().len() / CELL_WORDS
+    }
+
     /// The ports' values, from one value an input, by the library's Run.
     pub fn shown(&self, setting: &[bool]) -> Result<Vec<bool>, Refusal> {
         let mut nodes = setting.to_vec();
         nodes.extend(self.cells.run(setting)?);
         Ok(self.outputs.iter().map(|(_, node)| nodes[*node]).collect())
+    }
+}
+
+impl CellTable {
+    /// The cells with these pins as their inputs, in this order, and the node of each of these ports: none where the table's inputs or ports
+    /// have other names. Inputs that are called by their numbers are the pins in order.
+    pub fn arranged(&self, pins: &[String], ports: &[String]) -> Option<(Cells, Vec<usize>)> {
+        let unnamed = self
+            .inputs
+            .iter()
+            .zip(0..)
+            .all(|(name, number)| *name == number.to_string());
+        let numbered: Vec<String> = (0..pins.len()).map(|pin| pin.to_string()).collect();
+        let pins = if unnamed { &numbered } else { pins };
+        let pin = places(&self.inputs, pins)?;
+        let names: Vec<String> = self.outputs.iter().map(|(port, _)| port.clone()).collect();
+        let inputs = self.inputs.len();
+        let moved = |node: usize| if node < inputs { pin[node] } else { node };
+        let mut words = self.cells.words().to_vec();
+        for cell in words.chunks_mut(CELL_WORDS) {
+            for operand in &mut cell[..CELL_WORDS - 1] {
+                *operand = u16::try_from(moved((*operand).into())).unwrap_or(*operand);
+            }
+        }
+        let cells = Cells::from_words(inputs, words).ok()?;
+        let mut shown = vec![0; ports.len()];
+        for (output, port) in places(&names, ports)?.into_iter().enumerate() {
+            shown[port] = moved(self.outputs[output].1);
+        }
+        Some((cells, shown))
+    }
+}
+
+/// Where each name stands among the others, which must be the same ones, each once.
+fn places(names: &[String], others: &[String]) -> Option<Vec<usize>> {
+    let place = |name: &String| others.iter().position(|other| other == name);
+    let places: Vec<usize> = names.iter().map(place).collect::<Option<_>>()?;
+    let distinct: HashSet<&usize> = places.iter().collect();
+    (distinct.len() == others.len() && places.len() == others.len()).then_some(places)
+}
+
+impl Block {
+    /// Whether a table of cells is as good as this block, by CompareCells: its inputs and ports are taken by their names, in whatever order
+    /// they stand. `None`: it is accepted.
+    ///
+    /// ```
+    /// # use unloop::{Block, CellTable, Disagreement, Refusal};
+    /// let block = Block::read("(in a)\n(in b)\n(gate p (and a q))\n(gate q (or b p))\n(out y q)\n(out z b)\n")?;
+    /// let table = |lines: &str| CellTable::read(&format!("# inputs 2 b a\n# outputs 2\n{lines}")).unwrap();
+    /// assert_eq!(block.compare_table(&table("# output z 0\n# output y 0\n"))?, None);
+    /// let differs = block.compare_table(&table("# output z 1\n# output y 0\n"))?;
+    /// assert_eq!(differs, Some(Disagreement { setting: 2, output: 1 }));
+    /// assert_eq!(block.compare_table(&table("# output z 0\n# output x 0\n")), Err(Refusal::InterfaceMismatch));
+    /// # Ok::<(), Refusal>(())
+    /// ```
+    pub fn compare_table(&self, table: &CellTable) -> Result<Option<Disagreement>, Refusal> {
+        let arranged = table.arranged(&self.input_names(), &self.output_names());
+        let (cells, shown) = arranged.ok_or(Refusal::InterfaceMismatch)?;
+        self.compare_cells(&cells, &shown)
     }
 }
 

@@ -1,132 +1,187 @@
-//! How many gates a rendering would have (SPECIFICATION 6.1): each group is copied as often as a setting that may come needs for its settled
-//! values. For messages, where the library only says that there are too many; 64 settings at a time.
+//! How often each gate is copied in a rendering (SPECIFICATION 6.1): a group as often as a setting that may come needs for its settled
+//! values, 64 settings at a time. So it is told by how much a rendering is too large, of which gate each gate of it is a copy, and which
+//! order of gates needs fewer copies.
 
-use crate::{Block, Gate, Kind, Operand};
+use crate::lanes::{evaluated, Lanes, LANES};
+use crate::{Block, Gate, Operand, Value};
 
-/// The settings of a word.
-const LANES: usize = 64;
-
-/// What is known of a value under each of 64 settings; neither bit: undefined.
-#[derive(Clone, Copy, PartialEq, Eq, Default)]
-struct Lanes {
-    zero: u64,
-    one: u64,
-}
-
-impl Lanes {
-    fn of(ones: u64) -> Lanes {
-        Lanes {
-            zero: !ones,
-            one: ones,
-        }
-    }
-
-    fn inverted(self) -> Lanes {
-        Lanes {
-            zero: self.one,
-            one: self.zero,
-        }
-    }
-
-    fn and(self, other: Lanes) -> Lanes {
-        Lanes {
-            zero: self.zero | other.zero,
-            one: self.one & other.one,
-        }
-    }
-
-    fn xor(self, other: Lanes) -> Lanes {
-        Lanes {
-            zero: self.zero & other.zero | self.one & other.one,
-            one: self.zero & other.one | self.one & other.zero,
-        }
-    }
+/// Of a gate of a rendering: the gate that it is a copy of, and in which of its group's passes.
+#[derive(Debug, Clone, Copy, PartialEq, Eq)]
+pub struct Copied {
+    pub gate: usize,
+    /// From 1 on.
+    pub pass: usize,
+    pub passes: usize,
 }
 
 /// The sum over all groups of gates times passes.
 pub fn copies(block: &Block) -> usize {
-    let gates = block.gate_list();
-    let groups = block.groups();
-    let mut members = vec![Vec::new(); groups.count];
-    for (gate, &group) in groups.of_gates.iter().enumerate() {
-        members[usize::from(group)].push(gate);
-    }
-    let mut passes = vec![1; groups.count];
-    for first in (0..1 << block.inputs()).step_by(LANES) {
-        let (inputs, come) = word(block, first);
-        let mut values = vec![Lanes::default(); gates.len()];
-        for (group, members) in members.iter().enumerate() {
-            let needed = settled(&gates, members, &inputs, &mut values, come);
-            passes[group] = needed.max(passes[group]);
-        }
-    }
-    let sizes = members.iter().map(Vec::len);
-    sizes.zip(passes).map(|(size, passes)| size * passes).sum()
+    Batches::of(block).copies()
 }
 
-/// The inputs under the settings from `first` on, and which of these there are and may come.
-fn word(block: &Block, first: usize) -> (Vec<Lanes>, u64) {
-    let nevers = block.never_lines();
-    let mask = |holds: &dyn Fn(usize) -> bool| {
-        (0..LANES)
-            .filter(|&lane| holds(first + lane))
-            .map(|lane| 1 << lane)
-            .sum()
-    };
-    let inputs =
-        (0..block.inputs()).map(|input| Lanes::of(mask(&|setting| setting >> input & 1 == 1)));
-    let comes = |setting: usize| {
-        setting < 1 << block.inputs() && !nevers.iter().any(|never| never.agrees(setting))
-    };
-    (inputs.collect(), mask(&comes))
+/// What each gate of the rendering is a copy of, in order: group after group, its gates ascending in each pass.
+///
+/// ```
+/// # use unloop::{schedule, Block, Copied, Refusal};
+/// let block = Block::read("(in s)\n(gate p (and s q))\n(gate q (or s p))\n(out y q)\n")?;
+/// let copied = |gate, pass| Copied { gate, pass, passes: 2 };
+/// assert_eq!(schedule(&block), [copied(0, 1), copied(1, 1), copied(0, 2), copied(1, 2)]);
+/// # Ok::<(), Refusal>(())
+/// ```
+pub fn schedule(block: &Block) -> Vec<Copied> {
+    let mut copies = Vec::new();
+    for (members, passes) in Batches::of(block).groups {
+        for pass in 1..=passes {
+            let copied = |&gate: &usize| Copied { gate, pass, passes };
+            copies.extend(members.iter().map(copied));
+        }
+    }
+    copies
 }
 
-/// Settles a group's gates, in order and in place, and counts the passes that changed one under a setting that counts.
-fn settled(
-    gates: &[Gate],
-    members: &[usize],
-    inputs: &[Lanes],
-    values: &mut [Lanes],
-    counts: u64,
-) -> usize {
-    let (mut passes, mut last) = (0, 0);
-    loop {
-        let (mut changed, mut counted) = (false, false);
-        passes += 1;
-        for &gate in members {
-            let value = evaluated(&gates[gate], inputs, values);
-            let new = (value.zero | value.one) & !(values[gate].zero | values[gate].one);
-            changed |= new != 0;
-            counted |= new & counts != 0;
-            values[gate] = value;
+/// Up to 64 settings at a time: all settings of a block, and what its gates settle to under them.
+pub(crate) struct Batches {
+    all: Vec<Batch>,
+    /// The gates of each group, and the passes that it needs.
+    groups: Vec<(Vec<usize>, usize)>,
+}
+
+struct Batch {
+    inputs: Vec<Lanes>,
+    /// The settings that there are and that may come.
+    come: u64,
+    values: Vec<Lanes>,
+}
+
+impl Batches {
+    pub fn of(block: &Block) -> Batches {
+        let gates = block.gate_list();
+        let found = block.groups();
+        let mut groups = vec![(Vec::new(), 1); found.count];
+        for (gate, &group) in found.of_gates.iter().enumerate() {
+            groups[usize::from(group)].0.push(gate);
         }
-        if counted {
-            last = passes;
+        let mut all = Vec::new();
+        for first in (0..1 << block.inputs()).step_by(LANES) {
+            let mut batch = Batch::of(block, first);
+            for (members, passes) in &mut groups {
+                let mut needed = Count::below(usize::MAX);
+                batch.settle(&gates, members, &mut needed);
+                *passes = needed.last.max(*passes);
+            }
+            all.push(batch);
         }
-        if !changed {
-            return last;
+        Batches { all, groups }
+    }
+
+    /// The gates of the rendering as the gates stand.
+    pub fn copies(&self) -> usize {
+        let groups = self.groups.iter();
+        groups.map(|(members, passes)| members.len() * passes).sum()
+    }
+
+    /// The gates of each group, ascending, and the passes that it needs as they stand.
+    pub fn groups(&self) -> &[(Vec<usize>, usize)] {
+        &self.groups
+    }
+
+    /// The passes that a group needs with its gates in this order, if they are fewer than `most`, and how many gates were evaluated for that.
+    pub fn passes(
+        &mut self,
+        gates: &[Gate],
+        order: &[usize],
+        most: usize,
+    ) -> (Option<usize>, usize) {
+        let (mut needed, mut evaluated) = (1, 0);
+        for batch in &mut self.all {
+            let held: Vec<Lanes> = order.iter().map(|&gate| batch.values[gate]).collect();
+            order
+                .iter()
+                .for_each(|&gate| batch.values[gate] = Lanes::default());
+            let mut count = Count::below(most);
+            batch.settle(gates, order, &mut count);
+            order
+                .iter()
+                .zip(held)
+                .for_each(|(&gate, value)| batch.values[gate] = value);
+            evaluated += count.passes * order.len();
+            needed = count.last.max(needed);
+            if needed >= most {
+                return (None, evaluated);
+            }
+        }
+        (Some(needed), evaluated)
+    }
+}
+
+/// The passes through a group so far, and the last that changed something under a setting that may come; from `most` on no more are made.
+struct Count {
+    passes: usize,
+    last: usize,
+    most: usize,
+}
+
+impl Count {
+    fn below(most: usize) -> Count {
+        Count {
+            passes: 0,
+            last: 0,
+            most,
         }
     }
 }
 
-fn evaluated(gate: &Gate, inputs: &[Lanes], values: &[Lanes]) -> Lanes {
+impl Batch {
+    /// The settings from `first` on, with nothing settled.
+    fn of(block: &Block, first: usize) -> Batch {
+        let nevers = block.never_lines();
+        let mask = |holds: &dyn Fn(usize) -> bool| {
+            (0..LANES)
+                .filter(|&lane| holds(first + lane))
+                .map(|lane| 1 << lane)
+                .sum()
+        };
+        let inputs =
+            (0..block.inputs()).map(|input| Lanes::of(mask(&|setting| setting >> input & 1 == 1)));
+        let comes = |setting: usize| {
+            setting < 1 << block.inputs() && !nevers.iter().any(|never| never.agrees(setting))
+        };
+        Batch {
+            inputs: inputs.collect(),
+            come: mask(&comes),
+            values: vec![Lanes::default(); block.gates()],
+        }
+    }
+
+    /// Settles a group's gates, in order and in place, and counts the passes.
+    fn settle(&mut self, gates: &[Gate], members: &[usize], count: &mut Count) {
+        loop {
+            let (mut changed, mut counted) = (false, false);
+            count.passes += 1;
+            for &gate in members {
+                let value = value_of(&gates[gate], &self.inputs, &self.values);
+                let held = self.values[gate];
+                let new = (value.zero | value.one) & !(held.zero | held.one);
+                changed |= new != 0;
+                counted |= new & self.come != 0;
+                self.values[gate] = value;
+            }
+            if counted {
+                count.last = count.passes;
+            }
+            if !changed || count.last >= count.most {
+                return;
+            }
+        }
+    }
+}
+
+/// What a gate is under the settings of a batch, from the inputs and what the other gates are so far.
+fn value_of(gate: &Gate, inputs: &[Lanes], values: &[Lanes]) -> Lanes {
     let operands = gate.operands.iter().map(|operand| match *operand {
-        Operand::Constant(value) => Lanes::of(if value { u64::MAX } else { 0 }),
+        Operand::Constant(value) => Value::from(value).into(),
         Operand::Input(input) => inputs[input],
         Operand::Gate(gate) => values[gate],
     });
-    let all = operands.clone().fold(Lanes::of(u64::MAX), Lanes::and);
-    let none = operands
-        .clone()
-        .map(Lanes::inverted)
-        .fold(Lanes::of(u64::MAX), Lanes::and);
-    let odd = operands.fold(Lanes::of(0), Lanes::xor);
-    match gate.kind {
-        Kind::And => all,
-        Kind::Nand | Kind::Not => all.inverted(),
-        Kind::Or => none.inverted(),
-        Kind::Nor => none,
-        Kind::Xor => odd,
-        Kind::Xnor => odd.inverted(),
-    }
+    evaluated(gate.kind, operands)
 }

@@ -109,3 +109,15 @@ pub fn gate_names(text: &[u8]) -> Vec<Option<String>> {
     }
     names
 }
+
+/// The number of the line that each gate stands in, from 1 on; an inner gate stands in the line of the gate that reads it.
+///
+/// ```
+/// let text = b"(in a)\n(gate p (and a (not q)))\n(gate q (not p))\n";
+/// assert_eq!(unloop::declarations::gate_rows(text), [2, 2, 3]);
+/// ```
+pub fn gate_rows(text: &[u8]) -> Vec<usize> {
+    let rows = lines(text).zip(1..);
+    let rows = rows.flat_map(|(line, row)| std::iter::repeat_n(row, line.gates()));
+    rows.collect()
+}

@@ -44,7 +44,7 @@ impl Labels {
     }
 
     /// The lines that a file begins with: what it was made from, and the pins that never lines exclude.
-    pub(crate) fn comments(&self, block: &Block) -> Vec<String> {
+    pub fn comments(&self, block: &Block) -> Vec<String> {
         let pins: Vec<String> = block.input_names();
         let pins = pins.into_iter().map(|pin| match self.names.input(&pin) {
             Some(other) => other.to_string(),

@@ -1,11 +1,14 @@
 //! A BLIF model as a netlist text: tables and cells of catalogue/gates.genlib, its loops kept. What a tool made of a rendering is judged by
 //! Compare afterwards, so nothing here is trusted. What a file says is read by `blif_model`, whatever its size.
 
-mod cell;
+pub(crate) mod cell;
 mod drivers;
 mod expression;
 mod naming;
 mod netlist;
+
+pub(crate) use expression::{computed, Expression};
+pub(crate) use netlist::written;
 
 use crate::blif_model::{BlifError, BlifFile, Model};
 use crate::Names;
@@ -42,15 +45,7 @@ pub struct FromBlif {
 /// ```
 pub fn from_blif(text: &str, model: Option<&str>) -> Result<FromBlif, BlifError> {
     let file = BlifFile::read(text)?;
-    let Some(wanted) = file.model(model) else {
-        let names: Vec<&str> = file.models.iter().map(|model| &model.name[..]).collect();
-        let reason = format!(
-            "no model is called {}; there is {}",
-            model.unwrap_or(""),
-            names.join(", ")
-        );
-        return Err(BlifError::at(1, reason));
-    };
+    let wanted = chosen(&file, model)?;
     let size = file.size(wanted)?;
     if size > PARTS {
         let reason = format!("{} has {size} tables and cells in all", wanted.name);
@@ -61,11 +56,35 @@ pub fn from_blif(text: &str, model: Option<&str>) -> Result<FromBlif, BlifError>
     }
     let whole = file.placed(wanted)?;
     refused(&whole)?;
-    let (netlist, names) = netlist::written(&whole)?;
+    let (netlist, names) = written(&whole)?;
     Ok(FromBlif {
         netlist,
         names,
         models: file.models.len(),
+    })
+}
+
+/// The model of a name, or the first.
+pub(crate) fn chosen<'a>(file: &'a BlifFile, name: Option<&str>) -> Result<&'a Model, BlifError> {
+    file.model(name).ok_or_else(|| {
+        let names: Vec<&str> = file.models.iter().map(|model| &model.name[..]).collect();
+        let reason = format!(
+            "no model is called {}; there is {}",
+            name.unwrap_or(""),
+            names.join(", ")
+        );
+        BlifError::at(1, reason)
+    })
+}
+
+/// The lines that nothing is known of, and why they are not read.
+pub(crate) fn unread(model: &Model) -> impl Iterator<Item = (usize, String)> + '_ {
+    model.others.iter().map(|other| {
+        let reason = match &other.word[..] {
+            ".exdc" => ".exdc: conditions that don't matter are never lines of a netlist, to be written by hand".to_string(),
+            word => format!("{word} is not read: a model has .names, .gate and .subckt lines"),
+        };
+        (other.line, reason)
     })
 }
 
@@ -75,13 +94,6 @@ fn refused(model: &Model) -> Result<(), BlifError> {
         let net = &model.nets[latch.output];
         let reason = format!(".latch: {net} keeps a value, and a netlist has no latches");
         (latch.line, reason)
-    });
-    let others = model.others.iter().map(|other| {
-        let reason = match &other.word[..] {
-            ".exdc" => ".exdc: conditions that don't matter are never lines of a netlist, to be written by hand".to_string(),
-            word => format!("{word} is not read: a model has .names, .gate and .subckt lines"),
-        };
-        (other.line, reason)
     });
     let strangers = model
         .subcircuits
@@ -94,7 +106,7 @@ fn refused(model: &Model) -> Result<(), BlifError> {
         );
         (part.line, reason)
     });
-    match latches.chain(others).chain(strangers).min() {
+    match latches.chain(unread(model)).chain(strangers).min() {
         Some((line, reason)) => Err(BlifError::at(line, reason)),
         None => Ok(()),
     }

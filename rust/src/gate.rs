@@ -4,7 +4,7 @@ use crate::limits::{GATE_WORDS, HEAD_WORDS, NAME_WORDS, NEVER_WORDS};
 use crate::Block;
 
 /// The operand word of the constant 0; the next is that of the constant 1.
-const ZERO: u16 = 65_534;
+pub(crate) const ZERO: u16 = 65_534;
 
 /// What a gate computes.
 #[derive(Debug, Clone, Copy, PartialEq, Eq, Hash)]

@@ -21,6 +21,9 @@
 //!
 //! [`raw`] has the library's own functions on lent slices, for callers that allocate nothing; [`limits`] says how much
 //! room is enough.
+//!
+//! What stands on proof and what is tested around it are two modules: [`proved`] and [`tools`]. Everything in them is also
+//! to be found here.
 
 pub mod audit;
 mod blif;
@@ -29,43 +32,35 @@ mod block;
 mod cell_table;
 mod cells;
 mod circle;
+mod conversions;
 mod copies;
 pub mod declarations;
+pub mod design;
 pub mod drawing;
 mod export;
+mod fit;
 mod from_blif;
 mod gate;
 mod gather;
 mod hint;
 pub mod json;
+mod lanes;
 pub mod limits;
 mod location;
 mod names;
+mod opening;
+pub mod orders;
 mod pins;
+pub mod proved;
 pub mod raw;
 mod refusal;
 mod results;
+pub mod second_look;
 mod sheet;
+pub mod tools;
 mod value;
 mod verilog;
 mod visible;
 
-pub use blif::blif;
-pub use block::Block;
-pub use cell_table::{cell_table, CellTable, RowError, TableError};
-pub use cells::Cells;
-pub use circle::circle;
-pub use copies::copies;
-pub use export::{module_name, Labels, ModuleName, OUTPUT_SUFFIX};
-pub use from_blif::{from_blif, FromBlif};
-pub use gate::{Gate, Kind, Operand};
-pub use gather::Gathered;
-pub use hint::hint;
-pub use location::Location;
-pub use names::{Names, NamesError};
-pub use pins::PinsError;
-pub use refusal::Refusal;
-pub use results::{Assignment, Disagreement, Groups, Settled, Verdict};
-pub use value::Value;
-pub use verilog::verilog;
-pub use visible::visible;
+pub use proved::*;
+pub use tools::*;

@@ -1,10 +1,12 @@
-//! The package has the header's numbers, names, rooms, layout, functions and version, and README's version of Rust.
+//! The package has the header's numbers, names, rooms, layout, functions and version, and the version of Rust that docs/CALLING.md tells; the Python
+//! module has the same version, rooms, functions and refusals.
 
 use unloop::{limits, Kind, Refusal};
 
 const HEADER: &str = include_str!("../../include/unloop.h");
 const RAW: &str = include_str!("../src/raw.rs");
-const README: &str = include_str!("../../README.md");
+const CALLING: &str = include_str!("../../docs/CALLING.md");
+const PYTHON: &str = include_str!("../../python/unloop.py");
 
 /// The constants of one of the header's enums, in order, without their prefix.
 fn constants(name: &str) -> Vec<(String, usize)> {
@@ -76,7 +78,7 @@ fn functions() {
     expected.sort_unstable();
     assert_eq!(names(ours, "    fn unloop_"), expected);
     assert_eq!(names(ours, "\npub fn "), expected);
-    assert!(declared.len() == 16 && !HEADER.contains("certified"));
+    assert!(declared.len() == 17 && !HEADER.contains("certified"));
 }
 
 #[test]
@@ -115,5 +117,28 @@ fn layout() {
 #[test]
 fn version_of_rust() {
     let told = format!("From Rust ({} or newer)", env!("CARGO_PKG_RUST_VERSION"));
-    assert!(README.contains(&told), "{told}");
+    assert!(CALLING.contains(&told), "{told}");
+}
+
+#[test]
+fn python_module() {
+    let has = |line: &str| assert!(PYTHON.contains(line), "{line}");
+    has(&format!(
+        "\n__version__ = \"{}\"\n",
+        env!("CARGO_PKG_VERSION")
+    ));
+    for (name, room) in constants("unloop_room") {
+        if !["TEXT_BYTES", "GATES"].contains(&&name[..]) {
+            has(&format!("\n_{name} = {room}\n"));
+        }
+    }
+    let told = 77_777;
+    for refusal in (1..).map_while(|number| Refusal::from_parts(number, told)) {
+        let message = refusal.to_string().replace(&told.to_string(), "{}");
+        let (number, word) = (refusal.number(), refusal.word());
+        has(&format!("\n    {number}: (\"{word}\", \"{message}\"),\n"));
+    }
+    for function in names(HEADER, "\nunloop_reply unloop_") {
+        has(&format!("\"{function}\""));
+    }
 }

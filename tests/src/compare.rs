@@ -1,9 +1,13 @@
 //! The proved library against the simulator: numbers, counts, details, results, and what is left in the lent slices.
 //! A difference panics, and a `Report` tells the input.
 
+pub mod cases;
 pub mod cells;
+pub mod foreign;
 pub mod gather;
+pub mod programs;
 pub mod seeded;
+pub mod sheet;
 pub mod tally;
 
 use crate::block::Block;
@@ -12,7 +16,7 @@ use crate::limits::{BLOCK_WORDS, INPUTS, WRITTEN_BYTES};
 use crate::malformed::is_malformed;
 use crate::Answer;
 use std::fmt::Debug;
-use tally::count;
+use tally::{count, count_answer, Operation};
 use unloop::raw::{self, Reply};
 
 /// Elements on both sides of a lent slice, which no operation may touch.
@@ -35,7 +39,7 @@ fn lent<T: Copy + PartialEq + Debug>(
 
 /// Compares one operation in slices that are exactly long enough, one short, longer and empty.
 fn compare<T: Copy + PartialEq + Debug>(
-    operation: &str,
+    operation: Operation,
     filler: T,
     (told, result): (Answer, Vec<T>),
     run: impl Fn(&mut [T]) -> Reply,
@@ -53,8 +57,8 @@ fn compare<T: Copy + PartialEq + Debug>(
             expected.1[..exact].copy_from_slice(&result);
         }
         let got = lent(room, filler, &run);
-        assert_eq!(got, expected, "{operation} in a slice of {room}");
-        count(|tally| tally.answered[got.0.number] += 1);
+        assert_eq!(got, expected, "{operation:?} in a slice of {room}");
+        count_answer(operation, got.0.number);
     }
 }
 
@@ -63,12 +67,18 @@ pub fn compare_values(words: &[u16], setting: &[u8]) {
     let _report = Report(|| format!("setting {setting:?}"));
     count(|tally| tally.settings += 1);
     let all = usize::MAX;
-    compare("settle", 9, crate::settle(words, setting, all), |values| {
-        raw::settle(words, setting, values)
-    });
-    compare("pass", 9, crate::pass(words, setting, all), |values| {
-        raw::pass(words, setting, values)
-    });
+    compare(
+        Operation::Settle,
+        9,
+        crate::settle(words, setting, all),
+        |values| raw::settle(words, setting, values),
+    );
+    compare(
+        Operation::Pass,
+        9,
+        crate::pass(words, setting, all),
+        |values| raw::pass(words, setting, values),
+    );
 }
 
 /// Compares every operation on a block but Settle and Pass.
@@ -78,18 +88,28 @@ fn compare_words(words: &[u16]) {
     count_lines(words);
     let told = Answer::from(raw::verdict(words));
     assert_eq!(told, crate::verdict(words), "verdict");
-    compare("write", 9, crate::write(words, all), |text| {
+    count_answer(Operation::Verdict, told.number);
+    compare(Operation::Write, 9, crate::write(words, all), |text| {
         raw::write(words, text)
     });
-    compare("groups", 9_999, crate::groups(words, all), |numbers| {
-        raw::groups(words, numbers)
-    });
-    compare("render", 9_999, crate::render(words, all), |rendered| {
-        raw::render(words, rendered)
-    });
-    compare("cover", 9_999, crate::cover(words, all), |entries| {
-        raw::cover(words, entries)
-    });
+    compare(
+        Operation::Groups,
+        9_999,
+        crate::groups(words, all),
+        |numbers| raw::groups(words, numbers),
+    );
+    compare(
+        Operation::Render,
+        9_999,
+        crate::render(words, all),
+        |rendered| raw::render(words, rendered),
+    );
+    compare(
+        Operation::Cover,
+        9_999,
+        crate::cover(words, all),
+        |entries| raw::cover(words, entries),
+    );
     compare_brought(words);
 }
 
@@ -97,9 +117,12 @@ fn compare_words(words: &[u16]) {
 pub fn compare_brought(old: &[u16]) {
     let _report = Report(|| format!("bring of {old:?}"));
     count(|tally| tally.brought += 1);
-    compare("bring", 9_999, crate::bring(old, usize::MAX), |block| {
-        raw::bring(old, block)
-    });
+    compare(
+        Operation::Bring,
+        9_999,
+        crate::bring(old, usize::MAX),
+        |block| raw::bring(old, block),
+    );
 }
 
 /// Counts a well-formed block by its never lines.
@@ -148,7 +171,7 @@ pub fn compare_pair(ours: &[u16], theirs: &[u16]) -> Answer {
     let _report = Report(|| format!("compare {ours:?} with {theirs:?}"));
     let told = Answer::from(raw::compare(ours, theirs));
     assert_eq!(told, crate::foreign::compared(ours, theirs), "compare");
-    count(|tally| tally.answered[told.number] += 1);
+    count_answer(Operation::Compare, told.number);
     told
 }
 
@@ -161,7 +184,7 @@ fn compare_read(text: &[u8], expected: (Answer, Vec<u16>)) {
         let unaltered = vec![9_999; BLOCK_WORDS];
         assert_eq!(lent(BLOCK_WORDS, 9_999, run), (expected.0, unaltered));
     }
-    compare("read", 9_999, expected, run);
+    compare(Operation::Read, 9_999, expected, run);
 }
 
 /// Compares Read with the simulator's.
@@ -182,10 +205,15 @@ pub fn compare_written(words: &[u16]) {
 pub fn compare_lines(text: &[u8]) {
     let _report = Report(|| format!("lines of {}", text.escape_ascii()));
     for place in (0..=text.len() + 2).chain([usize::MAX]) {
-        let expected = crate::line(text, place);
-        assert_eq!(raw::line(text, place), expected, "place {place}");
-        count(|tally| tally.places += 1);
+        compare_line(text, place);
     }
+}
+
+/// Compares Line at one place of a text.
+pub fn compare_line(text: &[u8], place: usize) {
+    let expected = crate::line(text, place);
+    assert_eq!(raw::line(text, place), expected, "place {place}");
+    count_answer(Operation::Line, 0);
 }
 
 /// The words with one or two of them replaced.

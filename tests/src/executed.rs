@@ -1,6 +1,7 @@
-//! The proved program as a process, and folders for tests that need files.
+//! The proved program as a process, folders for tests that need files, and tools that may be missing.
 
 use std::io::Write;
+use std::os::unix::fs::symlink;
 use std::path::{Path, PathBuf};
 use std::process::{Command, Output, Stdio};
 use std::sync::atomic::{AtomicUsize, Ordering};
@@ -10,6 +11,14 @@ use std::{env, fs, process, thread};
 pub fn root() -> PathBuf {
     let tests = Path::new(env!("CARGO_MANIFEST_DIR"));
     tests.parent().expect("tests/ stands in it").to_path_buf()
+}
+
+/// The version of all that is here, which rust/Cargo.toml has.
+pub fn version() -> String {
+    let manifest = fs::read_to_string(root().join("rust/Cargo.toml")).expect("a manifest");
+    let mut lines = manifest.lines();
+    let version = lines.find_map(|line| line.strip_prefix("version = \"")?.strip_suffix('"'));
+    version.expect("a version").to_string()
 }
 
 /// The netlists of the catalogue, by name.
@@ -42,6 +51,35 @@ pub fn ended(command: &mut Command, input: &[u8]) -> Output {
         scope.spawn(move || drop(stdin.write_all(input)));
         child.wait_with_output().expect("it ends")
     })
+}
+
+/// Its exit status, standard output and standard error were these.
+#[track_caller]
+pub fn told(ended: Output, status: i32, output: &str, errors: &str) {
+    let text = |bytes: &[u8]| String::from_utf8_lossy(bytes).into_owned();
+    assert_eq!(text(&ended.stderr), errors);
+    assert_eq!(text(&ended.stdout), output);
+    assert_eq!(ended.status.code(), Some(status));
+}
+
+/// Where a tool is, by the PATH.
+pub fn sought(tool: &str) -> Option<PathBuf> {
+    let path = env::var_os("PATH").expect("PATH");
+    let mut places = env::split_paths(&path).map(|folder| folder.join(tool));
+    places.find(|place| place.exists())
+}
+
+/// The same; where the tool is missing this is said past what catches a test's output, with what is not tried for want of it.
+pub fn sought_loudly(tool: &str, untried: &str) -> Option<PathBuf> {
+    let found = sought(tool);
+    if found.is_none() {
+        let told = writeln!(
+            std::io::stderr(),
+            "NOT TRIED: {untried}: {tool} is not installed"
+        );
+        told.expect("standard error");
+    }
+    found
 }
 
 /// A folder of its own for a test, removed with all that is in it.
@@ -81,6 +119,18 @@ impl Scratch {
             .status();
         assert!(copied.expect("install").success());
         fs::remove_file(source).expect("written above");
+    }
+
+    /// Makes a folder of links to these commands alone, for a PATH that lacks every other.
+    pub fn put_tools(&self, name: &str, tools: &[&str]) -> PathBuf {
+        let (folder, path) = (self.path(name), env::var_os("PATH").expect("PATH"));
+        fs::create_dir(&folder).expect("a new folder");
+        for tool in tools {
+            let mut places = env::split_paths(&path).map(|folder| folder.join(tool));
+            let found = places.find(|place| place.exists()).expect(tool);
+            symlink(found, folder.join(tool)).expect("a link");
+        }
+        folder
     }
 
     pub fn get(&self, name: &str) -> String {

@@ -11,7 +11,7 @@ const ABSENT: u8 = 3;
 pub fn lines() -> String {
     let parts: Vec<String> = (0..KINDS.len()).map(part).collect();
     format!(
-        "const ENTRIES: [u8; 1792] = *b\"\\\n{}\";\n",
+        "const ENTRIES: [u8; GATE_ENTRIES] = *b\"\\\n{}\";\n",
         parts.join("\\\n\n")
     )
 }

@@ -3,6 +3,7 @@
 pub mod blocks;
 pub mod cells;
 pub mod copies;
+pub mod designs;
 pub mod large;
 pub mod long;
 pub mod malformed;

@@ -11,6 +11,7 @@ pub mod block;
 pub mod bring;
 pub mod catalogue;
 pub mod cells;
+pub mod circuit;
 pub mod compare;
 pub mod compare_cells;
 pub mod cover;

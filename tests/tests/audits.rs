@@ -381,7 +381,7 @@ fn json_and_errors() {
         "",
         "unloop: gone: No such file or directory\n",
     );
-    let error = "unloop: d: no NAME.net, NAME.out or NAME.cover is in it\n";
+    let error = "unloop: d: no NAME.net, NAME.out, NAME.cover or NAME.cells is in it\n";
     scratch.put("d/x", "");
     told(run(&scratch, &["--audit", "d"]), 2, "", error);
     let error = "unloop: --audit needs a PATH: standard input has no name (see --help)\n";
@@ -425,8 +425,8 @@ fn folders_and_files() {
     // What was removed is lost, as long as something of the entry is left.
     let output = format!("{lost}1 entry: 0 hold, 1 lost\n");
     audit(&["--audit", "a/lost.net"], 1, &output, "");
-    let errors = "unloop: c.net: No such file or directory\nunloop: e: no NAME.net, NAME.out or NAME.cover is in it\n\
-                  unloop: x: it is no NAME.net, NAME.out or NAME.cover\n";
+    let errors = "unloop: c.net: No such file or directory\nunloop: e: no NAME.net, NAME.out, NAME.cover or NAME.cells is in it\n\
+                  unloop: x: it is no NAME.net, NAME.out, NAME.cover or NAME.cells\n";
     let output = format!("{one}1 entry: 1 hold, 0 lost, 3 errors\n");
     audit(
         &["--audit", "c.net", "a/one.net", "e", "x"],
@@ -598,4 +598,66 @@ fn generated_entries() {
         }
     });
     assert!(told.iter().all(|&count| count > 20), "{told:?}");
+}
+
+/// A table of cells beside an original is a fourth fact, by CompareCells: held, lost with pins and port, or with other names, or no table.
+#[test]
+fn cells() {
+    let net =
+        "(in a)\n(in b)\n(never (a 1) (b 0))\n(gate p (and a q))\n(gate q (or b p))\n(out y q)\n";
+    let scratch = with(&[("x.net", net), ("x.out", "(in a)\n(in b)\n(out y b)\n")]);
+    scratch.put("x.cover", "never a = 1, b = 0\nalways\n");
+    let excluded = "  settled settings: 3 of 3, 1 excluded\n";
+    let audited = |cells: &str, lost: &str, fact: &str| {
+        scratch.put("x.cells", cells);
+        let (state, anew, hold) = match lost {
+            "" => ("all hold", "", "1 hold, 0 lost"),
+            _ => (
+                "lost",
+                "  to store it anew: unloop --store . x\n",
+                "0 hold, 1 lost",
+            ),
+        };
+        let told_lost = if lost.is_empty() {
+            String::new()
+        } else {
+            format!("  cells: {lost}\n")
+        };
+        let output = format!("./x.net: {state}\n{told_lost}{excluded}{anew}1 entry: {hold}\n");
+        let status = i32::from(!lost.is_empty());
+        told(run(&scratch, &["--audit", "."]), status, &output, "");
+        let holds = lost.is_empty();
+        let weaker = if holds { "" } else { ",\"weaker\":false" };
+        let other = "\"rendering\":{\"state\":\"holds\"},\"never\":{\"state\":\"holds\"},\"cover\":{\"state\":\"holds\"}";
+        let object = format!("{{\"file\":\"./x.net\",\"holds\":{holds},{other},\"cells\":{{{fact}}},\"excluded\":1{weaker}}}\n");
+        told(
+            run(&scratch, &["--json", "--audit", "."]),
+            status,
+            &object,
+            "",
+        );
+    };
+    let table =
+        |inputs: &str, port: &str| format!("# inputs 2 {inputs}\n# outputs 1\n# output {port}\n");
+    audited(&table("a b", "y 1"), "", "\"state\":\"holds\"");
+    audited(&table("b a", "y 0"), "", "\"state\":\"holds\"");
+    let why = "y is 0, not 1 with a = 0, b = 1";
+    let fact = format!("\"state\":\"differs\",\"setting\":{{\"a\":0,\"b\":1}},\"output\":\"y\",\"shown\":\"0\",\"expected\":\"1\",\"why\":\"{why}\"");
+    audited(&table("a b", "y 0"), why, &fact);
+    let why = "pin c became b; port z became y";
+    let fact = format!("\"state\":\"strangers\",\"pins\":{{\"renamed\":{{\"c\":\"b\"}}}},\"ports\":{{\"renamed\":{{\"z\":\"y\"}}}},\"why\":\"{why}\"");
+    audited(&table("a c", "z 0"), why, &fact);
+    let why = "they can't be read, line 3: no node 2";
+    audited(
+        &table("a b", "y 2"),
+        why,
+        &format!("\"state\":\"illegible\",\"why\":\"{why}\""),
+    );
+    // One without an original is lost, as any fact is.
+    fs::remove_file(scratch.path("x.net")).unwrap();
+    ["x.out", "x.cover"]
+        .iter()
+        .for_each(|name| fs::remove_file(scratch.path(name)).unwrap());
+    let output = "./x.net: lost\n  no original\n1 entry: 0 hold, 1 lost\n";
+    told(run(&scratch, &["--audit", "."]), 1, output, "");
 }

@@ -3,16 +3,13 @@
 
 use simulator::bench;
 use simulator::bench::{first_error, parted};
+use simulator::compare::programs::{bench_program, compare_bench, set_lines, written_in_pieces};
+use simulator::compare::tally::answered_often;
 use simulator::executed::{ended, root};
-use simulator::generate::{
-    bench_input, long_bench_inputs, odd_bench_input, set_line, spoiled, text, Random, Report, Size,
-};
+use simulator::generate::{bench_input, long_bench_inputs, set_line, text, Random, Size};
 use std::fs;
-use std::io::{BufRead, BufReader, Read, Write};
-use std::os::fd::OwnedFd;
-use std::os::unix::net::UnixDatagram;
-use std::process::{Command, Stdio};
-use std::thread;
+use std::io::{BufRead, BufReader, Write};
+use std::process::Stdio;
 
 const BLOCK: &str = "(in a)\n(in b)\n(gate p (and a q))\n(gate q (or b p))\n(out y q)\n(out z a)\n";
 
@@ -103,98 +100,20 @@ fn places_in_a_line() {
     }
 }
 
-/// The program, which fails where it takes longer than a minute.
-fn program() -> Command {
-    let mut command = Command::new("timeout");
-    command.arg("60").arg(root().join("target/bin/bench"));
-    command
-}
-
-/// What the program writes where each read gives the next piece, whole. A datagram is read so; an empty one ends the input
-/// (and any further read).
-fn written_in_pieces<'a>(pieces: impl Iterator<Item = &'a [u8]> + Send) -> Vec<u8> {
-    let (ours, theirs) = UnixDatagram::pair().expect("sockets");
-    let mut command = program();
-    let command = command.stdin(OwnedFd::from(theirs)).stdout(Stdio::piped());
-    let mut child = command.spawn().expect("the program");
-    let mut written = Vec::new();
-    thread::scope(|scope| {
-        scope.spawn(move || {
-            // The program ends without reading on where it refuses the netlist.
-            let all = pieces.chain([&b""[..]; 4]);
-            let _ = all.map(|piece| ours.send(piece)).find(Result::is_err);
-        });
-        drop_inherited(command);
-        let mut output = child.stdout.take().expect("piped");
-        output.read_to_end(&mut written).expect("it writes");
-        assert!(child.wait().expect("it ends").success());
-    });
-    written
-}
-
-/// Closes this process's end of the program's input.
-fn drop_inherited(command: &mut Command) {
-    command.stdin(Stdio::null());
-}
-
-fn in_pieces(random: &mut Random, input: &[u8], most: usize) -> Vec<usize> {
-    let mut cuts = Vec::new();
-    let mut at = 0;
-    while at < input.len() {
-        at = (at + random.between(1, most)).min(input.len());
-        cuts.push(at);
-    }
-    cuts
-}
-
-/// The program writes what the simulator does, with pieces of 1, 2, 7 and random sizes, and through a pipe.
-fn compare(random: &mut Random, input: &[u8]) {
-    let start = &input[..input.len().min(2_000)];
-    let _report = Report(|| format!("input {}", start.escape_ascii()));
-    let expected = bench(input);
-    let shown = String::from_utf8_lossy;
-    let piped = ended(&mut program(), input);
-    assert!(
-        piped.status.success() && piped.stderr.is_empty(),
-        "{piped:?}"
-    );
-    assert_eq!(shown(&piped.stdout), shown(&expected));
-    for size in [1, 2, 7] {
-        let written = written_in_pieces(input.chunks(size));
-        assert_eq!(shown(&written), shown(&expected), "pieces of {size}");
-    }
-    for most in [30, 1_000] {
-        let cuts = in_pieces(random, input, most);
-        let starts = [0].iter().chain(&cuts);
-        let pieces = starts.zip(&cuts).map(|(&from, &to)| &input[from..to]);
-        let written = written_in_pieces(pieces);
-        assert_eq!(shown(&written), shown(&expected), "pieces up to {most}");
-    }
-}
-
 #[test]
 fn generated_inputs() {
-    for seed in 0..40 {
-        let mut random = Random::new(seed);
-        let _report = Report(|| format!("seed {seed}"));
-        let lines = random.between(0, 40);
-        let input = bench_input(&mut random, Size::SMALL, lines);
-        compare(&mut random, &input);
-        let spoiled = spoiled(&mut random, &input);
-        compare(&mut random, &spoiled);
-        let odd = odd_bench_input(&mut random, Size::SMALL);
-        compare(&mut random, &odd);
-    }
+    set_lines(0..40);
+    answered_often(&[0, 2, 4, 5], 5);
 }
 
 #[test]
 fn long_inputs() {
     let mut random = Random::new(1);
     for input in long_bench_inputs(&mut random) {
-        compare(&mut random, &input);
+        compare_bench(&mut random, &input);
     }
     let input = bench_input(&mut random, Size::LARGE, 20);
-    compare(&mut random, &input);
+    compare_bench(&mut random, &input);
 }
 
 #[test]
@@ -205,9 +124,9 @@ fn thousands_of_lines() {
         let expected = bench(&input);
         assert!(expected.iter().filter(|&&byte| byte == b'\n').count() >= 2_500);
         // No difference is printed: the texts are long.
-        assert!(ended(&mut program(), &input).stdout == expected);
+        assert!(ended(&mut bench_program(), &input).stdout == expected);
         for size in [1, 2, 7, 4_096] {
-            let written = written_in_pieces(input.chunks(size));
+            let written = written_in_pieces(bench_program(), input.chunks(size));
             assert!(written == expected, "pieces of {size}, seed {seed}");
         }
     }
@@ -224,14 +143,14 @@ fn refused_netlists_and_blocks_without_outputs() {
         b"\n",
         b"(in a)\n",
     ] {
-        compare(&mut random, input);
+        compare_bench(&mut random, input);
     }
 }
 
 /// A line is answered before the next one is written, as at a terminal.
 #[test]
 fn a_line_is_answered_at_once() {
-    let mut command = program();
+    let mut command = bench_program();
     let command = command.stdin(Stdio::piped()).stdout(Stdio::piped());
     let mut child = command.spawn().expect("the program");
     let mut input = child.stdin.take().expect("piped");
@@ -268,5 +187,5 @@ fn session_of_the_catalogue() {
     let input = format!("{netlist}\n{input}");
     assert_eq!(answers.lines().count(), 7);
     assert_eq!(String::from_utf8(bench(input.as_bytes())).unwrap(), answers);
-    compare(&mut Random::new(3), input.as_bytes());
+    compare_bench(&mut Random::new(3), input.as_bytes());
 }

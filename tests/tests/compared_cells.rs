@@ -3,6 +3,7 @@
 use simulator::answer::Answer;
 use simulator::block::Block;
 use simulator::compare::cells::{compare_table, compare_tables, list_of, tables, Changed};
+use simulator::compare::foreign::ACCEPTED;
 use simulator::compare::tally::{answered_often, print_compared};
 use simulator::generate::{
     for_blocks, for_typical_blocks, foreign_cells, large, malformed, Random, Size,
@@ -12,12 +13,6 @@ use simulator::render::{copied, render};
 use simulator::specimens::words_of;
 use simulator::{cells, compared_cells};
 use unloop::{Cells, Disagreement, Refusal};
-
-const ACCEPTED: Answer = Answer {
-    number: 0,
-    count: 0,
-    detail: 0,
-};
 
 fn refusal(number: usize) -> Answer {
     Answer::refusal(number, 0)

@@ -424,6 +424,16 @@ fn from_blif_as_a_command() {
     told(run(&scratch, &["--from-blif", "c.blif"]), 2, "", error);
 }
 
+/// The renaming rule on the examples of docs/KEEPER.md.
+#[test]
+fn names_as_the_guide_has_them() {
+    let model = ".model m\n.inputs a[0] 1GAT sample_rate_select request[3]\n.outputs\n.end\n";
+    let scratch = with(&[("m.blif", model)]);
+    let text = "(in a_0)\n(in n1gat)\n(in sample_r)\n(in reques_3)\n";
+    let output = run(&scratch, &["--from-blif", "m.blif"]);
+    assert_eq!(String::from_utf8_lossy(&output.stdout), text, "{output:?}");
+}
+
 /// Names are told, or written to a file, with which a model and a module have them again.
 #[test]
 fn names_as_a_file() {
@@ -501,7 +511,7 @@ fn names_that_do_not_fit() {
         ),
         (
             &["--blif", "--model", "m", "a.net"],
-            "--model NAME needs --from-blif (see --help)",
+            "--model NAME needs --from-blif or --design (see --help)",
         ),
     ] {
         told(run(&scratch, words), 2, "", &format!("unloop: {error}\n"));

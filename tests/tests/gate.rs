@@ -25,8 +25,12 @@ echo 'rt: ok, 3 crates proved, 1 must-fail edits refused'
 cat verdict
 "#;
 
+/// Notes its calls, a cargo's by what it does to which package. A part of cargo that the file `fails` says is missing has no version.
 const OTHER: &str = r#"#!/usr/bin/env bash
-call="${0##*/} ${6%/Cargo.toml}"
+if [ "$2" = --version ]; then ! grep -qx "missing $1" fails; exit; fi
+package=
+for word; do case $word in */Cargo.toml) package=${word%/Cargo.toml} ;; esac; done
+call="${0##*/}${package:+ $1 $package}"
 echo "$call" >> calls
 ! grep -qx "$call" fails
 "#;
@@ -34,7 +38,7 @@ echo "$call" >> calls
 fn gate() -> Scratch {
     let scratch = repository();
     scratch.put_script("tools/rt", RT);
-    for tool in ["tools/cargo", "tests/probes", "tests/c/run"] {
+    for tool in ["tools/cargo", "tests/probes", "tests/c/run", "tests/levels"] {
         scratch.put_script(tool, OTHER);
     }
     scratch.put("fails", "");
@@ -48,6 +52,20 @@ fn run(scratch: &Scratch) -> Output {
     let command = command.env_clear().env("PATH", scratch.path("tools"));
     ended(command.current_dir("/"), b"")
 }
+
+/// What is called before the tests, which run beside each other.
+const IN_ORDER: [&str; 10] = [
+    "rt fmt --check",
+    "cargo fmt rust",
+    "cargo fmt tests",
+    "cargo fmt perf",
+    "rt ci",
+    "rt staticlib exports",
+    "probes",
+    "cargo clippy rust",
+    "cargo clippy tests",
+    "cargo clippy perf",
+];
 
 /// Everything is run, and the last lines are the phases and rt's verdict.
 #[test]
@@ -70,22 +88,19 @@ fn phases_and_the_last_line() {
     let names: Vec<&str> = phases.iter().map(|(name, _)| *name).collect();
     assert_eq!(
         names,
-        ["layout", "proofs", "edits", "programs", "library", "tests"]
+        ["layout", "proofs", "edits", "programs", "library", "lints", "tests"]
     );
     assert!(phases[1].1 >= 1 && phases[2].1 >= 2, "{phases:?}");
     let calls = scratch.get("calls");
     let calls: Vec<&str> = calls.lines().collect();
+    assert_eq!(calls[..10], IN_ORDER);
+    let mut beside = calls[10..].to_vec();
+    beside.retain(|&call| call != "cargo test tests");
     assert_eq!(
-        calls[..4],
-        ["rt fmt --check", "rt ci", "rt staticlib exports", "probes "]
+        beside,
+        ["cargo test perf", "cargo test rust", "run", "levels"]
     );
-    let beside: Vec<&str> = calls[4..]
-        .iter()
-        .copied()
-        .filter(|&call| call != "cargo tests")
-        .collect();
-    assert_eq!(beside, ["cargo perf", "cargo rust", "run "]);
-    assert_eq!(calls.len(), 8);
+    assert_eq!(calls.len(), 15);
     let folder = scratch.get("room");
     assert!(folder == "\n" || !std::path::Path::new(folder.trim_end()).exists());
 }
@@ -95,13 +110,17 @@ fn phases_and_the_last_line() {
 fn failures() {
     for fails in [
         "rt fmt",
+        "cargo fmt tests",
         "rt ci",
         "rt staticlib",
-        "probes ",
-        "cargo tests",
-        "cargo perf",
-        "cargo rust",
-        "run ",
+        "probes",
+        "cargo clippy rust",
+        "cargo clippy perf",
+        "cargo test tests",
+        "cargo test perf",
+        "cargo test rust",
+        "run",
+        "levels",
     ] {
         let scratch = gate();
         scratch.put("fails", format!("{fails}\n"));
@@ -113,4 +132,20 @@ fn failures() {
     let scratch = gate();
     scratch.put("verdict", "4 passed, 1 failed\n");
     assert!(!run(&scratch).status.success());
+}
+
+/// A part of cargo that is not installed is told, and the rest is run.
+#[test]
+fn missing_lints() {
+    let scratch = gate();
+    scratch.put("fails", "missing fmt\nmissing clippy\n");
+    let ended = run(&scratch);
+    assert!(ended.status.success(), "{ended:?}");
+    let said = String::from_utf8(ended.stdout).unwrap();
+    for part in ["fmt", "clippy"] {
+        let told = format!("gate: cargo {part} is not installed, so that nothing of it was run\n");
+        assert!(said.contains(&told), "{said}");
+    }
+    let calls = scratch.get("calls");
+    assert!(!calls.contains("fmt rust") && calls.contains("cargo test rust\n"));
 }

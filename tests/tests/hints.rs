@@ -111,7 +111,7 @@ fn everyday_mistakes() {
             ")".repeat(depth + 1)
         )
     };
-    assert!(Block::read(&format!("(in a)\n{}", nested(8))).is_ok());
+    assert!(Block::read(format!("(in a)\n{}", nested(8))).is_ok());
     for (text, expected) in [
         (
             &b"(in a)\r\n"[..],

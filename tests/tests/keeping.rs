@@ -88,6 +88,12 @@ fn hook() {
     scratch.put("repository/README", "changed");
     git(&["add", "README"]);
     assert!(commit().status.success());
+    // A table of cells that doesn't hold is lost too, though nothing else changes.
+    git(&["checkout", "-q", "."]);
+    scratch.put("repository/a b/rate.cells", "# inputs 0\n");
+    git(&["add", "a b/rate.cells"]);
+    assert_eq!(commit().status.code(), Some(1));
+    git(&["rm", "-q", "-f", "a b/rate.cells"]);
     // A fact that is removed is lost; an entry that is removed as a whole is not.
     git(&["checkout", "-q", "."]);
     git(&["rm", "-q", "a b/rate.cover"]);

@@ -3,8 +3,8 @@
 mod session;
 mod stand_in;
 
-use simulator::executed::{ended, Scratch};
-use stand_in::{found, repository, set_age, sought};
+use simulator::executed::{ended, sought_loudly, Scratch};
+use stand_in::{found, repository, set_age};
 use std::path::Path;
 use std::process::{Command, Output};
 use std::{fs, thread};
@@ -18,7 +18,7 @@ const RESULTS: [&str; 3] = [
 /// What the library is built on is proved side by side before it, and it itself once.
 const LIBRARY_BUILT: &str = "rt check prelude netlist\nrt staticlib exports\n";
 const ALL_BUILT: &str =
-    "rt check unloop\nrt check laws netlist\nrt staticlib exports\ncargo build\n";
+    "rt check unloop\nrt check prelude netlist\nrt staticlib exports\ncargo build\n";
 
 /// Words that need all.
 const ALL: &[&str] = &["--json"];
@@ -162,7 +162,7 @@ fn tools_that_are_missing() {
         (
             "cargo",
             "target/driver/release/unloop-files",
-            "rt check unloop\nrt check laws netlist\nrt staticlib exports\n",
+            "rt check unloop\nrt check prelude netlist\nrt staticlib exports\n",
         ),
     ] {
         let scratch = repository();
@@ -221,7 +221,7 @@ fn builds_that_fail() {
 
 /// Proves one crate, takes so long that the script looks, and then ends as it is told to.
 fn slow_rt(then: &str) -> String {
-    let first = "rt: laws proved (1 s)\nlogic=proved\nrt: netlist proved (unchanged since it was last proved)";
+    let first = "rt: prelude proved (1 s)\nlogic=proved\nrt: netlist proved (unchanged since it was last proved)";
     format!("#!/usr/bin/env bash\n[ $1 != version ] || exit 0\ncat <<'SAID'\nlogic=proved\n{first}\nSAID\nsleep 2.5\n{then}")
 }
 
@@ -264,14 +264,14 @@ fn tells_why_it_failed() {
     told(&scratch, &ended, 2, &expected.concat(), "");
     assert!(scratch
         .get("target/built/unloop.log")
-        .starts_with("logic=proved\nrt: laws proved (1 s)\n"));
+        .starts_with("logic=proved\nrt: prelude proved (1 s)\n"));
 }
 
 /// On a terminal: one line, rewritten, with the crate that is at work.
 #[test]
 fn tells_the_crate_at_work_on_a_terminal() {
-    let Some(script) = sought("script") else {
-        return eprintln!("script, which makes a terminal, is not installed here");
+    let Some(script) = sought_loudly("script", "progress on a terminal") else {
+        return;
     };
     let scratch = repository();
     scratch.put_script("tools/rt", &slow_rt("exit 1\n"));
@@ -332,6 +332,8 @@ fn arguments_are_looked_at_first() {
         &["--sheet", "none", "a.net"],
         &["--sheet", "all", "none.net"],
         &["--check=none", "a.net"],
+        &["--design", "--never=none", "a.net"],
+        &["--design", "none.blif"],
         &["--audit=none"],
         &["--audit", "none"],
         &["--store=none"],
@@ -370,6 +372,38 @@ fn a_first_rendering_needs_the_program_alone() {
         assert_eq!(scratch.get("out"), "the input\n");
         assert_eq!(scratch.get("out.then"), "the input\n", "before the library");
         told(&scratch, &run(&scratch, ALL), 7, "", "");
+    }
+}
+
+/// Makes a driver that finds fault with what it is given, which it keeps.
+const STRICT_CARGO: &str = r#"#!/usr/bin/env bash
+echo "cargo $1" >> calls
+mkdir -p target/driver/release
+cat > target/driver/release/unloop-files <<'DRIVER'
+#!/usr/bin/env bash
+cat -- "$3" > "${0%/*}/looked"
+echo "unloop: $3: internal error, nothing is written: a second look found that it shows y = 1" >&2
+exit 2
+DRIVER
+chmod +x target/driver/release/unloop-files
+"#;
+
+/// What the driver, once it is built, finds wrong with a rendering that was written before is told.
+#[test]
+fn a_first_rendering_is_looked_at_again() {
+    let scratch = repository();
+    scratch.put("a.net", "the input\n");
+    let file = scratch.path("a.net").display().to_string();
+    for words in [&[][..], &[&file[..]]] {
+        let scratch = repository();
+        scratch.put_script("tools/cargo", STRICT_CARGO);
+        let ended = run(&scratch, words);
+        let wrong = "unloop: the rendering that was written is wrong: it shows y = 1\n";
+        let building = [WHY, PROGRAM, RENDERED, LIBRARY, DRIVER, wrong].concat();
+        told(&scratch, &ended, 2, &building, ALL_BUILT);
+        assert_eq!(ended.stdout, b"the input\n");
+        let looked = scratch.get("target/driver/release/looked");
+        assert_eq!(looked, "the input\n");
     }
 }
 

@@ -1,56 +1,18 @@
 //! `bin/unloop --page`: what the pages of the catalogue say, against the simulator, without a browser.
 
+mod pages;
 mod session;
 
-use session::{command, run, told, with};
+use pages::{between, only, pages, plain, section, stem};
+use session::{run, told, with};
 use simulator::block::Block;
 use simulator::catalogue::cover_of;
-use simulator::executed::{ended, netlists, root, Scratch};
+use simulator::executed::{netlists, root, Scratch};
 use simulator::generate::Report;
 use simulator::groups::loops;
 use simulator::values::Network;
 use simulator::{read, unloop};
 use std::fs;
-use std::path::Path;
-use std::process::Command;
-
-fn stem(path: &Path) -> String {
-    path.file_stem().unwrap().to_str().unwrap().to_string()
-}
-
-/// The pages of the catalogue in a folder `out`; `Graphviz` is not found where the path is empty.
-fn pages(dot: bool) -> Scratch {
-    let scratch = Scratch::new();
-    let mut command = command(&scratch);
-    if !dot {
-        command = Command::new(root().join("target/driver/release/unloop-files"));
-        command
-            .current_dir(scratch.path("."))
-            .env("PATH", "")
-            .arg("no-program");
-    }
-    let ended = ended(command.args(["--page", "out"]).args(netlists()), b"");
-    let (all, errors) = (netlists().len(), String::from_utf8(ended.stderr).unwrap());
-    assert!(
-        errors.starts_with(&format!("out/index.html: {all} netlists: ")),
-        "{errors}"
-    );
-    assert_eq!((ended.status.code(), ended.stdout.len()), (Some(0), 0));
-    scratch
-}
-
-/// What stands between two marks, each time.
-fn between<'a>(text: &'a str, before: &str, behind: &str) -> Vec<&'a str> {
-    let parts = text.split(before).skip(1);
-    parts
-        .map(|part| part.split_once(behind).expect("an end").0)
-        .collect()
-}
-
-fn plain(text: &str) -> String {
-    let text = text.replace("&lt;", "<").replace("&gt;", ">");
-    text.replace("&quot;", "\"").replace("&amp;", "&")
-}
 
 /// What the overview must say of a text: its state with its class, and the four numbers.
 fn expected_row(text: &[u8]) -> Vec<String> {
@@ -102,7 +64,7 @@ fn expected_row(text: &[u8]) -> Vec<String> {
 fn overview_of_the_catalogue() {
     let scratch = pages(true);
     let index = scratch.get("out/index.html");
-    let rows = between(&index, "<tr><th scope=\"row\">", "</tr>");
+    let rows = between(&index, "<th scope=\"row\">", "</tr>");
     assert_eq!(rows.len(), netlists().len());
     for (row, path) in rows.iter().zip(netlists()) {
         let link = format!("<a href=\"{0}.html\">{0}</a>", stem(&path));
@@ -121,22 +83,31 @@ fn overview_of_the_catalogue() {
         );
     }
     let mut names: Vec<String> = netlists().iter().map(|path| stem(path) + ".html").collect();
-    names.extend(["index.html", "page.css", "page.js"].map(String::from));
+    names.extend(["files", "index.html", "page.css", "page.js"].map(String::from));
     names.sort();
     assert_eq!(scratch.names("out"), names);
 }
 
-/// Nothing is fetched from anywhere, and every link leads to a page of the folder.
+/// Nothing is fetched from anywhere, and every link leads to a file of the folder or a place on the page.
 #[test]
 fn pages_stand_alone() {
     let scratch = pages(true);
-    let names = scratch.names("out");
-    for name in &names {
+    let names = scratch.names("out").into_iter();
+    for name in names.filter(|name| name != "files") {
         let content = scratch.get(&format!("out/{name}"));
         let _report = Report(|| name.clone());
-        for mark in ["src=\"", " href=\""] {
-            let links = between(&content, mark, "\"").into_iter();
-            links.for_each(|link| assert!(names.iter().any(|name| name == link), "{link}"));
+        for link in ["src=\"", " href=\""]
+            .map(|mark| between(&content, mark, "\""))
+            .concat()
+        {
+            match link.strip_prefix('#') {
+                Some(id) => assert_eq!(
+                    content.matches(&format!(" id=\"{id}\"")).count(),
+                    1,
+                    "{link}"
+                ),
+                None => assert!(scratch.path("out").join(link).is_file(), "{link}"),
+            }
         }
         assert!(
             !content.contains("url(")
@@ -165,18 +136,12 @@ fn expected_state(block: &Block, setting: &[u8], shown: &[u8]) -> char {
 
 /// The value of every output under every setting, undefined pins among them, what is said of it, and the setting that it begins with.
 fn sheet_is_right(page: &str, block: &Block, refused_for: usize) {
-    let [values] = between(page, "id=\"values\">", "</script>")[..] else {
-        panic!("no values")
-    };
-    let [rows] = between(values, "\"rows\":\"", "\"")[..] else {
-        panic!("no rows")
-    };
+    let values = only(page, "id=\"values\">", "</script>");
+    let rows = only(values, "\"rows\":\"", "\"");
     let (n, network) = (block.inputs.len(), Network::new(block));
     assert!(values.contains("\"base\":3,") && n <= 8);
     assert!(values.contains(&format!("\"start\":{refused_for},")));
-    let [states] = between(values, "\"states\":\"", "\"")[..] else {
-        panic!("no states")
-    };
+    let states = only(values, "\"states\":\"", "\"");
     let (mut expected, mut said) = (String::new(), String::new());
     for number in 0..3usize.pow(n as u32) {
         let setting: Vec<u8> = (0..n)
@@ -193,34 +158,20 @@ fn sheet_is_right(page: &str, block: &Block, refused_for: usize) {
 }
 
 /// The numbered lines of a section are a text's.
-fn text_is_right(page: &str, section: &str, text: &str) {
-    let [section] = between(page, &format!("<section id=\"{section}\">"), "</section>")[..] else {
-        panic!("{section}")
-    };
-    let lines = between(section, "<code>", "</code>").into_iter();
-    let lines = lines.map(|line| {
-        plain(
-            &line
-                .replace("<mark>", "")
-                .replace("</mark>", "")
-                .replace('↵', ""),
-        ) + "\n"
-    });
+fn text_is_right(page: &str, id: &str, text: &str) {
+    let lines = between(section(page, id), "<code>", "</code>").into_iter();
+    let lines = lines.map(|line| plain(line).replace('↵', "") + "\n");
     assert_eq!(lines.collect::<String>(), text);
 }
 
 fn cover_is_right(page: &str, block: &Block, cover: &str) {
-    let [section] = between(page, "<section id=\"cover\">", "</section>")[..] else {
-        panic!("no cover")
-    };
+    let section = section(page, "cover");
     match cover {
         "" => return assert!(section.contains("Under no setting")),
         "always\n" => return assert!(section.contains("Always: no pin needs to be set.")),
         _ => {}
     }
-    let [body] = between(section, "<tbody>", "</tbody>")[..] else {
-        panic!("no table")
-    };
+    let body = only(section, "<tbody>", "</tbody>");
     let entry = |row: &str| {
         let cells = between(row, "\">", "</td>").into_iter().zip(&block.inputs);
         let fixed = cells.filter(|(value, _)| *value != "any");
@@ -244,9 +195,7 @@ fn pages_of_the_catalogue() {
         let (answer, words) = read(&text, usize::MAX);
         let written = String::from_utf8(unloop(&text)).unwrap();
         if answer.number != 0 {
-            let [mark] = between(&page, "<mark>", "</mark>")[..] else {
-                panic!("no mark")
-            };
+            let mark = only(&page, "<mark>", "</mark>");
             let rest = String::from_utf8_lossy(&text[answer.detail..]).into_owned();
             assert!(
                 rest.starts_with(mark) || (mark == "↵" && rest.starts_with('\n')),
@@ -284,24 +233,18 @@ fn drawings_of_our_own() {
         );
         let loops = loops(&block);
         let (inputs, gates, outputs) = (block.inputs.len(), block.gates.len(), block.outputs.len());
-        assert_eq!(page.matches("<g class=\"node input\">").count(), inputs);
-        assert_eq!(page.matches("<g class=\"node output\">").count(), outputs);
+        assert_eq!(page.matches("\" class=\"node input\">").count(), inputs);
+        assert_eq!(page.matches("\" class=\"node output\">").count(), outputs);
         let looped: usize = loops.iter().map(Vec::len).sum();
-        assert_eq!(
-            page.matches("<g class=\"node gate\">").count(),
-            gates - looped
-        );
+        let outside = page.matches("\" class=\"node gate of").count();
+        assert_eq!(outside, gates - looped);
         for (number, members) in loops.iter().enumerate() {
-            let class = format!("<g class=\"node gate loop{number}");
-            let behind = page.split(&class[..]).skip(1);
-            let drawn =
-                behind.filter(|rest| rest.starts_with("\">") || rest.starts_with(" waits\">"));
-            assert_eq!(drawn.count(), members.len());
+            let class = format!("\" class=\"node gate loop{number} ");
+            assert_eq!(page.matches(&class).count(), members.len());
         }
-        assert_eq!(
-            page.contains("class=\"wire inloop back\""),
-            !loops.is_empty()
-        );
+        let wires = between(&page, "<path class=\"wire", "\"").into_iter();
+        let back = wires.filter(|class| class.starts_with(" inloop ") && class.ends_with(" back"));
+        assert_eq!(back.count() > 0, !loops.is_empty());
     }
 }
 
@@ -317,6 +260,7 @@ fn names_and_what_is_overwritten() {
     let report = "new/index.html: 3 netlists: 2 rendered, 1 refused\n";
     told(run(&scratch, &words), 0, "", report);
     let names = [
+        "files",
         "index-2.html",
         "index.html",
         "page.css",
@@ -367,9 +311,7 @@ fn many_inputs() {
         Some(0)
     );
     let page = scratch.get("out/x.html");
-    let [rows] = between(&page, "\"rows\":\"", "\"")[..] else {
-        panic!("no rows")
-    };
+    let rows = only(&page, "\"rows\":\"", "\"");
     let block = Block::from_words(&read(text.as_bytes(), usize::MAX).1);
     let network = Network::new(&block);
     let shown = (0..512).flat_map(|s| network.shown(&simulator::values::setting_bytes(s, 9)));
@@ -405,6 +347,7 @@ fn bad_files_do_not_end_it() {
     ];
     told(run(&scratch, &words), 2, "", report);
     let names = [
+        "files",
         "index.html",
         "page.css",
         "page.js",
@@ -416,7 +359,7 @@ fn bad_files_do_not_end_it() {
     assert_eq!(scratch.get("out/y.html"), "kept");
     let index = scratch.get("out/index.html");
     assert!(index.contains("<p class=\"warning\">Not on this page: folder.net: Is a directory</p>"));
-    assert_eq!(index.matches("<tr><th scope=\"row\">").count(), 3);
+    assert_eq!(index.matches("<th scope=\"row\">").count(), 3);
 }
 
 /// What the page of a netlist with this head says: its state with its class and its share, in the overview too, the first words, and the
@@ -436,7 +379,7 @@ fn excluded_is_told(head: &str, state: &str, share: &str, first: &str, paragraph
     assert!(index.contains(&format!(">{share}</td></tr>")), "{index}");
     let first = format!("<pre class=\"told\">{first}");
     assert!(page.contains(&first), "{page}");
-    assert_eq!(between(&page, "</pre>\n", "</header>")[0], paragraph);
+    assert_eq!(only(&page, "</pre>\n", "<p class=\"files\">"), paragraph);
 }
 
 /// Where never lines exclude something the state is another; where they exclude everything that is a warning, and the status still 0.
@@ -498,9 +441,7 @@ fn swollen_and_not_settled() {
     let (page, ring) = (scratch.get("out/x.html"), scratch.get("out/ring.html"));
     let state = |words: &str| format!("<span class=\"state undecided\">{words}</span>");
     assert!(page.contains(&state("swollen, undecided")), "{page}");
-    let [lines] = between(&page, "<pre class=\"told\">", "</pre>")[..] else {
-        panic!("{page}")
-    };
+    let lines = only(&page, "<pre class=\"told\">", "</pre>");
     assert!(lines.starts_with("x.net: swollen: "), "{lines}");
     let unsettled =
         "\n  not settled with a = 1: z undefined\n  q waits for itself\n  settles with a = 0";
@@ -525,9 +466,7 @@ fn notes_of_the_sheet() {
     let ended = run(&scratch, &["--page", "out", "x.net", "none.net"]);
     assert_eq!(ended.status.code(), Some(0));
     let page = scratch.get("out/x.html");
-    let [sheet] = between(&page, "<section id=\"sheet\">", "</section>")[..] else {
-        panic!("{page}")
-    };
+    let sheet = section(&page, "sheet");
     for told in [
         "undefined here (?) has no value",
         "\"any\" in the cover says",
@@ -576,28 +515,51 @@ fn audited() {
     let errors = "out/index.html: 3 netlists: 2 rendered, 1 refused; 2 hold, 1 lost\n";
     told(run(&scratch, &words), 0, "", errors);
     let index = scratch.get("out/index.html");
-    let rows = between(&index, "<tr><th scope=\"row\"><a href=\"", "\"");
+    let rows = between(&index, "<th scope=\"row\"><a href=\"", "\"");
     assert_eq!(rows, ["rate.html", "arbiter.html", "smallest.html"]);
     let states = between(&index, "<td data-label=\"State\" data-value=\"", "</td>");
     let held = "rendered\"><span class=\"state rendered\">rendered</span> <span class=\"state held\">all hold</span>";
     let lost = "lost undecided\"><span class=\"state undecided\">undecided</span> <span class=\"state lost\">lost</span>";
     assert_eq!(states, [lost, held, held]);
+    let filtered_by = between(&index, "<tr data-states=\"", "\"");
+    assert_eq!(
+        filtered_by,
+        ["undecided lost", "rendered held", "rendered held"]
+    );
+    let boxes = between(&index, " name=\"Facts\" value=\"", "</label>");
+    assert_eq!(boxes, ["lost\"> lost (1)", "held\"> all hold (2)"]);
     lost_facts(&scratch.get("out/rate.html"));
     let page = scratch.get("out/smallest.html");
-    let [facts] = between(&page, "<section id=\"facts\">", "</section>")[..] else {
-        panic!("{page}")
-    };
+    let facts = section(&page, "facts");
     let held = "<span class=\"state held\">holds</span>";
     assert_eq!(facts.matches(held).count(), 3);
     let others = facts.contains("cover</h3>") || facts.contains("--store");
     assert!(!others, "{facts}");
 }
 
+/// A table of cells is a fact of its own on the page, held or lost.
+#[test]
+fn audited_cells() {
+    let netlist = "(in a)\n(out y a)\n";
+    let scratch = with(&[("d/x.net", netlist), ("d/x.out", netlist)]);
+    scratch.put("d/x.cover", "always\n");
+    for (cell, state, why) in [
+        ("", "held\">holds", ""),
+        ("0 0 0 0 21845\n", "lost\">lost", "y is 1, not 0 with a = 0"),
+    ] {
+        let node = cell.len().min(1);
+        let table = format!("# inputs 1 a\n{cell}# outputs 1\n# output y {node}\n");
+        scratch.put("d/x.cells", table);
+        run(&scratch, &["--page", "out", "--force", "--audit", "d"]);
+        let page = scratch.get("out/x.html");
+        let row = format!("cells</th><td><span class=\"state {state}</span></td><td>{why}</td>");
+        assert!(page.contains(&row), "{page}");
+    }
+}
+
 /// The rate block's page, beside the facts of the mended one.
 fn lost_facts(page: &str) {
-    let [facts] = between(page, "<section id=\"facts\">", "</section>")[..] else {
-        panic!("{page}")
-    };
+    let facts = section(page, "facts");
     let rows = between(facts, "<tr><th scope=\"row\">", "</tr>");
     let held = "</th><td><span class=\"state held\">holds</span></td><td></td>";
     let why = "stored as settled, but not settled with sample = 0, mute = 0, k44 = 0, k48 = 1: y undefined";
@@ -652,16 +614,14 @@ fn gates_that_wait() {
     for dot in [true, false] {
         let scratch = pages(dot);
         let page = scratch.get("out/rate.html");
-        let [drawing] = between(&page, "<section id=\"drawing\">", "</section>")[..] else {
-            panic!("{page}")
-        };
+        let drawing = section(&page, "drawing").split("<script").next().unwrap();
         let told = "<li><span class=\"swatch waits\"></span> up waits for filter, filter waits for up</li>";
         assert!(drawing.contains(told), "{drawing}");
         let nodes = drawing.split("<g ").skip(1);
-        let nodes = nodes.filter(|node| node.contains(" waits\""));
+        let nodes = nodes.filter(|node| node.contains(" waits of"));
         let nodes: Vec<&str> = nodes.collect();
         assert_eq!(nodes.len(), 2, "{drawing}");
-        for name in [">up<", ">filter<"] {
+        for name in [">up = –<", ">filter = –<"] {
             assert!(nodes.iter().any(|node| node.contains(name)), "{name}");
         }
         assert!(!scratch.get("out/scaler.html").contains("waits"));

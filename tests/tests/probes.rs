@@ -1,10 +1,7 @@
 //! `tests/probes` on small objects, assembled here: a stack probe behind other code of its function is refused, whatever writes r11 there.
 
 use simulator::executed::{ended, root, Scratch};
-use std::os::unix::fs::symlink;
-use std::path::PathBuf;
 use std::process::{Command, Output};
-use std::{env, fs};
 
 /// What a function with a frame of eight pages begins with.
 const PROBE: &str = "
@@ -104,19 +101,9 @@ fn a_file_that_cannot_be_read_is_told() {
 #[test]
 fn without_objdump_it_fails() {
     let scratch = Scratch::new();
-    fs::create_dir(scratch.path("tools")).unwrap();
-    for tool in ["awk", "bash", "dirname"] {
-        symlink(found(tool), scratch.path("tools").join(tool)).unwrap();
-    }
-    let output = ended(probes().env("PATH", scratch.path("tools")), b"");
+    let tools = scratch.put_tools("tools", &["awk", "bash", "dirname"]);
+    let output = ended(probes().env("PATH", tools), b"");
     assert_eq!(output.status.code(), Some(1), "{output:?}");
     let told = "tests/probes: there is no objdump, so nothing can be looked at\n";
     assert_eq!(String::from_utf8_lossy(&output.stderr), told);
-}
-
-/// Where a command is.
-fn found(tool: &str) -> PathBuf {
-    let path = env::var_os("PATH").expect("PATH");
-    let mut places = env::split_paths(&path).map(|folder| folder.join(tool));
-    places.find(|place| place.exists()).expect(tool)
 }

@@ -1,6 +1,8 @@
 //! target/bin/unloop, from its standard input to its standard output, against the simulator.
 //! Its `main` can have no contract, so that it reads all of its input and writes all of the answer is held by this.
 
+use simulator::compare::programs::compare_program as compare;
+use simulator::compare::tally::answered_often as answered;
 use simulator::executed::{root, written_by_the_program};
 use simulator::generate::{
     about_1024_copies, for_texts, long_texts, near_a_limit, over_a_limit, spoiled, strange_never,
@@ -8,41 +10,11 @@ use simulator::generate::{
 };
 use simulator::limits::{GATES, INPUTS, NEVERS, OPERANDS, OUTPUTS, TEXT_BYTES, WRITTEN_BYTES};
 use simulator::specimens::*;
-use simulator::{unloop, write};
-use std::cell::Cell;
+use simulator::write;
 use std::io::Write;
 use std::process::{Command, Stdio};
 use std::thread;
 use std::time::Duration;
-
-thread_local! {
-    /// How often each number was answered in this test; 0 for a rendering.
-    static ANSWERED: Cell<[usize; 12]> = const { Cell::new([0; 12]) };
-}
-
-/// The program writes what the simulator does.
-fn compare(text: &[u8]) {
-    let expected = unloop(text);
-    let written = written_by_the_program(text);
-    let shown = String::from_utf8_lossy;
-    assert_eq!(shown(&written), shown(&expected));
-    let mut answered = ANSWERED.get();
-    answered[number(&expected)] += 1;
-    ANSWERED.set(answered);
-}
-
-fn number(output: &[u8]) -> usize {
-    let text = std::str::from_utf8(output).unwrap();
-    let refused = text.strip_prefix("(refused ");
-    refused.map_or(0, |rest| rest.split(' ').next().unwrap().parse().unwrap())
-}
-
-/// Each of the numbers was answered this often in this test.
-fn answered(numbers: &[usize], least: usize) {
-    let counts = ANSWERED.get();
-    let often = |&number: &usize| counts[number] >= least;
-    assert!(numbers.iter().all(often), "{counts:?}");
-}
 
 #[test]
 fn legal_texts() {

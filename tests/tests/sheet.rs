@@ -1,118 +1,13 @@
 //! Sheets: the proved function against the simulator, and against one call of Settle after another.
 
-use simulator::generate::{for_blocks, for_typical_blocks, large, malformed, Random, Report, Size};
-use simulator::limits::{GATES, INPUTS};
-use simulator::values::UNDEFINED;
-use simulator::Answer;
-use unloop::raw::{self, Record};
-
-/// A record that no call may touch.
-const GUARD: Record = Record {
-    fixed: 0xa5a5,
-    ones: 0x5a5a,
-    number: 0xffff,
-    defined: 0x1234,
-    values: 0x4321,
-};
-const MARGIN: usize = 4;
-
-/// The call on records between guards: its answer, and the records.
-fn lent(words: &[u16], records: &[Record]) -> (Answer, Vec<Record>) {
-    let mut held = vec![GUARD; MARGIN];
-    held.extend(records);
-    held.extend([GUARD; MARGIN]);
-    let told = raw::sheet(words, &mut held[MARGIN..MARGIN + records.len()]);
-    let left = held.split_off(MARGIN);
-    let (left, behind) = left.split_at(records.len());
-    assert_eq!(held, [GUARD; MARGIN], "before the sheet");
-    assert_eq!(behind, [GUARD; MARGIN], "behind the sheet");
-    (told.into(), left.to_vec())
-}
-
-fn compare(words: &[u16], records: &[Record]) {
-    let _report = Report(|| format!("a sheet of {}: {records:?}", records.len()));
-    let (told, left) = lent(words, records);
-    assert_eq!((told, left.clone()), simulator::sheet(words, records));
-    if told.number == 0 {
-        for (&asked, &record) in records.iter().zip(&left) {
-            assert_eq!(record, one_call(words, asked));
-        }
-    }
-}
-
-/// The record by a call of Settle, read off the stored words of the outputs.
-fn one_call(words: &[u16], asked: Record) -> Record {
-    let [n, m, k, l] = [0, 1, 2, 3].map(|place| usize::from(words[place]));
-    let fixes = |input: usize| asked.fixed >> input & 1 == 1;
-    let is_one = |input: usize| asked.ones >> input & 1 == 1;
-    // What stands for no setting is a setting that Settle refuses.
-    let above = (n..16).any(|input| fixes(input) || is_one(input));
-    let byte = |input: usize| match (fixes(input), is_one(input)) {
-        (true, one) => u8::from(one),
-        (false, true) => 3,
-        (false, false) => UNDEFINED,
-    };
-    let setting: Vec<u8> = (0..n + usize::from(above)).map(byte).collect();
-    let mut values = [9; GATES];
-    let told = raw::settle(words, &setting, &mut values);
-    let mut record = Record {
-        number: told.number as u16,
-        defined: 0,
-        values: 0,
-        ..asked
-    };
-    for output in (0..k).filter(|_| told.number == 0) {
-        let node = usize::from(words[4 + 4 * n + 2 * l + 5 * m + 5 * output + 4]);
-        let value = if node < n {
-            setting[node]
-        } else {
-            values[node - n]
-        };
-        record.defined |= u16::from(value < UNDEFINED) << output;
-        record.values |= u16::from(value == 1) << output;
-    }
-    record
-}
-
-/// A record with something in its answer; its masks are mostly legal for n inputs.
-fn asked(random: &mut Random, n: usize) -> Record {
-    let any = |random: &mut Random| random.below(65_536) as u16;
-    let legal = ((1_u32 << n.min(16)) - 1) as u16;
-    let (mut fixed, mut ones) = (any(random) & legal, any(random));
-    match random.below(8) {
-        0 => fixed = any(random),
-        1 => ones &= legal,
-        2 => fixed = legal,
-        _ => {}
-    }
-    if !random.chance(8) {
-        ones &= fixed;
-    }
-    Record {
-        fixed,
-        ones,
-        number: any(random),
-        defined: any(random),
-        values: any(random),
-    }
-}
-
-fn compare_sizes(random: &mut Random, words: &[u16], sizes: &[usize]) {
-    let n = words.first().map_or(0, |&n| usize::from(n).min(INPUTS));
-    for &size in sizes {
-        let records: Vec<Record> = (0..size).map(|_| asked(random, n)).collect();
-        compare(words, &records);
-    }
-}
+use simulator::compare::sheet::{blocks, compare_sheet, compare_sizes, malformed_words, GUARD};
+use simulator::generate::{for_blocks, for_typical_blocks, large, Random, Report, Size};
+use unloop::raw::Record;
 
 #[test]
 fn generated_blocks() {
-    for_blocks(0..4_000, Size::SMALL, |random, _, words| {
-        compare_sizes(random, words, &[0, 1, 40]);
-    });
-    for_blocks(5_000..5_040, Size::MIDDLE, |random, _, words| {
-        compare_sizes(random, words, &[40]);
-    });
+    blocks(0..4_000, Size::SMALL, &[0, 1, 40]);
+    blocks(5_000..5_040, Size::MIDDLE, &[40]);
 }
 
 #[test]
@@ -124,9 +19,7 @@ fn typical_blocks() {
 
 #[test]
 fn long_sheets() {
-    for_blocks(9_000..9_020, Size::SMALL, |random, _, words| {
-        compare_sizes(random, words, &[4_096]);
-    });
+    blocks(9_000..9_020, Size::SMALL, &[4_096]);
 }
 
 #[test]
@@ -139,15 +32,7 @@ fn largest_blocks() {
 
 #[test]
 fn torn_words_change_no_record() {
-    let mut torn = 0;
-    for_blocks(0..200, Size::SMALL, |random, block, _| {
-        for (rule, words) in malformed(random, block) {
-            let _report = Report(|| format!("{rule}, {words:?}"));
-            compare_sizes(random, &words, &[0, 1, 40]);
-            torn += 1;
-        }
-    });
-    assert!(torn > 1_000);
+    assert!(malformed_words(0..200) > 1_000);
 }
 
 #[test]
@@ -161,6 +46,6 @@ fn every_setting_of_a_block() {
             ..GUARD
         };
         let pairs = masks().flat_map(|fixed| masks().map(move |ones| (fixed, ones)));
-        compare(words, &pairs.map(asked).collect::<Vec<Record>>());
+        compare_sheet(words, &pairs.map(asked).collect::<Vec<Record>>());
     });
 }

@@ -227,6 +227,32 @@ fn what_holds_stays() {
     assert_eq!(scratch.get("d/rate.out"), catalogue("rate.out"));
 }
 
+/// A table that is accepted stays as long as the rendering does: where that becomes a refusal, since some setting is no longer settled, it
+/// goes too, and not without a word.
+#[test]
+fn cells_beside_a_rendering_that_goes() {
+    let net = "(in a)\n(in b)\n(gate p (and a q))\n(gate q (or b p))\n(out y q)\n";
+    let scratch = with(&[("x.net", net), ("x.out", "(in a)\n(in b)\n(out y b)\n")]);
+    scratch.put("x.cells", "# inputs 2 a b\n# outputs 1\n# output y 1\n");
+    // The stored cover says that some settings settle only: all holds, and stays.
+    scratch.put("x.cover", "a = 0\nb = 1\n");
+    let same = "1 entry: 0 stored, 1 as before\n";
+    told(run(&scratch, &["--store", "."]), 0, same, "");
+    scratch.put("x.cover", "always\n");
+    let ended = run(&scratch, &["--store", "."]);
+    let output = String::from_utf8(ended.stdout).unwrap();
+    for line in [
+        "; cells are gone\n",
+        "  weaker: what is refused has no cells\n",
+    ] {
+        assert!(output.contains(line), "{output}");
+    }
+    assert_eq!(ended.status.code(), Some(1));
+    assert_eq!(scratch.names(".").len(), 4);
+    assert!(run(&scratch, &["--store", ".", "--force"]).status.success());
+    assert_eq!(scratch.names("."), ["x.cover", "x.net", "x.out"]);
+}
+
 /// A table of cells is renewed where there is one, and goes where the original is refused.
 #[test]
 fn cells() {
@@ -235,12 +261,25 @@ fn cells() {
     run(&scratch, &["--store", "."]);
     assert_eq!(scratch.names(".").len(), 3);
     scratch.put("smallest.cells", "");
-    let output = "smallest: cells anew\n1 entry: 1 stored, 0 as before\n";
+    let output = "smallest: cells anew (they can't be read, no line '# inputs NUMBER NAME ...')\n\
+                  1 entry: 1 stored, 0 as before\n";
     told(run(&scratch, &["--store", "."]), 0, output, "");
     let table = run(&scratch, &["--cells", "smallest.net"]).stdout;
     assert_eq!(scratch.get("smallest.cells").as_bytes(), table);
     let same = "1 entry: 0 stored, 1 as before\n";
     told(run(&scratch, &["--store", "."]), 0, same, "");
+    // What CompareCells accepts stays byte for byte, and what shows another value doesn't.
+    let made = "# inputs 1 s\n# outputs 1\n# output y 0 # made elsewhere\n";
+    let made = made.replace(" # made", "\n# made");
+    scratch.put("smallest.cells", &made);
+    told(run(&scratch, &["--store", "."]), 0, same, "");
+    assert_eq!(scratch.get("smallest.cells"), made);
+    let other = "# inputs 1 s\n0 0 0 0 21845\n# outputs 1\n# output y 1\n";
+    scratch.put("smallest.cells", other);
+    let output =
+        "smallest: cells anew (y is 1, not 0 with s = 0)\n1 entry: 1 stored, 0 as before\n";
+    told(run(&scratch, &["--store", "."]), 0, output, "");
+    assert_eq!(scratch.get("smallest.cells").as_bytes(), table);
     // A refusal has none, and nothing is removed without a word.
     put_entry(&scratch, "smallest", "latch");
     let gone = "smallest: cells are gone\n  weaker: what is refused has no cells\n";
@@ -331,7 +370,7 @@ fn names_folders_and_errors() {
     );
     let errors = "unloop: gone: No such file or directory\n";
     told(run(&scratch, &["--store", "gone"]), 2, "", errors);
-    let errors = "unloop: n: no NAME.net, NAME.out or NAME.cover is in it\n";
+    let errors = "unloop: n: no NAME.net, NAME.out, NAME.cover or NAME.cells is in it\n";
     told(run(&scratch, &["--store", "n"]), 2, "", errors);
 }
 

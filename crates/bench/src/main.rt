@@ -1,4 +1,4 @@
-// The program `bench`: moves bytes from standard input to `session`, and the answers to standard output. What is there
+// The program `bench`: moves bytes from standard input to `bench_session`, and the answers to standard output. What is there
 // is read and answered at once, so that it serves a terminal and a pipe. A proved loop has to end, and nothing says
 // that the input does: the loop over reads counts down from a number that no run uses up.
 use bench_session::ANSWER_BYTES;

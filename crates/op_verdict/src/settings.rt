@@ -86,6 +86,21 @@ fn lowest_in(words: &[u16], base: usize, lanes: &[u64; LANE_WORDS]) -> usize
     base
 }
 
+// The lowest setting that may come and has an undefined output, or 2^n, from all batches.
+pub fn lowest_unsettled(
+    words: &[u16],
+    graph: &[u16; GRAPH_WORDS],
+    order: &[u16; MAX_GATES],
+    ends: &[u16; MAX_GATES],
+    lanes: &mut [u64; LANE_WORDS],
+) -> usize
+    requires { ⌜ Planned (now words) (now graph) (now order) (now ends) × (length (now lanes) ≡ laneSize) ⌝ }
+    ensures { λ r. ⌜ r ≡ lowestUnsettled (decode (now (words .entry))) ⌝ }
+{
+    let first = unsettled_batch(words, graph, order, ends, lanes);
+    lowest_in(words, first, lanes)
+}
+
 // How many settings of the batch at `base` may come and are settled, when `lanes` holds its settled values.
 fn count_held(words: &[u16], base: usize, lanes: &[u64; LANE_WORDS]) -> usize
     requires { ⌜ Judged (now words) (getD (now words) 0 0) base (now lanes) ⌝ }

@@ -4,7 +4,7 @@
 --   Passed, Kept             the pairs after so many passes, and the settled ones beside them
 --   GroupBatch, SoFar, PassReady, MorePasses, GroupReady, GroupCounted   one group for the settings of a batch
 --   Listing, Counting, StartsFew, Full, BatchHeld, AllCounted   all groups
---   LowestBelow, WalkedBatch, Walked   the walk over batches
+--   LowestBelow, WalkedBatch, WalkedAll, Walked   the walk over batches
 -- Assumes nothing.
 use Prim.Native.Nat.{ℕ, _+_, _-_, _*_, _%_, _≤_, _<_}
 use mathlib.Core.Path.{_≡_}
@@ -183,6 +183,14 @@ pub record WalkedBatch (b : Block) (count next : ℕ) (entry passes : List ℕ) 
   pub counting : Counting b count next 0 next passes (r .total)
   pub same : SameRest count entry passes
   pub lowest : LowestBelow b next (r .lowest)
+
+-- the same of all of them, or of those before the copies are too many
+pub record WalkedAll (b : Block) (count : ℕ) (entry passes : List ℕ) (r : Found) : Type 0 where
+  pub reached : ℕ
+  pub counting : Counting b count reached 0 reached passes (r .total)
+  pub all : r .total ≤ maxCopies → reached ≡ settingCount b
+  pub same : SameRest count entry passes
+  pub lowest : r .total ≤ maxCopies → r .lowest ≡ lowestUnsettled b
 
 -- what was found in all of them; the lowest setting is told where the copies are not too many
 pub record Walked (b : Block) (entry passes : List ℕ) (r : Found) : Type 0 where

@@ -11,6 +11,7 @@ use lanes_dual_rail::words::lane_count;
 use lanes_dual_rail::words::lowest_lane;
 use lanes_masks::decided::judge_batch;
 use lanes_masks::settled::unsound_lanes;
+use op_verdict::settings::lowest_unsettled;
 use op_verdict::settings::setting_count;
 use words_layout::fill::fill_words;
 use words_layout::limits::MAX_GATES;
@@ -22,13 +23,13 @@ ghost use Prim.Native.Nat.{_+_, _≤_, _<_};
 ghost use lib.ListN.{length, getD};
 ghost use Rattle.netlist.specs.Limits.{maxGates, maxCopies};
 ghost use Rattle.netlist.specs.StoredBlock.{decode};
-ghost use Rattle.netlist.specs.Rounds.{settingCount};
+ghost use Rattle.netlist.specs.Rounds.{settingCount, lowestUnsettled};
 ghost use Rattle.netlist.specs.Groups.{groups};
 ghost use Rattle.lanes_dual_rail.specs.Batches.{lanesOf};
 ghost use Rattle.lanes_dual_rail.specs.LaneWords.{laneSize};
 ghost use Rattle.lanes_batch.specs.Layered.{Planned};
 ghost use Rattle.lanes_masks.specs.Lanes.{Judged};
-ghost use Rattle.unroll_depth.specs.Counting.{StartsFew, Full, Counting, SameRest, Listing, BatchHeld, LowestBelow, WalkedBatch, Walked};
+ghost use Rattle.unroll_depth.specs.Counting.{StartsFew, Full, Counting, SameRest, Listing, BatchHeld, LowestBelow, WalkedBatch, WalkedAll, Walked};
 
 // Group number `group`, for the settings of the batch at `base`, when the copies of all groups are `total`.
 struct At {
@@ -162,9 +163,9 @@ fn are_full(count: usize, starts: &[u16; MAX_GATES + 1], passes: &[u16; MAX_GATE
     true
 }
 
-// Writes each group's passes; the copies of all groups, or a number above the limit where they are too many, and where they are not, the lowest setting that
-// may come and is not settled. The walk ends where there are too many copies, and where such a setting is known and no group can need more passes.
-pub fn walk_batches(
+// Every batch in turn, from one pass for each group on. The walk ends where there are too many copies, and where an unsettled setting is known and no group
+// can need more passes.
+fn walk_loops(
     words: &[u16],
     graph: &[u16; GRAPH_WORDS],
     order: &[u16; MAX_GATES],
@@ -175,15 +176,17 @@ pub fn walk_batches(
     passes: &mut [u16; MAX_GATES],
 ) -> Found
     requires { ⌜ Planned (now words) (now graph) (now order) (now ends) ⌝ }
-    requires { ⌜ Listing (decode (now words)) count (now members) (now starts) × (length (now passes) ≡ maxGates) ⌝ }
-    ensures { λ r. ⌜ Walked (decode (now (words .entry))) (now (passes .entry)) (now (passes .exit)) r ⌝ }
+    requires { ⌜
+        Listing (decode (now words)) count (now members) (now starts) × (length (now passes) ≡ maxGates)
+        × Counting (decode (now words)) count 0 0 0 (now passes) (getD (now words) 1 0)
+        ⌝ }
+    ensures { λ r. ⌜ WalkedAll (decode (now (words .entry))) count (now (passes .entry)) (now (passes .exit)) r ⌝ }
 {
     let mut lanes = [0u64; LANE_WORDS];
     let mut kept = [0u64; LANE_WORDS];
     let n = inputs_of(words);
     let settings = setting_count(n);
     let step = lane_count(n);
-    fill_words(passes, count, 1);
     let mut found = Found {
         total: gates_of(words),
         lowest: settings,
@@ -213,4 +216,45 @@ pub fn walk_batches(
         base += step;
     }
     found
+}
+
+// Where no group can need more passes than one: only a setting that is not settled is looked for.
+fn walk_settings(
+    words: &[u16],
+    graph: &[u16; GRAPH_WORDS],
+    order: &[u16; MAX_GATES],
+    ends: &[u16; MAX_GATES],
+) -> Found
+    requires { ⌜ Planned (now words) (now graph) (now order) (now ends) ⌝ }
+    ensures { λ r. ⌜ (r .total ≡ getD (now (words .entry)) 1 0) × (r .lowest ≡ lowestUnsettled (decode (now (words .entry)))) ⌝ }
+{
+    let mut lanes = [0u64; LANE_WORDS];
+    let lowest = lowest_unsettled(words, graph, order, ends, &mut lanes);
+    Found {
+        total: gates_of(words),
+        lowest,
+    }
+}
+
+// Writes each group's passes; the copies of all groups, or a number above the limit where they are too many, and where they are not, the lowest setting that
+// may come and is not settled.
+pub fn walk_batches(
+    words: &[u16],
+    graph: &[u16; GRAPH_WORDS],
+    order: &[u16; MAX_GATES],
+    ends: &[u16; MAX_GATES],
+    count: usize,
+    members: &[u16; MAX_GATES],
+    starts: &[u16; MAX_GATES + 1],
+    passes: &mut [u16; MAX_GATES],
+) -> Found
+    requires { ⌜ Planned (now words) (now graph) (now order) (now ends) ⌝ }
+    requires { ⌜ Listing (decode (now words)) count (now members) (now starts) × (length (now passes) ≡ maxGates) ⌝ }
+    ensures { λ r. ⌜ Walked (decode (now (words .entry))) (now (passes .entry)) (now (passes .exit)) r ⌝ }
+{
+    fill_words(passes, count, 1);
+    if are_full(count, starts, passes) {
+        return walk_settings(words, graph, order, ends);
+    }
+    walk_loops(words, graph, order, ends, count, members, starts, passes)
 }

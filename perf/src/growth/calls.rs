@@ -6,6 +6,7 @@ use crate::measure::Operation;
 use crate::operations::*;
 use crate::sheets::asked;
 use simulator::block::Block;
+use simulator::compare::cells::list_of;
 use simulator::limits::BLOCK_WORDS;
 use std::hint::black_box;
 use unloop::raw::{self, Reply};
@@ -76,6 +77,7 @@ fn through_settings(block: &[u16]) -> Vec<Named> {
         ("cover", library(COVER, words())),
         ("render", library(RENDER, words())),
         ("compare", library(COMPARE, both(block))),
+        ("compare-cells", library(COMPARE_CELLS, with_cells(block))),
     ]
 }
 
@@ -83,6 +85,13 @@ fn through_settings(block: &[u16]) -> Vec<Named> {
 fn both(block: &[u16]) -> Two {
     let rendered = rendered(block).expect("rendered");
     (block.to_vec(), rendered)
+}
+
+/// A block, the cells of its rendering and the nodes that show its outputs.
+fn with_cells(block: &[u16]) -> WithCells {
+    let (block, rendered) = both(block);
+    let shown = list_of(&Block::from_words(&rendered));
+    (block, cells_of(&rendered), shown)
 }
 
 /// Those that take straight blocks only, or cells.
@@ -104,6 +113,10 @@ pub fn on_settings(block: &[u16]) -> Vec<Named> {
         ("plain cover", plain(COVER, words())),
         ("plain render", plain(RENDER, words())),
         ("plain compare", plain(COMPARE, both(block))),
+        (
+            "plain compare-cells",
+            plain(COMPARE_CELLS, with_cells(block)),
+        ),
     ]);
     calls
 }

@@ -44,7 +44,7 @@ pub fn cells(words: &[u16], cells: &mut [u16]) -> Reply {
 /// The value of each cell; count: cells.
 pub fn run(inputs: usize, cells: &[u16], setting: &[u8], values: &mut [u8]) -> Reply {
     let (cells, rest) = cells.as_chunks::<5>();
-    if inputs > 12 || cells.len() > 1_024 || !rest.is_empty() || !are_earlier(inputs, cells) {
+    if !are_legal(inputs, cells, rest) {
         return refused(6, 0);
     }
     if setting.len() != inputs || setting.iter().any(|&value| value > 1) {
@@ -65,6 +65,11 @@ pub fn run(inputs: usize, cells: &[u16], setting: &[u8], values: &mut [u8]) -> R
         bits[inputs + number] = (truth >> (a | b << 1 | c << 2 | d << 3) & 1) as u8;
     }
     handed_over(&bits[inputs..nodes], cells.len(), values)
+}
+
+/// Whether words are cells: whole ones, not too many, each over what stands before it.
+pub fn are_legal(inputs: usize, cells: &[[u16; 5]], rest: &[u16]) -> bool {
+    inputs <= 12 && cells.len() <= 1_024 && rest.is_empty() && are_earlier(inputs, cells)
 }
 
 /// Whether each operand is an input, a constant or an earlier cell.

@@ -26,9 +26,48 @@ impl<'a> Parts<'a> {
     }
 }
 
-/// An instance that is still to be put in, with the nets of the whole that its pins are.
+/// A model with its subcircuits in place, and the instances that were put in: the first is the model itself.
+pub(crate) struct Placed {
+    pub whole: Model,
+    pub placements: Vec<Placement>,
+}
+
+/// An instance that was put in: what it is one of, the instance that has its line, and where its tables, gates, latches and those of its
+/// subcircuits that stay begin in the whole. They go on to where those of the next instance begin.
+#[derive(Default)]
+pub(crate) struct Placement {
+    pub of: String,
+    pub parent: usize,
+    pub line: usize,
+    /// Its pins, and the nets of the whole that they are.
+    pub pins: Vec<(String, Net)>,
+    pub tables: usize,
+    pub gates: usize,
+    pub latches: usize,
+    pub subcircuits: usize,
+}
+
+impl Placement {
+    fn of(whole: &Model, put: &Waiting) -> Placement {
+        let pins = put.instance.pins.iter();
+        let pins = pins.map(|(pin, _)| (pin.clone(), put.nets[&pin[..]]));
+        Placement {
+            of: put.instance.of.clone(),
+            parent: put.parent,
+            line: put.instance.line,
+            pins: pins.collect(),
+            tables: whole.tables.len(),
+            gates: whole.gates.len(),
+            latches: whole.latches.len(),
+            subcircuits: whole.subcircuits.len(),
+        }
+    }
+}
+
+/// An instance that is still to be put in, with the one that has its line, and the nets of the whole that its pins are.
 struct Waiting<'a> {
     instance: &'a Instance,
+    parent: usize,
     nets: HashMap<&'a str, Net>,
 }
 
@@ -76,30 +115,40 @@ impl BlifFile {
     /// assert_eq!(whole.tables.len(), 2);
     /// ```
     pub fn placed(&self, model: &Model) -> Result<Model, BlifError> {
+        Ok(self.placed_parts(model)?.whole)
+    }
+
+    /// The same, and where each of its lines comes from.
+    pub(crate) fn placed_parts(&self, model: &Model) -> Result<Placed, BlifError> {
         self.size(model)?;
         let parts = Parts::of(self);
         let mut whole = model.clone();
         whole.subcircuits.clear();
         let own: Vec<Net> = (0..model.nets.len()).collect();
+        let mut placements = vec![Placement {
+            of: model.name.clone(),
+            ..Placement::default()
+        }];
         let mut waiting = Vec::new();
-        whole.take_instances(model, &own, &parts, &mut waiting);
-        let mut number = 0;
+        whole.take_instances(model, (0, &own), &parts, &mut waiting);
         while let Some(next) = waiting.pop() {
-            number += 1;
+            let number = placements.len();
             let inside = parts.0[&next.instance.of[..]];
+            placements.push(Placement::of(&whole, &next));
             let nets = whole.put(inside, &next, number)?;
-            whole.take_instances(inside, &nets, &parts, &mut waiting);
+            whole.take_instances(inside, (number, &nets), &parts, &mut waiting);
         }
-        Ok(whole)
+        Ok(Placed { whole, placements })
     }
 }
 
 impl Model {
-    /// Takes over the instances of a model whose nets are these here: those that stay, and, the last first, those that wait to be put in.
+    /// Takes over the instances of the model that was put in with this number and whose nets are these here: those that stay, and, the last
+    /// first, those that wait to be put in.
     fn take_instances<'a>(
         &mut self,
         model: &'a Model,
-        nets: &[Net],
+        (number, nets): (usize, &[Net]),
         parts: &Parts,
         waiting: &mut Vec<Waiting<'a>>,
     ) {
@@ -108,6 +157,7 @@ impl Model {
             match parts.0.contains_key(&instance.of[..]) {
                 true => waiting.push(Waiting {
                     instance,
+                    parent: number,
                     nets: pins.map(|(pin, net)| (&pin[..], net)).collect(),
                 }),
                 false => self.subcircuits.push(Instance {
@@ -138,6 +188,7 @@ impl Model {
         for latch in &inside.latches {
             let mut latch = latch.clone();
             (latch.input, latch.output) = (nets[latch.input], nets[latch.output]);
+            latch.control = latch.control.map(|net| nets[net]);
             self.latches.push(latch);
         }
         self.others.extend(inside.others.iter().cloned());

@@ -1,6 +1,6 @@
 //! From lines to models.
 
-use super::lines::logical_lines;
+use super::lines::{logical_lines, LogicalLine};
 use super::{BlifError, BlifFile, Instance, Latch, Model, Net, Other, Table};
 use std::collections::{HashMap, HashSet};
 
@@ -25,12 +25,18 @@ const REMARKS: [&str; 17] = [
     ".no_merge",
 ];
 
+/// What stands where a latch has no clock.
+const NO_CLOCK: &str = "NIL";
+
 pub fn file(text: &str) -> Result<BlifFile, BlifError> {
     let mut models: Vec<Model> = Vec::new();
     let mut names = HashSet::new();
     let mut open: Option<Reader> = None;
     let mut last = 1;
-    for (line, words) in logical_lines(text) {
+    for LogicalLine {
+        first: line, words, ..
+    } in logical_lines(text)
+    {
         last = line;
         match (words[0], &mut open) {
             (".model", None) => {
@@ -210,9 +216,11 @@ impl Reader {
         let [input, output, rest @ ..] = words else {
             return Err(BlifError::at(line, ".latch needs an input and an output"));
         };
+        let control = rest.get(1).filter(|&&name| name != NO_CLOCK);
         let latch = Latch {
             input: self.net(input),
             output: self.net(output),
+            control: control.map(|name| self.net(name)),
             rest: rest.iter().map(|word| word.to_string()).collect(),
             line,
         };

@@ -1,8 +1,8 @@
 //! Limits: which one a text or a rendering passes, and by how much.
 
-use crate::copies::copies;
 use crate::declarations::{lines, LineKind};
 use crate::limits::{COUNTED_BYTES, GATES, INPUTS, NEVERS, OUTPUTS, TEXT_BYTES};
+use crate::orders::gates_by_rule;
 use crate::Block;
 
 /// By how much a text is too long; of one that is much longer, that it is.
@@ -33,10 +33,15 @@ pub fn passed(text: &[u8]) -> Option<String> {
     (!told.is_empty()).then(|| told.join("; "))
 }
 
-/// By how much a rendering passes the limit.
+/// By how much a rendering passes the limit, and how many gates it has in another order, where one fits that is found at once. A block that
+/// isn't settled has a rendering in no order.
 pub fn swollen(block: &Block) -> Option<String> {
-    let copies = copies(block);
-    (copies > GATES).then(|| above(copies, GATES, "gates in the rendering"))
+    let [copies, fewer] = gates_by_rule(block);
+    let told = (copies > GATES).then(|| above(copies, GATES, "gates in the rendering"))?;
+    Some(match fewer <= GATES && block.verdict().is_sound() {
+        true => format!("{told}; {fewer} with its gate lines in another order (--shrink)"),
+        false => told,
+    })
 }
 
 fn above(count: usize, most: usize, what: &str) -> String {

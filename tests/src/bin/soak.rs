@@ -1,7 +1,7 @@
 //! The comparisons on fresh seeds, for some minutes.
 
 use simulator::compare::tally::Tally;
-use simulator::compare::{cells, gather, seeded};
+use simulator::compare::{cells, foreign, gather, programs, seeded, sheet};
 use simulator::generate::Size;
 use std::env;
 use std::ops::Range;
@@ -15,6 +15,7 @@ Round after round takes the next seed through every kind of input, the costly ki
 SEED, below 2^63, is the first round's; without it, one is made from the clock. It is printed first.
 A progress line comes about every ten seconds. The first difference ends the run with status 1, after the
 seed and the input were printed; starting at the seed printed meets it again in the first round.
+The end tells how often each operation answered each of its numbers; one that was never answered ends with status 1.
 ";
 
 /// Between two progress lines.
@@ -103,6 +104,25 @@ const KINDS: &[Kind] = &[
         gather::blocks(s, Size::MIDDLE)
     }),
     kind("malformed blocks gathered", 11, gather::malformed_words),
+    kind("small blocks compared with others", 1, |s| {
+        foreign::blocks(s, Size::SMALL, 2);
+    }),
+    kind("middle blocks compared with others", 101, |s| {
+        foreign::blocks(s, Size::MIDDLE, 1);
+    }),
+    kind("blocks compared with strangers", 1, foreign::refused_pairs),
+    kind("sheets of small blocks", 1, |s| {
+        sheet::blocks(s, Size::SMALL, &[0, 1, 40]);
+    }),
+    kind("sheets of middle blocks", 101, |s| {
+        sheet::blocks(s, Size::MIDDLE, &[40]);
+    }),
+    kind("sheets of malformed blocks", 51, |s| {
+        sheet::malformed_words(s);
+    }),
+    kind("texts in the program", 101, programs::texts),
+    kind("set lines in the bench", 101, programs::set_lines),
+    kind("long netlists in the bench", 3_001, programs::long_netlists),
 ];
 
 fn main() -> ExitCode {
@@ -119,9 +139,17 @@ fn main() -> ExitCode {
     let mut soak = Soak::new(seed, Duration::from_secs(60 * minutes));
     // The panic has printed itself and the reports by the time it is caught.
     let agreed = catch_unwind(AssertUnwindSafe(|| soak.run())).is_ok();
-    let end = if agreed { "nothing differs" } else { "DIFFERS" };
-    println!("in all {}: {end}", soak.state());
-    ExitCode::from(u8::from(!agreed))
+    println!("in all {}", soak.state());
+    let (tally, seconds) = (Tally::so_far(), soak.start.elapsed().as_secs().max(1));
+    print!("{}", tally.by_operation());
+    let (answers, unseen) = (tally.all_answers(), tally.unseen());
+    let rate = answers as u64 / seconds;
+    println!("{answers} answers compared, {rate} a second");
+    if !unseen.is_empty() {
+        println!("NEVER ANSWERED: {}", unseen.join(", "));
+    }
+    println!("{}", if agreed { "nothing differs" } else { "DIFFERS" });
+    ExitCode::from(u8::from(!agreed || !unseen.is_empty()))
 }
 
 /// The minutes and the first seed that the arguments ask for.
@@ -175,20 +203,24 @@ impl Soak {
             self.rounds += 1;
             if self.told.elapsed() >= PROGRESS {
                 self.told = Instant::now();
-                println!("{}", self.state());
+                println!("{}, {} answers", self.age(), Tally::so_far().all_answers());
             }
         }
+    }
+
+    /// Seconds and rounds.
+    fn age(&self) -> String {
+        format!(
+            "{} s, {} rounds",
+            self.start.elapsed().as_secs(),
+            self.rounds
+        )
     }
 
     /// Seconds, rounds, seeds of each kind, and what was compared.
     fn state(&self) -> String {
         let counts = KINDS.iter().zip(self.counts);
         let counts: Vec<String> = counts.map(|(k, c)| format!("{c} {}", k.name)).collect();
-        let seconds = self.start.elapsed().as_secs();
-        let (rounds, counts) = (self.rounds, counts.join(", "));
-        format!(
-            "{seconds} s, {rounds} rounds: {counts}; {}",
-            Tally::so_far()
-        )
+        format!("{}: {}; {}", self.age(), counts.join(", "), Tally::so_far())
     }
 }

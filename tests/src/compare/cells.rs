@@ -1,6 +1,6 @@
 //! Cells, Run and CompareCells, the library's against the simulator's, and both ends of the way from a block to a run.
 
-use super::tally::count;
+use super::tally::{count, count_answer, Operation};
 use super::{compare, mangled};
 use crate::block::{Block, Output, Source};
 use crate::foreign::shown;
@@ -19,9 +19,12 @@ use unloop::raw;
 pub fn compare_cells(words: &[u16]) {
     let _report = Report(|| format!("cells of {words:?}"));
     count(|tally| tally.made += 1);
-    compare("cells", 9_999, crate::cells(words, usize::MAX), |cells| {
-        raw::cells(words, cells)
-    });
+    compare(
+        Operation::Cells,
+        9_999,
+        crate::cells(words, usize::MAX),
+        |cells| raw::cells(words, cells),
+    );
 }
 
 /// Compares Run on any number of inputs, words and setting.
@@ -29,7 +32,7 @@ pub fn compare_run(inputs: usize, cells: &[u16], setting: &[u8]) {
     let _report = Report(|| format!("run of {inputs} inputs, {cells:?}, setting {setting:?}"));
     count(|tally| tally.runs += 1);
     let expected = crate::run(inputs, cells, setting, usize::MAX);
-    compare("run", 9, expected, |values| {
+    compare(Operation::Run, 9, expected, |values| {
         raw::run(inputs, cells, setting, values)
     });
 }
@@ -149,10 +152,8 @@ pub fn compare_table(block: &[u16], cells: &[u16], list: &[u16]) -> Answer {
     let _report = Report(|| format!("compare cells {block:?} with {cells:?}, list {list:?}"));
     let told = Answer::from(raw::compare_cells(block, cells, list));
     assert_eq!(told, crate::compared_cells(block, cells, list));
-    count(|tally| {
-        tally.tables += 1;
-        tally.answered[told.number] += 1;
-    });
+    count(|tally| tally.tables += 1);
+    count_answer(Operation::CompareCells, told.number);
     told
 }
 

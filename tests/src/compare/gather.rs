@@ -1,6 +1,6 @@
 //! Gather and Scatter, the library's against the simulator's.
 
-use super::tally::count;
+use super::tally::{count, count_answer, Operation};
 use super::{compare, mangled, MARGIN};
 use crate::block::Block;
 use crate::generate::{bad_orders, for_blocks, malformed, order, Random, Report, Size};
@@ -52,7 +52,7 @@ pub fn compare_gathered(words: &[u16]) {
             let expected = (expected, [fill(block, room), fill(list, list_room)]);
             let got = lent(words, [room, list_room]);
             assert_eq!(got, expected, "gather in slices of {room} and {list_room}");
-            count(|tally| tally.answered[got.0.number] += 1);
+            count_answer(Operation::Gather, got.0.number);
         }
     }
     // A refusal also where there is room for every block.
@@ -67,7 +67,7 @@ pub fn compare_scattered(words: &[u16], order: &[u16]) {
     let _report = Report(|| format!("scatter of {words:?} by {order:?}"));
     count(|tally| tally.scattered += 1);
     let expected = crate::scatter(words, order, usize::MAX);
-    compare("scatter", FILLER, expected, |original| {
+    compare(Operation::Scatter, FILLER, expected, |original| {
         raw::scatter(words, order, original)
     });
 }

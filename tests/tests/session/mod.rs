@@ -1,5 +1,6 @@
 //! `bin/unloop`, run by each test in a folder of its own, whose name holds a space.
 
+pub use simulator::executed::told;
 use simulator::executed::{ended, root, Scratch};
 use std::process::{Command, Output};
 use std::sync::Once;
@@ -17,15 +18,6 @@ pub fn command(scratch: &Scratch) -> Command {
 /// Runs it with standard input that is empty.
 pub fn run(scratch: &Scratch, words: &[&str]) -> Output {
     ended(command(scratch).args(words), b"")
-}
-
-/// Its exit status, standard output and standard error were these.
-#[track_caller]
-pub fn told(ended: Output, status: i32, output: &str, errors: &str) {
-    let text = |bytes: &[u8]| String::from_utf8_lossy(bytes).into_owned();
-    assert_eq!(text(&ended.stderr), errors);
-    assert_eq!(text(&ended.stdout), output);
-    assert_eq!(ended.status.code(), Some(status));
 }
 
 /// A folder with these files.

@@ -1,16 +1,16 @@
 //! A repository of its own for scripts, with nothing built and stand-ins for `rt` and `cargo` that write down each call.
 
-use simulator::executed::{root, Scratch};
+use simulator::executed::{root, sought, Scratch};
+use std::fs;
 use std::os::unix::fs::symlink;
 use std::path::{Path, PathBuf};
 use std::time::{Duration, SystemTime};
-use std::{env, fs};
 
 /// The commands that the scripts use.
-const TOOLS: [&str; 24] = [
+const TOOLS: [&str; 26] = [
     "awk", "bash", "cat", "chmod", "df", "dirname", "env", "find", "flock", "grep", "head",
     "mkdir", "mktemp", "mv", "nproc", "readlink", "rm", "sed", "sh", "sleep", "sort", "tail",
-    "touch", "tr",
+    "tee", "touch", "tr", "wc",
 ];
 
 /// Names the kit. Makes its result, a program that writes its input, unless it is up to date, which `rt check` tells by a stamp of its own. It
@@ -50,8 +50,8 @@ chmod +x target/driver/release/unloop-files
 
 /// Six crates, four of which the program needs and three the library.
 const CRATES: &str =
-    "# NAME: what it is built on\nlaws:\nunloop: laws words netlist io\nnetlist: laws\n\
-    words: laws netlist # not in rt's order\nexports: laws netlist\nbench: laws\n";
+    "# NAME: what it is built on\nprelude:\nunloop: prelude words netlist io\nnetlist: prelude\n\
+    words: prelude netlist # not in rt's order\nexports: prelude netlist\nbench: prelude\n";
 
 /// A repository with nothing built, its sources two hours old.
 pub fn repository() -> Scratch {
@@ -96,12 +96,6 @@ fn age_all(path: &Path) {
 /// Where a command is.
 pub fn found(tool: &str) -> PathBuf {
     sought(tool).expect(tool)
-}
-
-pub fn sought(tool: &str) -> Option<PathBuf> {
-    let path = env::var_os("PATH").expect("PATH");
-    let mut places = env::split_paths(&path).map(|folder| folder.join(tool));
-    places.find(|place| place.exists())
 }
 
 /// Sets the time of a file or folder to so many seconds ago.

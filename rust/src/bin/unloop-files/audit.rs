@@ -1,4 +1,4 @@
-//! `--audit PATH ...`: do the rendering, the never lines and the cover that are stored beside each original still hold?
+//! `--audit PATH ...`: do the rendering, the never lines, the cover and the table of cells that are stored beside each original still hold?
 
 mod fact;
 mod promises;
@@ -17,7 +17,7 @@ pub use promises::lines as promised_lines;
 use std::ops::ControlFlow;
 use std::path::{Path, PathBuf};
 use std::process::ExitCode;
-use unloop::audit::audit;
+use unloop::audit::{audit, Audit};
 use unloop::json::Json;
 use unloop::{Block, Refusal};
 pub use weaker::{becomes_refusal, weaker};
@@ -132,15 +132,21 @@ pub struct Judged {
     /// In a few words.
     pub state: String,
     /// Each with the word that its line begins with.
-    pub facts: [(&'static str, Fact); 3],
+    pub facts: Vec<(&'static str, Fact)>,
     /// Where some are lost: the command that stores today's, and whether they get weaker.
     pub anew: Option<(String, bool)>,
     pub block: Option<Block>,
 }
 
+/// What is found of all that is stored beside an original of this text.
+pub fn audited(entry: &Entry, original: &[u8]) -> Audit {
+    let found = audit(original, entry.out.as_deref(), entry.cover.as_deref());
+    found.with_cells(original, entry.cells.as_deref())
+}
+
 /// Judges an entry by its files; `original` is the original's text.
 pub fn judged(base: &Path, entry: &Entry, original: &[u8]) -> Judged {
-    let found = audit(original, entry.out.as_deref(), entry.cover.as_deref());
+    let found = audited(entry, original);
     let block = Block::read(original);
     let weaker = !weaker(&found, entry, &block).is_empty();
     let (holds, block) = (found.holds(), block.ok());
@@ -176,9 +182,13 @@ fn told(base: &Path, entry: &Entry) -> Told {
     let exclusions = block.as_ref().map(exclusions).unwrap_or_default();
     lines.extend(exclusions.iter().map(|line| format!("  {line}")));
     let mut fields = object([file, ("holds", Json::Bool(holds))]);
-    let facts = facts.map(|(_, fact)| fact.json());
-    let facts = ["rendering", "never", "cover"].into_iter().zip(facts);
-    fields.extend(facts.map(|(name, fact)| (name.to_string(), fact)));
+    // A field is called by the first word of the fact's line.
+    let name = |what: &str| what.split(' ').next().unwrap_or(what).to_string();
+    fields.extend(
+        facts
+            .into_iter()
+            .map(|(what, fact)| (name(what), fact.json())),
+    );
     fields.extend(block.as_ref().map(excluded).unwrap_or_default());
     if let Some((command, weaker)) = anew {
         lines.push(format!("  to store it anew: {command}"));

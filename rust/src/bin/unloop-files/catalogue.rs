@@ -11,6 +11,8 @@ pub const ORIGINAL: &str = "net";
 pub const OUT: &str = "out";
 pub const COVER: &str = "cover";
 pub const CELLS: &str = "cells";
+/// The files of an entry.
+const ENDINGS: [&str; 4] = [ORIGINAL, OUT, COVER, CELLS];
 
 /// The files of an entry; what is not there is none.
 pub struct Entry {
@@ -18,7 +20,7 @@ pub struct Entry {
     pub original: Option<Vec<u8>>,
     pub out: Option<Vec<u8>>,
     pub cover: Option<Vec<u8>>,
-    /// A table of cells. It is written anew with the others; whether it still holds is not asked yet.
+    /// A table of cells, made here or elsewhere.
     pub cells: Option<Vec<u8>>,
 }
 
@@ -43,7 +45,7 @@ impl Found {
             }
             let none = found.bases.len() == before && found.errors.len() == told;
             if path.is_dir() && none && !found.has_some(path) {
-                let why = "no NAME.net, NAME.out or NAME.cover is in it";
+                let why = "no NAME.net, NAME.out, NAME.cover or NAME.cells is in it";
                 found.errors.push(format!("{}: {why}", shown(path)));
             }
         }
@@ -72,14 +74,14 @@ impl Found {
 
     fn file(&mut self, path: &Path) {
         let there = |base: &PathBuf| {
-            let mut endings = [ORIGINAL, OUT, COVER].iter();
+            let mut endings = ENDINGS.iter();
             endings.any(|ending| beside(base, ending).symlink_metadata().is_ok())
         };
         match (base_of(path), path.symlink_metadata()) {
             (Some(base), _) if there(&base) => drop(self.bases.insert(base)),
             (_, Err(error)) => self.failed(path, &error),
             _ => {
-                let why = "it is no NAME.net, NAME.out or NAME.cover";
+                let why = "it is no NAME.net, NAME.out, NAME.cover or NAME.cells";
                 self.errors.push(format!("{}: {why}", shown(path)));
             }
         }
@@ -94,7 +96,7 @@ impl Found {
 /// The path of an entry's file without its ending; none where it is no file of one.
 fn base_of(path: &Path) -> Option<PathBuf> {
     let ending = path.extension().and_then(|ending| ending.to_str())?;
-    let known = [ORIGINAL, OUT, COVER].contains(&ending);
+    let known = ENDINGS.contains(&ending);
     known.then(|| path.with_extension(""))
 }
 

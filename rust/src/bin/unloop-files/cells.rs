@@ -9,17 +9,25 @@ use std::path::Path;
 use std::process::ExitCode;
 use unloop::{Assignment, CellTable, Refusal, TableError};
 
-/// Writes the ports that the cells show under each setting; a table that is none, or a setting that leaves an input open, is refused.
-pub fn run(list: &Path, source: &Source) -> Result<ExitCode, String> {
+/// The table of a file, or why its words are no cells; an error is a file that can't be read, or whose lines are no table's.
+pub fn table_of(source: &Source) -> Result<Result<CellTable, Refusal>, String> {
     let name = source.name();
     let text = source
         .whole_text()
         .map_err(|error| format!("{name}: {}", reason(&error)))?;
-    let table = match CellTable::read(&String::from_utf8_lossy(&text)) {
+    match CellTable::read(&String::from_utf8_lossy(&text)) {
+        Ok(table) => Ok(Ok(table)),
+        Err(TableError::Refused(refusal)) => Ok(Err(refusal)),
+        Err(TableError::Line { row, why }) => Err(format!("{name}:{row}: {why}")),
+        Err(error) => Err(format!("{name}: {error}")),
+    }
+}
+
+/// Writes the ports that the cells show under each setting; a table that is none, or a setting that leaves an input open, is refused.
+pub fn run(list: &Path, source: &Source) -> Result<ExitCode, String> {
+    let table = match table_of(source)? {
         Ok(table) => table,
-        Err(TableError::Refused(refusal)) => return Ok(refused(refusal, &name)),
-        Err(TableError::Line { row, why }) => return Err(format!("{name}:{row}: {why}")),
-        Err(error) => return Err(format!("{name}: {error}")),
+        Err(refusal) => return Ok(refused(refusal, &source.name())),
     };
     let inputs = table.inputs();
     let settings = settings(list, inputs)?;

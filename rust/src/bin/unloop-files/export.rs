@@ -1,8 +1,9 @@
 //! `--verilog`, `--blif` and `--cells`: renderings, or originals, for tools that nobody here wrote.
 
 use crate::folder::Folder;
+use crate::looked::looked_at;
 use crate::options::{Export, Form, Target};
-use crate::report::{notes, report};
+use crate::report::{notes_of, report};
 use crate::screen::Screen;
 use crate::source::{reason, shown, Source};
 use crate::{put, sources, tally, Stopped};
@@ -11,6 +12,7 @@ use std::fs;
 use std::path::{Path, PathBuf};
 use std::process::ExitCode;
 use unloop::declarations::gate_names;
+use unloop::second_look::{self, Language};
 use unloop::{blif, cell_table, module_name, verilog, Block, Labels, ModuleName, Names, Refusal};
 
 /// Why a file is not written.
@@ -77,8 +79,15 @@ impl Writer {
         let refused = |refusal| Failure::Refused(report(refusal, &name, &text));
         let read = Block::read(&text).map_err(refused)?;
         let labels = self.labels(source, &text, &read).map_err(Failure::Error)?;
-        let module = labels.module.clone();
-        let written = self.in_form(read, labels).map_err(refused)?;
+        let notes = match self.original {
+            true => Vec::new(),
+            false => notes_of(&name, &read),
+        };
+        let form = self.looked_for(&labels.names);
+        let written = self.in_form(read, &labels).map_err(refused)?;
+        let looked = looked_at(&text, written.as_bytes(), form);
+        looked.map_err(|reason| Failure::Error(format!("{name}: {reason}")))?;
+        let module = &labels.module;
         if !self.taken.insert(module.to_string()) {
             let reason = format!("{name}: a FILE before it gives the name {module} too");
             return Err(Failure::Error(reason));
@@ -91,19 +100,33 @@ impl Writer {
             }
             _ => put(written.as_bytes()),
         };
-        if !self.original {
-            Screen::plain().say(&notes(&name, &text));
-        }
+        Screen::plain().say(&notes);
         Ok(done)
     }
 
     /// The rendering of a block, or the block itself, in the form.
-    fn in_form(&self, read: Block, labels: Labels) -> Result<String, Refusal> {
+    fn in_form(&self, read: Block, labels: &Labels) -> Result<String, Refusal> {
         let block = if self.original { read } else { read.render()? };
+        let labels = labels.clone();
         match self.form {
             Form::Verilog => Ok(verilog(&block, labels)),
             Form::Blif => Ok(blif(&block, labels)),
             Form::Cells => cell_table(&block, labels),
+        }
+    }
+
+    /// What the second look at a written file looks for.
+    fn looked_for<'a>(&self, names: &'a Names) -> second_look::Form<'a> {
+        let language = match self.form {
+            Form::Verilog => Language::Verilog,
+            Form::Blif => Language::Blif,
+            Form::Cells => Language::Cells,
+        };
+        second_look::Form {
+            language,
+            loops: self.original,
+            pins: &names.inputs,
+            ports: &names.ports,
         }
     }
 

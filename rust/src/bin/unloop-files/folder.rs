@@ -1,5 +1,6 @@
 //! Files that appear whole or not at all: in the folder of `--into` and `--page`, and beside the originals of `--store`.
 
+use crate::naming::name_anew;
 use crate::source::{reason, shown};
 use std::collections::HashSet;
 use std::ffi::{OsStr, OsString};
@@ -58,13 +59,18 @@ impl Folder {
         })
     }
 
+    /// What stands under a name and is to be replaced; nothing where it is no text, or nothing is replaced here.
+    pub fn replaced(&self, name: &Path) -> Option<String> {
+        let found = self.force.then(|| fs::read_to_string(self.path.join(name)));
+        found?.ok()
+    }
+
     fn moved(&self, target: &Path, rendering: &[u8]) -> io::Result<()> {
         let (held, mut file) = Temporary::new(&self.path)?;
         file.write_all(rendering)?;
         match self.force {
             true => fs::rename(&held.0, target),
-            // Unlike renaming, this fails where there is something, even if it came this moment.
-            false => fs::hard_link(&held.0, target),
+            false => name_anew(&held.0, target),
         }
     }
 }

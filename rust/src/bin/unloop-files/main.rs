@@ -1,24 +1,32 @@
 //! Runs the program `unloop` on files and reports what it refused; `bin/unloop` starts it with the program's path.
 //! What it does is in usage.txt.
 
+mod abc;
 mod audit;
 mod catalogue;
 mod cells;
 mod check;
+mod check_cells;
 mod cover;
 mod described;
+mod design;
 mod export;
+mod fit;
 mod folder;
 mod from_blif;
+mod looked;
+mod naming;
 mod options;
 mod output;
 mod page;
 mod parallel;
 mod program;
+mod reduce;
 mod report;
 mod run;
 mod screen;
 mod sheet;
+mod shrink;
 mod source;
 mod store;
 mod tally;
@@ -47,7 +55,12 @@ fn main() -> ExitCode {
             output,
             reads,
         } = asked;
-        output.map_or(Ok(()), |path| output::open(path, &reads))?;
+        // Of a design nothing is written before all of it is done.
+        let open = match request {
+            Request::Design(_) => output::open_later,
+            _ => output::open,
+        };
+        output.map_or(Ok(()), |path| open(path, &reads))?;
         Ok(request)
     });
     match asked {
@@ -68,11 +81,16 @@ fn answered(request: Request, program: Program) -> ExitCode {
         Request::Check { theirs, ours, json } => {
             check::run(Source::of(theirs), Source::of(ours), json)
         }
+        Request::CheckCells { table, ours, json } => {
+            check_cells::run(&Source::of(table), &Source::of(ours), json)
+        }
         Request::Audit(audited, json) => Ok(audit::run(&audited, json)),
         Request::Store(store) => store::run(&program, &store),
         Request::Cover(files) => Ok(cover::run(&sources(files))),
         Request::Export(export) => export::run(export),
+        Request::Reduce(asked) => reduce::run(asked),
         Request::FromBlif(asked) => from_blif::run(asked),
+        Request::Design(asked) => design::run(asked),
         Request::Page(target, files) => page::run(&target, files),
         Request::AuditedPage(target, audited) => page::run_audited(&target, &audited),
     };

@@ -40,11 +40,18 @@ pub enum Request {
         ours: PathBuf,
         json: bool,
     },
+    CheckCells {
+        table: PathBuf,
+        ours: PathBuf,
+        json: bool,
+    },
     Audit(Audited, bool),
     Store(Store),
     Cover(Vec<PathBuf>),
     Export(Export),
+    Reduce(Reduce),
     FromBlif(FromBlif),
+    Design(Design),
     Page(Target, Vec<PathBuf>),
     AuditedPage(Target, Audited),
 }
@@ -71,6 +78,23 @@ pub struct Export {
     pub names: Option<PathBuf>,
 }
 
+/// Files of which the smallest table of cells, or the smallest netlist, is wanted.
+#[derive(Debug)]
+pub struct Reduce {
+    pub to: Reduced,
+    pub files: Vec<PathBuf>,
+    /// Where they go instead of standard output.
+    pub into: Option<Target>,
+    pub json: bool,
+}
+
+/// What is to be as small as can be.
+#[derive(Debug, Clone, Copy, PartialEq, Eq)]
+pub enum Reduced {
+    Cells,
+    Netlist,
+}
+
 /// A model that is written as a netlist.
 #[derive(Debug)]
 pub struct FromBlif {
@@ -78,6 +102,18 @@ pub struct FromBlif {
     pub model: Option<String>,
     /// Where names that were changed go.
     pub names: Option<PathBuf>,
+}
+
+/// A model whose loops are taken out.
+#[derive(Debug)]
+pub struct Design {
+    pub file: Option<PathBuf>,
+    pub model: Option<String>,
+    /// The promises about its nets.
+    pub never: Option<PathBuf>,
+    /// Loops that can't be taken out stay, and the rest is written.
+    pub partial: bool,
+    pub json: bool,
 }
 
 /// A folder that is written to.
@@ -104,11 +140,14 @@ enum Task {
     Sheet(PathBuf),
     RunCells(PathBuf),
     Check(PathBuf),
+    CheckCells(PathBuf),
     Audit,
     Store(PathBuf),
     Cover,
     Export(Form),
+    Reduce(Reduced),
     FromBlif,
+    Design,
     Page(PathBuf),
 }
 
@@ -120,13 +159,17 @@ impl Task {
             Task::Sheet(_) => "--sheet SETTINGS",
             Task::RunCells(_) => "--run-cells SETTINGS",
             Task::Check(_) => "--check THEIRS",
+            Task::CheckCells(_) => "--check-cells TABLE",
             Task::Audit => "--audit",
             Task::Store(_) => "--store DIR",
             Task::Cover => "--cover",
             Task::Export(Form::Verilog) => "--verilog",
             Task::Export(Form::Blif) => "--blif",
             Task::Export(Form::Cells) => "--cells",
+            Task::Reduce(Reduced::Cells) => "--fit",
+            Task::Reduce(Reduced::Netlist) => "--shrink",
             Task::FromBlif => "--from-blif",
+            Task::Design => "--design",
             Task::Page(_) => "--page DIR",
         }
     }
@@ -143,6 +186,8 @@ struct Given {
     original: bool,
     names: Option<PathBuf>,
     model: Option<PathBuf>,
+    never: Option<PathBuf>,
+    partial: bool,
     recursive: bool,
     quiet: bool,
     /// Asked for instead of all else.
@@ -175,12 +220,14 @@ fn reads(given: &Given) -> Result<Vec<PathBuf>, String> {
     let lists = given.tasks.iter().filter_map(|task| match task {
         Task::Sheet(list) | Task::RunCells(list) if list.as_os_str() == ALL => None,
         Task::Sheet(list) | Task::RunCells(list) | Task::Check(list) => Some(list),
+        Task::CheckCells(table) => Some(table),
         _ => None,
     });
     let reads_names = given.tasks.iter().any(|task| *task != Task::FromBlif);
     let names = given.names.as_ref().filter(|_| reads_names);
     let (input, files): (Vec<_>, Vec<_>) = lists
         .chain(names)
+        .chain(&given.never)
         .chain(&given.files)
         .cloned()
         .partition(|path| is_input(path));
@@ -201,6 +248,11 @@ fn written(request: Request) -> Result<Request, String> {
             ..
         } => Err(format!("--into DIR without --json {silent}")),
         Request::Export(Export { into: Some(_), .. }) => Err(format!("--into DIR {silent}")),
+        Request::Reduce(Reduce {
+            into: Some(_),
+            json: false,
+            ..
+        }) => Err(format!("--into DIR without --json {silent}")),
         request => Ok(request),
     }
 }
@@ -281,10 +333,11 @@ fn given(mut words: impl Iterator<Item = OsString>) -> Result<Given, String> {
 impl Given {
     /// The folder that files in another form go to: `--into` beside one of those options, whose task alone is left.
     fn export_folder(&mut self) -> Option<PathBuf> {
+        let writes = |task: &Task| matches!(task, Task::Export(_) | Task::Reduce(_));
         match &mut self.tasks[..] {
-            [Task::Into(folder), Task::Export(_)] | [Task::Export(_), Task::Into(folder)] => {
+            [Task::Into(folder), task] | [task, Task::Into(folder)] if writes(task) => {
                 let folder = std::mem::take(folder);
-                self.tasks.retain(|task| matches!(task, Task::Export(_)));
+                self.tasks.retain(writes);
                 Some(folder)
             }
             _ => None,
@@ -302,6 +355,8 @@ impl Given {
             "--original" => self.original = true,
             "--names" => self.names = Some(operand),
             "--model" => self.model = Some(operand),
+            "--never" => self.never = Some(operand),
+            "--partial" => self.partial = true,
             "--recursive" => self.recursive = true,
             "--quiet" => self.quiet = true,
             _ => self.tasks.push(match name {
@@ -309,6 +364,7 @@ impl Given {
                 "--sheet" => Task::Sheet(operand),
                 "--run-cells" => Task::RunCells(operand),
                 "--check" => Task::Check(operand),
+                "--check-cells" => Task::CheckCells(operand),
                 "--audit" => Task::Audit,
                 "--store" => Task::Store(operand),
                 "--cover" => Task::Cover,
@@ -316,7 +372,10 @@ impl Given {
                 "--verilog" => Task::Export(Form::Verilog),
                 "--blif" => Task::Export(Form::Blif),
                 "--cells" => Task::Export(Form::Cells),
+                "--fit" => Task::Reduce(Reduced::Cells),
+                "--shrink" => Task::Reduce(Reduced::Netlist),
                 "--from-blif" => Task::FromBlif,
+                "--design" => Task::Design,
                 _ => return None,
             }),
         }
@@ -336,14 +395,20 @@ fn request(mut given: Given) -> Result<Request, String> {
     let writes = into.is_some() || matches!(task, Task::Into(_) | Task::Page(_) | Task::Store(_));
     let reports = matches!(
         task,
-        Task::Render | Task::Into(_) | Task::Check(_) | Task::Audit
+        Task::Render
+            | Task::Into(_)
+            | Task::Check(_)
+            | Task::CheckCells(_)
+            | Task::Audit
+            | Task::Reduce(_)
+            | Task::Design
     );
     let fits = (writes || !given.force) && (reports || !given.json);
     match task {
         Task::Render if given.force => {
             return Err("--force needs --into DIR, --page DIR or --store DIR".to_string())
         }
-        Task::Sheet(_) | Task::Check(_) => {}
+        Task::Sheet(_) | Task::Check(_) | Task::CheckCells(_) => {}
         _ => {
             if let Some(other) = &other {
                 return Err(format!(
@@ -364,17 +429,25 @@ fn request(mut given: Given) -> Result<Request, String> {
     named_models(&task, &given)?;
     match task {
         Task::Export(form) => exported(form, into, given),
+        Task::Reduce(to) => reduced(to, into, given),
         task => made(task, other.is_none() && fits, given),
     }
 }
 
-/// What `--names` and `--model` need to have a meaning.
+/// What the options about models need to have a meaning.
 fn named_models(task: &Task, given: &Given) -> Result<(), String> {
     let wrong = |what: &str| Err(what.to_string());
     let one = given.files.len() < 2;
     match task {
+        Task::Design => {}
+        _ if given.never.is_some() => return wrong("--never NEVERS needs --design"),
+        _ if given.partial => return wrong("--partial needs --design"),
+        _ => {}
+    }
+    match task {
         Task::FromBlif => Ok(()),
-        _ if given.model.is_some() => wrong("--model NAME needs --from-blif"),
+        Task::Design if given.names.is_none() => Ok(()),
+        _ if given.model.is_some() => wrong("--model NAME needs --from-blif or --design"),
         Task::Export(Form::Verilog | Form::Blif) if given.names.is_some() && !one => {
             wrong("--names NAMES goes with one FILE")
         }
@@ -397,6 +470,21 @@ fn exported(form: Form, into: Option<PathBuf>, given: Given) -> Result<Request, 
         files,
         into: into.map(|folder| Target { folder, force }),
         names: given.names,
+    }))
+}
+
+/// The request of small tables or netlists; those for a folder must have names.
+fn reduced(to: Reduced, into: Option<PathBuf>, given: Given) -> Result<Request, String> {
+    let files = match into {
+        Some(_) => named(given.files, "--into")?,
+        None => given.files,
+    };
+    let force = given.force;
+    Ok(Request::Reduce(Reduce {
+        to,
+        files,
+        into: into.map(|folder| Target { folder, force }),
+        json: given.json,
     }))
 }
 
@@ -470,6 +558,13 @@ fn made(task: Task, fits: bool, given: Given) -> Result<Request, String> {
             model: given.model.map(|name| name.to_string_lossy().into_owned()),
             names: given.names,
         }),
+        Task::Design if given.files.len() < 2 => Request::Design(Design {
+            file: given.files.into_iter().next(),
+            model: given.model.map(|name| name.to_string_lossy().into_owned()),
+            never: given.never,
+            partial: given.partial,
+            json,
+        }),
         Task::Page(folder) => Request::Page(target(folder), named(given.files, "--page")?),
         task => return of_one_file(task, fits, given.files, json),
     })
@@ -493,7 +588,11 @@ fn of_one_file(task: Task, fits: bool, files: Vec<PathBuf>, json: bool) -> Resul
             Some([ours]) if fits => Request::Check { theirs, ours, json },
             _ => return wrong("--check THEIRS needs one FILE and no other option"),
         },
-        _ => return wrong("--from-blif takes one FILE"),
+        Task::CheckCells(table) => match one(files) {
+            Some([ours]) if fits => Request::CheckCells { table, ours, json },
+            _ => return wrong("--check-cells TABLE needs one FILE and no other option"),
+        },
+        task => return Err(format!("{} takes one FILE", task.option())),
     })
 }
 

@@ -1,17 +1,21 @@
 //! `--page DIR`: a page on netlists that a browser opens from disk. index.html is an overview; each file has a page of its own. All that is
-//! told comes from the library's operations and the never lines; what the browser does (sorting, searching, looking values up) is in page.js.
+//! told comes from the library's operations and the never lines; what the browser does (sorting, searching, looking values up, moving
+//! drawings) is in page.js.
 //! With `--audit` the netlists are those of a catalogue's entries, and their pages have what the audit says of them.
 
+mod dot;
 mod drawn;
 mod entry;
 mod excluded;
 mod facts;
+mod files;
 mod html;
 mod overview;
 mod sheet;
 mod svg;
+mod texts;
 
-use crate::catalogue::{beside, original, read, Found, ORIGINAL};
+use crate::catalogue::{beside, original, read, Found, CELLS, COVER, ORIGINAL, OUT};
 use crate::folder::Folder;
 use crate::options::{Audited, Target};
 use crate::parallel::in_order;
@@ -62,8 +66,11 @@ pub fn run_audited(target: &Target, audited: &Audited) -> Result<ExitCode, Strin
         },
     );
     netlists.sort_by_key(|(_, _, facts)| facts.as_ref().is_some_and(Facts::hold));
-    let originals = bases.iter().map(|base| beside(base, ORIGINAL));
-    write(target, &originals.collect::<Vec<_>>(), netlists, errors)
+    // No file of an entry is overwritten, wherever the page is.
+    let of_entry =
+        |base: &PathBuf| [ORIGINAL, OUT, COVER, CELLS].map(|ending| beside(base, ending));
+    let kept: Vec<PathBuf> = bases.iter().flat_map(of_entry).collect();
+    write(target, &kept, netlists, errors)
 }
 
 /// The original of an entry, and its facts.
@@ -77,10 +84,10 @@ fn facts(base: &Path) -> Result<Read, String> {
     Ok((source, text.clone(), Some(facts)))
 }
 
-/// Writes the page of the netlists of these files that can be read; `errors`: what is told of the others.
+/// Writes the page of netlists; `kept`: the files that it doesn't overwrite, `errors`: what is told of those that can't be read.
 fn write(
     target: &Target,
-    files: &[PathBuf],
+    kept: &[PathBuf],
     netlists: Vec<Read>,
     mut errors: Vec<String>,
 ) -> Result<ExitCode, String> {
@@ -88,17 +95,15 @@ fn write(
     if entries.is_empty() {
         return Ok(ExitCode::from(tally::ERROR));
     }
-    // The index is first: where a page stands already, nothing else is written.
-    let folder = Folder::open(target.folder.clone(), target.force, files)?;
-    let put = |name: &str, content: &str| folder.put(Path::new(name), content.as_bytes());
-    put("index.html", &overview::page(&entries, &errors))?;
-    put("page.css", STYLE)?;
-    put("page.js", SCRIPT)?;
+    entries.iter().try_for_each(Entry::looked_at)?;
+    let folder = Folder::open(target.folder.clone(), target.force, kept)?;
+    put_overview(&folder, &entries, &errors)?;
+    let beside = Folder::open(target.folder.join(files::FOLDER), target.force, kept)?;
     let numbered: Vec<usize> = (0..entries.len()).collect();
     let mut done = Vec::new();
     let _ = in_order(
         &numbered,
-        |&index| put(&entries[index].page, &entry::page(&entries, index)),
+        |&index| put(&entries, index, &folder, &beside),
         |_| {},
         |index, written| {
             match written {
@@ -117,19 +122,57 @@ fn write(
     Ok(ExitCode::from(status))
 }
 
+/// Writes what all pages have in common. The index is first: where a page stands already, nothing else is written.
+fn put_overview(folder: &Folder, entries: &[Entry], errors: &[String]) -> Result<(), String> {
+    let index = overview::page(entries, errors);
+    for (name, content) in [
+        ("index.html", &index[..]),
+        ("page.css", STYLE),
+        ("page.js", SCRIPT),
+    ] {
+        folder.put(Path::new(name), content.as_bytes())?;
+    }
+    Ok(())
+}
+
+/// Writes the page of an entry and the files beside it. The drawing of a page that was there stays where it would be the same.
+fn put(entries: &[Entry], index: usize, folder: &Folder, beside: &Folder) -> Result<(), String> {
+    let files = files::files(&entries[index]);
+    files
+        .iter()
+        .try_for_each(|file| file.looked_at(&entries[index]))?;
+    let name = Path::new(&entries[index].page);
+    let before = folder.replaced(name);
+    let page = entry::page(entries, index, &files, before.as_deref());
+    folder.put(name, page.as_bytes())?;
+    let mut files = files.iter();
+    files.try_for_each(|file| beside.put(Path::new(&file.name), &file.content))
+}
+
 /// An error that the others go on after.
 fn told(reason: String) -> String {
     Screen::plain().say(&[format!("unloop: {reason}")]);
     reason
 }
 
-/// The netlists with the names of their pages.
+/// The netlists with the names of their pages, and what became of them.
 fn entries(netlists: Vec<Read>) -> Vec<Entry> {
     let pages = page_names(netlists.iter().map(|(source, _, _)| source));
-    let entries = netlists.into_iter().zip(pages);
-    let entries =
-        entries.map(|((source, text, facts), page)| Entry::new(&source, page, text, facts));
-    entries.collect()
+    let named: Vec<(Read, String)> = netlists.into_iter().zip(pages).collect();
+    let mut entries: Vec<Entry> = Vec::new();
+    let _ = in_order(
+        &named,
+        |((source, text, _), page)| Entry::new(source, page, text),
+        |_| {},
+        |_, entry| {
+            entries.push(entry);
+            ControlFlow::Continue(())
+        },
+    );
+    for (entry, ((_, _, facts), _)) in entries.iter_mut().zip(named) {
+        entry.facts = facts;
+    }
+    entries
 }
 
 /// The name of each file's page: of its stem, with a number behind it where that is taken.

@@ -1,6 +1,6 @@
 //! How a refusal is told: as compilers do, with the line and a caret where there is a place.
 
-use unloop::{circle, hint, visible, Assignment, Block, Location, Refusal, Value};
+use unloop::{circle, hint, visible, Assignment, Block, Location, Names, Refusal, Value};
 
 /// The entries of a cover that are told.
 pub const ENTRIES_TOLD: usize = 8;
@@ -32,7 +32,8 @@ pub fn report(refusal: Refusal, name: &str, text: &[u8]) -> Vec<String> {
     let mut lines = vec![format!("{name}: {word}")];
     if let Ok(block) = Block::read(text) {
         let setting = unsettled(refusal, &block);
-        lines.extend(setting.map_or_else(Vec::new, |setting| settings_told(&block, setting, text)));
+        let told = |setting| settings_told(&block, setting, text, &Names::default());
+        lines.extend(setting.map_or_else(Vec::new, told));
         let exclusions = exclusions(&block).into_iter();
         lines.extend(exclusions.map(|line| format!("  {line}")));
     }
@@ -50,8 +51,12 @@ pub fn unsettled(refusal: Refusal, block: &Block) -> Option<usize> {
 /// What is told of a text that was rendered: the settings that its never lines exclude, if any.
 pub fn notes(name: &str, text: &[u8]) -> Vec<String> {
     let block = Block::read(text);
-    let exclusions = block.map(|block| exclusions(&block)).unwrap_or_default();
-    let lines = exclusions.into_iter();
+    block.map_or(Vec::new(), |block| notes_of(name, &block))
+}
+
+/// The same of its block.
+pub fn notes_of(name: &str, block: &Block) -> Vec<String> {
+    let lines = exclusions(block).into_iter();
     lines.map(|line| format!("{name}: {line}")).collect()
 }
 
@@ -74,18 +79,26 @@ pub fn warning(block: &Block) -> Option<String> {
 }
 
 /// The setting that isn't settled, the outputs undefined under it, the gates that wait for each other, and what settles, by the names of
-/// the pins.
-fn settings_told(block: &Block, setting: usize, text: &[u8]) -> Vec<String> {
-    let pins = block.input_names();
+/// the pins, or by those that they had elsewhere.
+pub fn settings_told(block: &Block, setting: usize, text: &[u8], names: &Names) -> Vec<String> {
+    let pins = block.input_names().into_iter();
+    let pins: Vec<String> = pins.map(|pin| other(names.input(&pin), &pin)).collect();
     let under = match pins.is_empty() {
         true => String::new(),
-        false => format!(" with {}", pins_of(block, setting)),
+        false => {
+            let setting = block.assignment(setting).unwrap_or_default();
+            format!(" with {}", setting.pins(&pins))
+        }
     };
+    let ports = undefined(block, setting).into_iter();
+    let ports: Vec<String> = ports.map(|port| other(names.port(&port), &port)).collect();
     let mut lines = vec![format!(
         "  not settled{under}: {} undefined",
-        undefined(block, setting).join(", ")
+        ports.join(", ")
     )];
-    lines.extend(waiting(&circle(text, setting)).map(|circle| format!("  {circle}")));
+    let gates = circle(text, setting).into_iter();
+    let gates: Vec<String> = gates.map(|gate| other(names.gate(&gate), &gate)).collect();
+    lines.extend(waiting(&gates).map(|circle| format!("  {circle}")));
     let cover = block.cover();
     let told = cover.iter().take(ENTRIES_TOLD);
     lines.extend(told.map(|&entry| {
@@ -102,6 +115,11 @@ fn settings_told(block: &Block, setting: usize, text: &[u8]) -> Vec<String> {
         lines.push("  settles under no setting".to_string());
     }
     lines
+}
+
+/// A name, where there is one, or else the other.
+pub fn other(name: Option<&str>, otherwise: &str) -> String {
+    name.unwrap_or(otherwise).to_string()
 }
 
 /// As `up waits for filter, filter waits for up`; of a long circle its first gates and how many there are.

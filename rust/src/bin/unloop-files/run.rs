@@ -138,8 +138,7 @@ impl Run {
             .source
             .text()
             .map_err(|error| named(source::reason(&error)))?;
-        let output = self.program.run(&text).map_err(named)?;
-        let refusal = report::refusal_in(&output).map_err(named)?;
+        let (output, refusal) = self.program.answer(&text).map_err(named)?;
         if let (Some(folder), Source::File(path), None) = (&self.folder, &job.source, refusal) {
             folder.put(path, &output)?;
         }

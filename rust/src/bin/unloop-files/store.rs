@@ -1,12 +1,15 @@
 //! `--store DIR [NAME ...]`: tells what changes in the facts beside each original, and then writes them.
 
-use crate::audit::{becomes_refusal, promised_lines, refused_now, refused_with, weaker, Fact};
+use crate::audit::{
+    audited, becomes_refusal, promised_lines, refused_now, refused_with, weaker, Fact,
+};
 use crate::catalogue::{beside, read, Entry, Found, CELLS, COVER, ORIGINAL, OUT};
 use crate::export::made_from;
 use crate::folder::replace;
+use crate::looked::looked_at;
 use crate::parallel::in_order;
 use crate::program::Program;
-use crate::report::{refusal_in, ENTRIES_TOLD};
+use crate::report::ENTRIES_TOLD;
 use crate::screen::Screen;
 use crate::source::shown;
 use crate::{put, tally, Stopped};
@@ -14,7 +17,8 @@ use std::collections::BTreeSet;
 use std::ops::ControlFlow;
 use std::path::{Path, PathBuf};
 use std::process::ExitCode;
-use unloop::audit::{audit, cover_text, entry_lines, Audit, Cover, Never, Rendering};
+use unloop::audit::{cover_text, entry_lines, Audit, Cover, Never, Rendering};
+use unloop::second_look::{Form, Language};
 use unloop::{cell_table, module_name, Block, Labels, Refusal};
 
 /// What is to be stored.
@@ -161,14 +165,14 @@ fn plan(program: &Program, base: &Path) -> Result<Plan, String> {
     let Some(original) = &entry.original else {
         return Err(format!("{}: no original", shown(&path(ORIGINAL))));
     };
-    let found = audit(original, entry.out.as_deref(), entry.cover.as_deref());
+    let found = audited(&entry, original);
     let block = Block::read(original);
     let mut files = Vec::new();
     let mut answer = None;
     if found.rendering != Rendering::Holds || becomes_refusal(&found, &entry, &block).is_some() {
         let named = |why| format!("{}: {why}", shown(&path(ORIGINAL)));
-        let output = program.run(original).map_err(named)?;
-        answer = Some(refusal_in(&output).map_err(named)?);
+        let (output, refusal) = program.answer(original).map_err(named)?;
+        answer = Some(refusal);
         files.push((path(OUT), Some(output)));
     }
     let covered = found.never == Never::Holds && found.cover == Cover::Holds;
@@ -179,7 +183,7 @@ fn plan(program: &Program, base: &Path) -> Result<Plan, String> {
     }
     let mut changes = changes(&found, &entry, &block, answer);
     let mut weaker = weaker(&found, &entry, &block);
-    if let Some((told, cells)) = cells(base, &entry, &block) {
+    if let Some((told, cells)) = cells(base, &found, &entry, &block)? {
         let gone = "what is refused has no cells".to_string();
         weaker.extend(cells.is_none().then_some(gone));
         changes.push(told);
@@ -193,13 +197,25 @@ fn plan(program: &Program, base: &Path) -> Result<Plan, String> {
     })
 }
 
-/// The table of cells, where one is stored that doesn't hold: that of the program's rendering, or none where the original is refused.
+/// What is told of a file that changes, and its content; none where it is removed.
+type Changed = (String, Option<Vec<u8>>);
+
+/// The table of cells, where one is stored that doesn't hold: that of the program's rendering, or none where the original is refused. What
+/// CompareCells accepts stays as it is, as long as the rendering beside it does.
 fn cells(
     base: &Path,
+    found: &Audit,
     entry: &Entry,
     block: &Result<Block, Refusal>,
-) -> Option<(String, Option<Vec<u8>>)> {
-    let stored = entry.cells.as_ref()?;
+) -> Result<Option<Changed>, String> {
+    let (Some(stored), Some(original)) = (&found.cells, &entry.original) else {
+        return Ok(None);
+    };
+    if found.cells_hold() && becomes_refusal(found, entry, block).is_none() {
+        return Ok(None);
+    }
+    let why = Fact::of_cells(stored, entry, block.as_ref().ok());
+    let why = why.why().map_or(String::new(), |why| format!(" ({why})"));
     let stem = base.file_name().unwrap_or_default().to_string_lossy();
     let rendering = block.as_ref().ok().and_then(|block| block.render().ok());
     let labels = Labels {
@@ -207,16 +223,12 @@ fn cells(
         ..Labels::from(&module_name(&stem))
     };
     let table = rendering.and_then(|block| cell_table(&block, labels).ok());
-    match table.map(String::into_bytes) {
-        None => Some(("cells are gone".to_string(), None)),
-        Some(today) if cells_hold(stored, &today) => None,
-        today => Some(("cells anew".to_string(), today)),
-    }
-}
-
-/// Whether a stored table holds, beside today's. It does where it is the same text; what CompareCells says of another one belongs here.
-fn cells_hold(stored: &[u8], today: &[u8]) -> bool {
-    stored == today
+    let Some(today) = table.map(String::into_bytes) else {
+        return Ok(Some(("cells are gone".to_string(), None)));
+    };
+    looked_at(original, &today, Form::rendering(Language::Cells))
+        .map_err(|why| format!("{}: {why}", shown(&beside(base, CELLS))))?;
+    Ok(Some((format!("cells anew{why}"), Some(today))))
 }
 
 /// What changes, in words; `answer`: what the program says today, where that is stored.
@@ -274,7 +286,7 @@ fn rendering(
     answer: Option<Refusal>,
 ) -> String {
     let today = answer.map_or("rendered".to_string(), refused_with);
-    let [(_, fact), ..] = Fact::all(found, entry, block.as_ref().ok());
+    let fact = Fact::of_rendering(found, entry, block.as_ref().ok());
     match (&found.rendering, answer) {
         (Rendering::Missing, _) => today,
         (Rendering::Answer { stored, .. }, Some(now)) if now.number() == stored.number() => {

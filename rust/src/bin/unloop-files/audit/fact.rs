@@ -1,12 +1,12 @@
-//! What became of one of the three facts of an entry, in words and as JSON.
+//! What became of one of the facts of an entry, in words and as JSON.
 
 use super::{promises, Entry};
 use crate::check::Differs;
 use crate::described::{object, pins};
 use crate::report::{pins_of, undefined};
-use unloop::audit::{Audit, Cover, Names, Never, Rendering};
+use unloop::audit::{Audit, Cover, Names, Never, Rendering, Table};
 use unloop::json::Json;
-use unloop::{Block, Location, Refusal};
+use unloop::{Block, CellTable, Location, Refusal};
 
 pub struct Fact {
     state: &'static str,
@@ -63,16 +63,19 @@ impl Fact {
         Json::Object(fields)
     }
 
-    /// All three, each with the word that its line begins with.
-    pub fn all(found: &Audit, entry: &Entry, block: Option<&Block>) -> [(&'static str, Fact); 3] {
-        [
+    /// All of them, each with the word that its line begins with; the cells where there are some.
+    pub fn all(found: &Audit, entry: &Entry, block: Option<&Block>) -> Vec<(&'static str, Fact)> {
+        let mut facts = vec![
             ("rendering", Fact::of_rendering(found, entry, block)),
             ("never lines", Fact::of_never(&found.never, block)),
             ("cover", Fact::of_cover(found, entry, block)),
-        ]
+        ];
+        let cells = found.cells.as_ref();
+        facts.extend(cells.map(|cells| ("cells", Fact::of_cells(cells, entry, block))));
+        facts
     }
 
-    fn of_rendering(found: &Audit, entry: &Entry, block: Option<&Block>) -> Fact {
+    pub fn of_rendering(found: &Audit, entry: &Entry, block: Option<&Block>) -> Fact {
         let out = entry.out.as_deref();
         let theirs = out.and_then(|out| Block::read(out).ok());
         let plain = |state, why| Fact::lost(state, why, Vec::new());
@@ -103,6 +106,34 @@ impl Fact {
                 let blocks = block.zip(theirs.as_ref());
                 let differs = blocks.map(|(ours, theirs)| Differs::new(ours, theirs, *found));
                 let told = differs.map(|differs| (differs.to_string(), differs.fields()));
+                let (why, fields) = told.unwrap_or_default();
+                Fact::lost("differs", why, fields)
+            }
+        }
+    }
+
+    pub fn of_cells(found: &Table, entry: &Entry, block: Option<&Block>) -> Fact {
+        let plain = |state, why| Fact::lost(state, why, Vec::new());
+        match found {
+            Table::Holds => Fact::holds(),
+            Table::Illegible(why) => plain("illegible", format!("they can't be read, {why}")),
+            Table::Original(refusal) => plain("original", original(*refusal, entry)),
+            Table::Strangers { pins, ports } => {
+                let told = [pins.in_words("pin"), ports.in_words("port")].concat();
+                let why = match told.is_empty() {
+                    true => "a pin or port stands there twice".to_string(),
+                    false => told.join("; "),
+                };
+                let fields = [("pins", names(pins)), ("ports", names(ports))];
+                Fact::lost(Refusal::InterfaceMismatch.word(), why, object(fields))
+            }
+            Table::Differs(found) => {
+                let text = entry.cells.as_deref().unwrap_or_default();
+                let table = CellTable::read(&String::from_utf8_lossy(text)).ok();
+                let told = block.zip(table).map(|(ours, table)| {
+                    let differs = Differs::of_table(ours, &table, *found);
+                    (differs.to_string(), differs.fields())
+                });
                 let (why, fields) = told.unwrap_or_default();
                 Fact::lost("differs", why, fields)
             }

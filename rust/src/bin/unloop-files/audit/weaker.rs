@@ -28,7 +28,7 @@ pub fn becomes_refusal(
     block: &Result<Block, Refusal>,
 ) -> Option<Refusal> {
     let refusal_stored = entry.out.as_deref().and_then(Refusal::of_line).is_some();
-    if found.holds() || found.rendering == Rendering::Missing || refusal_stored {
+    if found.netlist_holds() || found.rendering == Rendering::Missing || refusal_stored {
         return None;
     }
     let block = block.as_ref().map_err(|&refusal| refusal);

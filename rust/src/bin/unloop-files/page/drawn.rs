@@ -1,21 +1,19 @@
 //! The drawing of a block, its loops in colour and gates that wait for each other outlined: by Graphviz where `dot` is installed and the block
-//! not too large, otherwise by svg.rs.
+//! not too large, otherwise by svg.rs. Each node has a name by which page.js finds it and shows its value under the sheet's pins.
 
 use super::html::escaped;
-use super::svg;
+use super::{dot, svg};
 use crate::report::waiting;
-use std::io::Write;
-use std::process::{Command, Stdio};
-use unloop::declarations::gate_names;
-use unloop::drawing::{Drawing, Node};
+use unloop::declarations::{gate_names, gate_rows};
+use unloop::drawing::{Drawing, Node, Wire};
 use unloop::{circle, Block, Operand};
 
-/// Graphviz takes long on more.
-const GATES_FOR_DOT: usize = 150;
 /// A drawing that is wider is not shrunk below this, in pixels.
 const LEAST_WIDTH: usize = 640;
 /// The colours of loops, which are then used again.
 const COLOURS: usize = 6;
+/// What stands in the place of a value until page.js shows one.
+const NO_VALUE: &str = "–";
 
 /// What is written on the nodes, and the class of each gate.
 pub struct Labels {
@@ -25,6 +23,8 @@ pub struct Labels {
     pub gates: Vec<(String, String)>,
     /// The loop that a gate is in.
     pub loops: Vec<Option<usize>>,
+    /// The line of the text that a gate stands in.
+    rows: Vec<usize>,
     /// The gates that wait for each other, by name, where a setting isn't settled.
     waiting: Vec<String>,
 }
@@ -56,42 +56,84 @@ impl Labels {
                 .map(|(number, gate)| (name(number), kind(gate)))
                 .collect(),
             loops,
+            rows: gate_rows(text),
             waiting: unsettled.map_or(Vec::new(), |setting| circle(text, setting)),
         }
     }
 
-    /// The class of a wire or a gate.
+    /// The lines in a node's box, each with its class: what it is called, its value, its kind.
+    pub fn lines(&self, node: Node) -> Vec<(String, &'static str)> {
+        let named = |name: &str| (format!("{name} = {NO_VALUE}"), "name");
+        match node {
+            Node::Input(input) => vec![named(&self.inputs[input])],
+            Node::Output(output) => vec![named(&self.outputs[output])],
+            Node::Gate(gate) => match &self.gates[gate] {
+                (name, kind) if name.is_empty() => {
+                    vec![(kind.clone(), "kind"), (format!("= {NO_VALUE}"), "name")]
+                }
+                (name, kind) => vec![named(name), (kind.clone(), "kind")],
+            },
+        }
+    }
+
+    /// The classes of a node: its loop, and the line of the text that it is of.
     pub fn class(&self, node: Node) -> String {
         match node {
             Node::Input(_) => "input".to_string(),
             Node::Output(_) => "output".to_string(),
             Node::Gate(gate) => {
+                let looped = self.loops[gate].map(|number| format!(" loop{}", number % COLOURS));
                 let waits = self.waiting.contains(&self.gates[gate].0);
                 let waits = if waits { " waits" } else { "" };
-                match self.loops[gate] {
-                    Some(number) => format!("gate loop{}{waits}", number % COLOURS),
-                    None => "gate".to_string(),
-                }
+                let row = self.rows[gate];
+                format!("gate{}{waits} of{row}", looped.unwrap_or_default())
             }
         }
     }
 }
 
-/// `unsettled`: the lowest setting that isn't settled, if there is one.
-pub fn drawing(block: &Block, text: &[u8], unsettled: Option<usize>) -> String {
+/// What a node is called in the drawing.
+pub fn id(node: Node) -> String {
+    match node {
+        Node::Input(input) => format!("i{input}"),
+        Node::Gate(gate) => format!("g{gate}"),
+        Node::Output(output) => format!("o{output}"),
+    }
+}
+
+/// The classes of a wire: whether it is part of a loop, and its two ends.
+pub fn wire_class(wire: &Wire) -> String {
+    let looped = if wire.looped { " inloop" } else { "" };
+    let (from, to) = (id(wire.from), id(wire.to));
+    format!("wire{looped} from_{from} to_{to}")
+}
+
+/// `unsettled`: the lowest setting that isn't settled, if there is one. `before`: the page that it had, whose drawing stays where it is the same.
+pub fn drawing(
+    block: &Block,
+    text: &[u8],
+    unsettled: Option<usize>,
+    before: Option<&str>,
+) -> String {
     let labels = Labels::of(block, text, unsettled);
     let drawing = Drawing::of(block);
-    let by_dot = (block.gates() <= GATES_FOR_DOT)
-        .then(|| dot(&drawing, &labels))
-        .flatten();
-    let picture = by_dot.unwrap_or_else(|| svg::svg(&drawing, &labels));
-    let whole =
-        "<p><button type=\"button\" class=\"zoom\" aria-pressed=\"false\">Full size</button></p>\n";
+    let drawn = dot::drawn(&drawing, &labels, before);
+    let drawn = drawn.unwrap_or_else(|| dot::framed(&svg::svg(&drawing, &labels), ""));
     format!(
-        "{}{whole}<div class=\"scroll drawing\" tabindex=\"0\">\n{picture}</div>\n",
+        "{}{TOOLS}{drawn}<p id=\"traced\" role=\"status\"></p>\n",
         legend(&labels)
     )
 }
+
+/// What moves a drawing; page.js does it.
+const TOOLS: &str = "<p class=\"tools\"><button type=\"button\" data-zoom=\"out\" aria-label=\"Smaller\">−</button> \
+    <button type=\"button\" data-zoom=\"in\" aria-label=\"Larger\">+</button> \
+    <button type=\"button\" data-zoom=\"fit\">Fit</button> <button type=\"button\" data-zoom=\"full\">Full size</button> \
+    <span class=\"note\">Drag it, or turn the wheel with Ctrl; keys: arrows, + − 0 1. A click on a gate tells its line.</span></p>\n";
+
+/// Of gates that page.js marks.
+const OPENS: &str = "<li><span class=\"swatch opens\"></span> opens its loop under the sheet's pins: it has its value whatever \
+    it reads of its loop; wires that play no part are dotted</li>\n";
 
 /// The loops by colour, with the names of their gates.
 fn legend(labels: &Labels) -> String {
@@ -124,101 +166,14 @@ fn legend(labels: &Labels) -> String {
         format!("<li><span class=\"swatch waits\"></span> {waiting}</li>\n")
     });
     format!(
-        "<ul class=\"legend\">\n{}{}</ul>\n",
+        "<ul class=\"legend\">\n{}{}{OPENS}</ul>\n",
         (0..count).map(item).collect::<String>(),
         waiting.unwrap_or_default()
     )
-}
-
-/// What Graphviz draws, or nothing where it isn't installed.
-fn dot(drawing: &Drawing, labels: &Labels) -> Option<String> {
-    let mut child = Command::new("dot")
-        .arg("-Tsvg")
-        .stdin(Stdio::piped())
-        .stdout(Stdio::piped())
-        .stderr(Stdio::null())
-        .spawn()
-        .ok()?;
-    let graph = graph(drawing, labels);
-    // It reads all of the graph before it writes.
-    child.stdin.take()?.write_all(graph.as_bytes()).ok()?;
-    let ended = child
-        .wait_with_output()
-        .ok()
-        .filter(|ended| ended.status.success())?;
-    let svg = String::from_utf8(ended.stdout).ok()?;
-    Some(scaled(&svg[svg.find("<svg")?..]))
-}
-
-/// With a name for those who hear the page, and no smaller than can be read.
-fn scaled(svg: &str) -> String {
-    let width = svg
-        .split_once("width=\"")
-        .and_then(|(_, rest)| rest.split_once("pt\""));
-    let points: usize = width
-        .and_then(|(points, _)| points.parse().ok())
-        .unwrap_or(0);
-    svg.replacen("<svg", &format!("<svg {}", described(points * 4 / 3)), 1)
 }
 
 /// The attributes of a drawing that is so many pixels wide.
 pub fn described(width: usize) -> String {
     let least = width.min(LEAST_WIDTH);
     format!("role=\"img\" aria-label=\"The gates and their wires\" style=\"min-width: {least}px\"")
-}
-
-/// The graph in Graphviz's language. Names are a netlist's own, so nothing needs quoting.
-fn graph(drawing: &Drawing, labels: &Labels) -> String {
-    let mut lines = vec![
-        "digraph {\nrankdir=LR; bgcolor=transparent;".to_string(),
-        "node [shape=box style=rounded fontname=\"monospace\" fontsize=11 margin=\"0.12,0.05\" height=0.3];".to_string(),
-    ];
-    let nodes = drawing.columns.iter().flatten();
-    lines.extend(nodes.map(|&node| graph_node(node, labels)));
-    let ids = |letter: char, count: usize| {
-        (0..count)
-            .map(|number| format!("{letter}{number}; "))
-            .collect::<String>()
-    };
-    lines.push(format!(
-        "{{rank=source; {}}}",
-        ids('i', labels.inputs.len())
-    ));
-    lines.push(format!("{{rank=sink; {}}}", ids('o', labels.outputs.len())));
-    for wire in &drawing.wires {
-        let class = if wire.looped { "wire inloop" } else { "wire" };
-        let (from, to) = (graph_id(wire.from), graph_id(wire.to));
-        lines.push(format!("{from} -> {to} [class=\"{class}\" arrowsize=0.6];"));
-    }
-    lines.push("}\n".to_string());
-    lines.join("\n")
-}
-
-fn graph_id(node: Node) -> String {
-    match node {
-        Node::Input(input) => format!("i{input}"),
-        Node::Gate(gate) => format!("g{gate}"),
-        Node::Output(output) => format!("o{output}"),
-    }
-}
-
-fn graph_node(node: Node, labels: &Labels) -> String {
-    let label = match node {
-        Node::Input(input) => labels.inputs[input].clone(),
-        Node::Output(output) => labels.outputs[output].clone(),
-        Node::Gate(gate) => match &labels.gates[gate] {
-            (name, kind) if name.is_empty() => kind.clone(),
-            (name, kind) => format!("{name}\\n{kind}"),
-        },
-    };
-    let shape = if matches!(node, Node::Gate(_)) {
-        ""
-    } else {
-        " shape=plaintext"
-    };
-    format!(
-        "{} [label=\"{label}\" class=\"{}\"{shape}];",
-        graph_id(node),
-        labels.class(node)
-    )
 }

@@ -1,11 +1,14 @@
 //! A netlist's own page: its state, text, drawing, cover, sheet, and its rendering beside it.
 
 use super::facts::Facts;
+use super::files::{links, Beside};
 use super::html::{counted, escaped, framed};
+use super::texts::{refused, Lines};
 use super::{drawn, excluded, sheet};
+use crate::looked::looked_at;
 use crate::report;
 use crate::source::Source;
-use unloop::declarations::name_at;
+use unloop::second_look::{Form, Language};
 use unloop::{Assignment, Block, Location, Refusal};
 
 /// The entries of a cover that are shown.
@@ -28,20 +31,31 @@ pub struct Entry {
 }
 
 impl Entry {
-    pub fn new(source: &Source, page: String, text: Vec<u8>, facts: Option<Facts>) -> Entry {
-        let block = Block::read(&text);
+    /// Without facts.
+    pub fn new(source: &Source, page: &str, text: &[u8]) -> Entry {
+        let block = Block::read(text);
         let rendering = block.clone().and_then(|block| block.render());
         let verdict = block.as_ref().map(Block::verdict);
         Entry {
             name: source.last_part(),
             title: source.stem(),
-            page,
-            text,
+            page: page.to_string(),
+            text: text.to_vec(),
             unsettled: verdict.ok().and_then(|verdict| verdict.lowest_unsettled),
             block,
             rendering,
-            facts,
+            facts: None,
         }
+    }
+
+    /// Whether the rendering that is shown says what the netlist says; else an error in words.
+    pub fn looked_at(&self) -> Result<(), String> {
+        let Ok(rendering) = &self.rendering else {
+            return Ok(());
+        };
+        let form = Form::rendering(Language::Netlist);
+        let looked = looked_at(&self.text, rendering.write().as_bytes(), form);
+        looked.map_err(|reason| format!("{}: {reason}", self.name))
     }
 
     /// Its state as a class and in words; a refusal at a place has its line and column.
@@ -65,6 +79,18 @@ impl Entry {
             }
             (Refusal::NotSettled { .. }, _) => ("undecided", refusal.word().to_string()),
             _ => ("illegible", refusal.word().to_string()),
+        }
+    }
+
+    /// The states by which the overview is filtered; one that is both swollen and undecided has both.
+    pub fn states(&self) -> Vec<&'static str> {
+        let excluded = |block: &Block| block.excluded_settings() > 0;
+        match self.rendering {
+            Ok(_) if self.block.as_ref().is_ok_and(excluded) => vec!["excluded"],
+            Ok(_) => vec!["rendered"],
+            Err(_) if self.block.is_err() => vec!["illegible"],
+            Err(Refusal::TooManyCopies) if self.unsettled.is_some() => vec!["swollen", "undecided"],
+            Err(refusal) => vec![refusal.word()],
         }
     }
 
@@ -118,7 +144,8 @@ fn nav(entries: &[Entry], index: usize) -> String {
     )
 }
 
-pub fn page(entries: &[Entry], index: usize) -> String {
+/// The page of an entry. `before`: what it was before, if it was there.
+pub fn page(entries: &[Entry], index: usize, files: &[Beside], before: Option<&str>) -> String {
     let (entry, nav) = (&entries[index], nav(entries, index));
     let (class, state) = entry.state();
     let told = entry
@@ -128,11 +155,12 @@ pub fn page(entries: &[Entry], index: usize) -> String {
         .collect::<Vec<_>>()
         .join("\n");
     let mut body = format!(
-        "<header>\n{nav}\n<h1>{}</h1>\n<p><span class=\"state {class}\">{}</span>{}</p>\n<pre class=\"told\">{told}</pre>\n{}</header>\n<main>\n",
+        "<header>\n{nav}\n<h1>{}</h1>\n<p><span class=\"state {class}\">{}</span>{}</p>\n<pre class=\"told\">{told}</pre>\n{}{}</header>\n<main>\n",
         escaped(&entry.title),
         escaped(&state),
         entry.badge(),
-        entry.block.as_ref().map_or(String::new(), excluded::paragraph)
+        entry.block.as_ref().map_or(String::new(), excluded::paragraph),
+        links(files)
     );
     if let Some(facts) = &entry.facts {
         body += &section("Facts", &facts.content());
@@ -141,7 +169,7 @@ pub fn page(entries: &[Entry], index: usize) -> String {
         body += &section("Sheet", &sheet::sheet(block, entry.unsettled));
         body += &section(
             "Drawing",
-            &drawn::drawing(block, &entry.text, entry.unsettled),
+            &drawn::drawing(block, &entry.text, entry.unsettled, before),
         );
         body += &section("Cover", &cover(block));
     }
@@ -156,71 +184,39 @@ fn section(title: &str, content: &str) -> String {
 
 /// The original, its refusal marked, and the rendering beside it.
 fn texts(entry: &Entry) -> String {
-    let original = numbered(&entry.text, entry.block.as_ref().err().copied());
-    let Ok(rendering) = &entry.rendering else {
-        return section("Text", &original);
+    let block = match &entry.block {
+        Ok(block) => block,
+        Err(refusal) => return section("Text", &refused(&entry.text, *refusal)),
     };
-    let lines = numbered(rendering.write().as_bytes(), None);
-    format!(
-        "<div class=\"beside\">\n{}{}</div>\n",
-        section("Text", &original),
-        section("Rendering", &lines)
-    )
-}
-
-/// The lines of a text, numbered, and what is refused in it marked: a byte, or a name.
-fn numbered(text: &[u8], refusal: Option<Refusal>) -> String {
-    let place = refusal.and_then(Refusal::place);
-    let marked = place.map(|place| Location::of(text, place));
-    let length = match (refusal, place) {
-        (Some(Refusal::SyntaxError { .. }), _) | (_, None) => 1,
-        (_, Some(place)) => name_at(text, place).len(),
+    let rendering = entry.rendering.as_ref().ok();
+    let lines = Lines::of(&entry.text, block, rendering);
+    let original = section("Text", &lines.original());
+    let Some(rendering) = rendering else {
+        return original;
     };
-    let lines = text
-        .strip_suffix(b"\n")
-        .unwrap_or(text)
-        .split(|&byte| byte == b'\n');
-    let mut items = String::new();
-    for (line, row) in lines.zip(1..) {
-        let shown = |bytes: &[u8]| escaped(&String::from_utf8_lossy(bytes));
-        items += &match &marked {
-            Some(mark) if mark.row == row => {
-                let (before, rest) = line.split_at(line.len().min(mark.column - 1));
-                let (at, behind) = rest.split_at(rest.len().min(length));
-                let at = if at.is_empty() {
-                    "↵".to_string()
-                } else {
-                    shown(at)
-                };
-                format!(
-                    "<li class=\"refused\"><code>{}<mark>{at}</mark>{}</code></li>\n",
-                    shown(before),
-                    shown(behind)
-                )
-            }
-            _ => format!("<li><code>{}</code></li>\n", shown(line)),
-        };
-    }
-    format!("<div class=\"scroll\" tabindex=\"0\"><ol class=\"text\">\n{items}</ol></div>\n")
+    let rendering = section("Rendering", &lines.rendering(rendering));
+    format!("<div class=\"beside\">\n{original}{rendering}</div>\n")
 }
 
 /// The cover as a table of pins.
 fn cover(block: &Block) -> String {
     let (cover, pins) = (block.cover(), block.input_names());
     match cover[..] {
-        [] => {
-            return "<p>Under no setting of the pins that may come does every output settle.</p>\n"
-                .to_string()
-        }
+        [] => "<p>Under no setting of the pins that may come does every output settle.</p>\n"
+            .to_string(),
         [Assignment { fixed: 0, .. }] => {
             let but = match block.excluded_settings() {
                 0 => "",
                 _ => " Of the settings that never come nothing is said.",
             };
-            return format!("<p>Always: no pin needs to be set.{but}</p>\n");
+            format!("<p>Always: no pin needs to be set.{but}</p>\n")
         }
-        _ => {}
+        _ => cover_table(&cover, &pins),
     }
+}
+
+/// Its entries, a row each.
+fn cover_table(cover: &[Assignment], pins: &[String]) -> String {
     let headers: String = pins
         .iter()
         .map(|pin| format!("<th scope=\"col\">{}</th>", escaped(pin)))

@@ -1,4 +1,4 @@
-//! index.html: a row for each netlist, which page.js sorts and searches.
+//! index.html: a row for each netlist, which page.js sorts, searches and filters.
 
 use super::entry::Entry;
 use super::facts::Facts;
@@ -52,15 +52,57 @@ pub fn page(entries: &[Entry], errors: &[String]) -> String {
     let body = format!(
         "<header>\n<h1>Netlists</h1>\n<p>{}.</p>\n{}</header>\n<main>\n\
          <p class=\"search\"><label for=\"search\">Search</label> <input id=\"search\" type=\"search\" placeholder=\"a name, or a state such as undecided\"> \
-         <span id=\"found\" role=\"status\"></span></p>\n\
+         <span id=\"found\" role=\"status\"></span></p>\n{}\
          <table id=\"overview\">\n<thead>\n<tr>{headers}</tr>\n</thead>\n<tbody>\n{rows}</tbody>\n</table>\n\
          <p class=\"note\">Gates: of the original, inner ones counted. Loops: its strongly connected groups that are one. Rendering: the gate lines of the \
          loop-free netlist. Settled: the settings of the pins under which every output is 0 or 1, of those that may come; \
          excluded are those that a never line promises never to come.</p>\n</main>\n",
         escaped(&summary(&entries.iter().collect::<Vec<_>>(), errors.len())),
-        unread.collect::<String>()
+        unread.collect::<String>(),
+        filters(entries)
     );
     framed("Netlists", &body)
+}
+
+/// The states that rows are filtered by, with their words: those of the netlist, and those of its facts.
+const STATES: [(&str, &[(&str, &str)]); 2] = [
+    (
+        "State",
+        &[
+            ("rendered", "rendered"),
+            ("excluded", "rendered, settings excluded"),
+            ("undecided", "undecided"),
+            ("swollen", "swollen"),
+            ("illegible", "not read"),
+        ],
+    ),
+    ("Facts", &[("lost", "lost"), ("held", "all hold")]),
+];
+
+/// A row's states.
+fn states(entry: &Entry) -> Vec<&'static str> {
+    let facts = entry.facts.as_ref();
+    let facts = facts.map(|facts| if facts.hold() { "held" } else { "lost" });
+    entry.states().into_iter().chain(facts).collect()
+}
+
+/// A box for each state that some row has, with how many have it.
+fn filters(entries: &[Entry]) -> String {
+    let group = |(title, listed): (&str, &[(&str, &str)])| {
+        let boxes = listed.iter().filter_map(|(state, words)| {
+            let has = |entry: &&Entry| states(entry).contains(state);
+            let count = entries.iter().filter(has).count();
+            (count > 0).then(|| format!("<label><input type=\"checkbox\" name=\"{title}\" value=\"{state}\"> {words} ({count})</label>\n"))
+        });
+        let boxes: String = boxes.collect();
+        match boxes.is_empty() {
+            true => String::new(),
+            false => format!(
+                "<fieldset class=\"filters\">\n<legend>{title}</legend>\n{boxes}</fieldset>\n"
+            ),
+        }
+    };
+    STATES.into_iter().map(group).collect()
 }
 
 /// A row; a cell's `data-value` is what it is sorted by.
@@ -82,7 +124,8 @@ fn row(entry: &Entry) -> String {
         settled.checked_div(block.settings_that_come()).unwrap_or(0)
     });
     format!(
-        "<tr><th scope=\"row\"><a href=\"{}\">{}</a></th>{}{}{}{}{}</tr>\n",
+        "<tr data-states=\"{}\"><th scope=\"row\"><a href=\"{}\">{}</a></th>{}{}{}{}{}</tr>\n",
+        states(entry).join(" "),
         escaped(&entry.page),
         escaped(&entry.title),
         state(entry),

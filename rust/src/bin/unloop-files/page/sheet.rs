@@ -1,18 +1,21 @@
-//! The sheet: pins that are clicked to 0, 1 or undefined, and the outputs then. Their values are stored in the page, as Sheet gave them, and
-//! with them what is said of each setting.
+//! The sheet: pins that are clicked to 0, 1 or undefined, and the outputs then. Their values are stored in the page, as Sheet gave them, with
+//! them what is said of each setting, and for the drawing the gates' values, as Settle gave them.
 
 use super::html::escaped;
 use crate::described::object;
 use unloop::json::Json;
-use unloop::{Assignment, Block, Value};
+use unloop::{Assignment, Block, Opening, Value};
 
 /// With more inputs than these no pin may be left undefined, so that the page stays small.
 const UNDEFINED_PINS: usize = 8;
 
+/// What the drawing shows of a gate: its three values, and 0 or 1 where it opens its loop.
+const GATE_STATES: u32 = 5;
+
 /// The sheet of a block; one that isn't settled begins with the lowest setting that shows it.
 pub fn sheet(block: &Block, unsettled: Option<usize>) -> String {
     let (pins, ports) = (block.input_names(), block.output_names());
-    if ports.is_empty() {
+    if ports.is_empty() && block.gates() == 0 {
         return "<p>It has no outputs.</p>\n".to_string();
     }
     let base = if pins.len() <= UNDEFINED_PINS { 3 } else { 2 };
@@ -54,8 +57,8 @@ fn notes(pins: usize, base: usize, count: usize) -> String {
     };
     format!(
         "<p class=\"note\">{changed}</p>\n<p class=\"note\">What is shown under {settings} is stored in this page, which only looks it up: the outputs' values are \
-         those that the proved operation Sheet gave; whether they settle, and whether the setting never comes, was told from these values and the never lines \
-         when the page was written.</p>\n"
+         those that the proved operation Sheet gave, those of the gates in the drawing are Settle's; whether they settle, whether the setting never comes, and which gates open a loop, was told from these \
+         values and the never lines when the page was written.</p>\n"
     )
 }
 
@@ -87,8 +90,39 @@ fn stored(block: &Block, base: usize, start: usize) -> (Json, usize) {
             "rows",
             Json::Text(shown.iter().flatten().copied().map(letter).collect()),
         ),
+        ("letters", Json::Number(block.gates().div_ceil(2))),
+        ("gates", Json::Text(gates(block, &asked))),
     ]);
     (Json::Object(fields), count)
+}
+
+/// What the drawing shows of every gate under these settings, two gates a letter: the lower one's state, and five times that of the other.
+fn gates(block: &Block, asked: &[Assignment]) -> String {
+    let opening = Opening::of(block);
+    let mut letters = String::new();
+    for assignment in asked {
+        let value = |input| {
+            assignment
+                .value(input)
+                .map_or(Value::Undefined, Value::from)
+        };
+        let setting: Vec<Value> = (0..block.inputs()).map(value).collect();
+        let Ok(settled) = block.settle(&setting) else {
+            continue;
+        };
+        let mut states: Vec<u32> = settled.values.iter().map(|&value| value as u32).collect();
+        let opened = opening.gates(&setting, &settled).into_iter();
+        opened.for_each(|gate| states[gate] += Value::Undefined as u32 + 1);
+        let letter = |pair: &[u32]| {
+            let number = pair
+                .iter()
+                .rev()
+                .fold(0, |number, state| GATE_STATES * number + state);
+            char::from_digit(number, 36)
+        };
+        letters.extend(states.chunks(2).filter_map(letter));
+    }
+    letters
 }
 
 /// What is said of a setting: `s` it is settled, `n` it is not; where pins are open, which is no setting that could be settled, `d` every

@@ -1,13 +1,13 @@
 //! A plain layered drawing as SVG: a column of boxes after another, wires as curves, and those that close a loop dashed, below the boxes.
 
-use super::drawn::{described, Labels};
+use super::drawn::{described, id, wire_class, Labels};
 use super::html::escaped;
 use std::collections::HashMap;
 use unloop::drawing::{Drawing, Node, Wire};
 
-const WIDTH: usize = 84;
+const WIDTH: usize = 98;
 const HEIGHT: usize = 34;
-const COLUMN: usize = 150;
+const COLUMN: usize = 164;
 const ROW: usize = 54;
 const MARGIN: usize = 24;
 
@@ -53,22 +53,21 @@ fn boxed(node: Node, (x, y): (usize, usize), labels: &Labels) -> String {
             escaped(text)
         )
     };
-    let words = match node {
-        Node::Input(input) => line(&labels.inputs[input], y + 21, "name"),
-        Node::Output(output) => line(&labels.outputs[output], y + 21, "name"),
-        Node::Gate(gate) => match &labels.gates[gate] {
-            (name, kind) if name.is_empty() => line(kind, y + 21, "kind"),
-            (name, kind) => line(name, y + 15, "name") + &line(kind, y + 28, "kind"),
-        },
-    };
-    let class = labels.class(node);
-    format!("<g class=\"node {class}\"><rect x=\"{x}\" y=\"{y}\" width=\"{WIDTH}\" height=\"{HEIGHT}\" rx=\"6\"/>{words}</g>\n")
+    let lines = labels.lines(node);
+    let heights: &[usize] = if lines.len() == 1 { &[21] } else { &[15, 28] };
+    let words = lines.iter().zip(heights);
+    let words: String = words
+        .map(|((words, class), height)| line(words, y + height, class))
+        .collect();
+    let (id, class) = (id(node), labels.class(node));
+    format!("<g id=\"{id}\" class=\"node {class}\"><rect x=\"{x}\" y=\"{y}\" width=\"{WIDTH}\" height=\"{HEIGHT}\" rx=\"6\"/>{words}</g>\n")
 }
 
 /// From the right side of a box to the left side of another; a wire that runs back goes below both.
 fn curve(wire: &Wire, places: &Places) -> String {
     let (from, to) = (places[&wire.from], places[&wire.to]);
     let (x1, y1, x2, y2) = (from.0 + WIDTH, from.1 + HEIGHT / 2, to.0, to.1 + HEIGHT / 2);
+    let class = wire_class(wire);
     let bend = (x2.abs_diff(x1) / 2).clamp(24, 90);
     if !wire.back {
         let path = format!(
@@ -76,11 +75,10 @@ fn curve(wire: &Wire, places: &Places) -> String {
             x1 + bend,
             x2.saturating_sub(bend)
         );
-        let class = if wire.looped { "wire inloop" } else { "wire" };
         return format!("<path class=\"{class}\" d=\"{path}\"/>\n");
     }
     let low = y1.max(y2) + ROW - 8;
     let (right, left) = (x1 + 34, x2.saturating_sub(34));
     let path = format!("M{x1} {y1} C{right} {y1} {right} {low} {x1} {low} L{x2} {low} C{left} {low} {left} {y2} {x2} {y2}");
-    format!("<path class=\"wire inloop back\" d=\"{path}\"/>\n")
+    format!("<path class=\"{class} back\" d=\"{path}\"/>\n")
 }
