@@ -56,17 +56,17 @@ pub record Part (graph order : List ℕ) (from end : ℕ) : Type 0 where
   pub few : (i : ℕ) → from ≤ i → i < end → getD order i 0 < maxGates
   pub node : (i : ℕ) → from ≤ i → i < end → Node maxGates graph (getD order i 0)
 
--- every one of them is one of the first m
+-- every gate at these positions is one of the first m
 pub record OrderPart (m : ℕ) (order : List ℕ) (from end : ℕ) : Type 0 where
   pub ordered : from ≤ end
   pub within : end ≤ m
   pub inside : (i : ℕ) → from ≤ i → i < end → getD order i 0 < m
 
--- these gates, there or back
+-- the gates at these positions, along or back
 unfoldable pub part : Bool → List ℕ → ℕ → ℕ → List ℕ
 part back order from end = tab (λ i. getD order (from + placeOf back (end - from) i) 0) (end - from)
 
--- gate j is one of them
+-- gate j stands at one of these positions
 pub record Among (order : List ℕ) (from end j : ℕ) : Type 0 where
   pub at : ℕ
   pub low : from ≤ at
@@ -95,7 +95,7 @@ valueAt m w s j = getD (map (lane s) (gatesIn m w)) j undefined
 unfoldable pub evaluatedAt : ℕ → List ℕ → List ℕ → ℕ → ℕ → Value
 evaluatedAt m graph w s j = evaluated (map (lane s) (inputsIn w)) (map (lane s) (gatesIn m w)) (gateOf (network m graph) j)
 
--- at every lane in use it is the same
+-- gate j is still: at every lane in use its evaluation gives the value that it has
 abbrev pub Still : ℕ → ℕ → List ℕ → List ℕ → ℕ → Type 0
 Still m n graph w j = (s : ℕ) → s < lanesOf n → evaluatedAt m graph w s j ≡ valueAt m w s j
 
@@ -146,7 +146,7 @@ pub record LayerSettled (m n : ℕ) (graph order ends : List ℕ) (i : ℕ) (w a
   pub more : i < next
   pub within : next ≤ m
 
--- the same where the gates stand as they come, each a layer of its own
+-- the gates below j are still, where gates stand as they come, each a layer of its own
 pub record StraightReached (m n : ℕ) (graph : List ℕ) (i : ℕ) (w : List ℕ) : Type 0 where
   pub reached : Reached m n graph (tab (λ k. k) m) (tab (λ k. k) m) i w
 

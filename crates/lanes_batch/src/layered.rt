@@ -1,5 +1,7 @@
-// The settled values of the batch of settings that starts at `base`, layer by layer: a gate that lies on no loop is evaluated once, a loop's gates until
-// nothing in the loop changes. `lanes` has two words for each place (crates/lanes_dual_rail); `order` and `ends` are the gates in layers (crates/graph_scc).
+// Fixpoint iteration for up to 64 settings at once, layer by layer: a gate that lies on no loop is evaluated once, a
+// loop's gates until nothing in the loop changes (chaotic iteration: any order gives the least fixpoint). The batch of
+// settings starts at `base`; `lanes` has two words for each place (crates/lanes_dual_rail); `order` and `ends` are the
+// gates in layers (crates/graph_scc).
 use graph_gates::FIRST_GATE;
 use graph_gates::FIRST_INPUT;
 use graph_gates::GRAPH_WORDS;
@@ -38,7 +40,7 @@ fn clear_words(end: usize, lanes: &mut [u64; LANE_WORDS])
     }
 }
 
-// Every input's pair.
+// Stores every input's pair.
 fn put_inputs(n: usize, base: usize, lanes: &mut [u64; LANE_WORDS])
     requires { ⌜ (n ≤ maxInputs) × (length (now lanes) ≡ laneSize) ⌝ }
     ensures { λ r. ⌜ InputsStarted n base n (now (lanes .entry)) (now (lanes .exit)) ⌝ }
@@ -50,7 +52,7 @@ fn put_inputs(n: usize, base: usize, lanes: &mut [u64; LANE_WORDS])
     }
 }
 
-// The constants' pairs and every input's, and every gate undefined.
+// Stores the constants' pairs and every input's, and makes every gate undefined.
 pub fn start_lanes(m: usize, n: usize, base: usize, lanes: &mut [u64; LANE_WORDS])
     requires { ⌜ (m ≤ maxGates) × (n ≤ maxInputs) × (length (now lanes) ≡ laneSize) ⌝ }
     ensures { λ r. ⌜ LanesStarted m n base (now (lanes .exit)) ⌝ }
@@ -76,7 +78,7 @@ pub fn start_lanes(m: usize, n: usize, base: usize, lanes: &mut [u64; LANE_WORDS
     put_inputs(n, base, lanes);
 }
 
-// Evaluates gate `j` and stores its pair; whether that is another.
+// Evaluates gate `j` and stores its pair; tells whether it changed.
 fn step(graph: &[u16; GRAPH_WORDS], j: usize, lanes: &mut [u64; LANE_WORDS]) -> bool
     requires { ⌜ Node maxGates (now graph) j × (j < maxGates) ⌝ }
     ensures { λ r. ⌜ GateEvaluated (now (graph .entry)) j (now (lanes .entry)) (now (lanes .exit)) r ⌝ }
@@ -95,7 +97,8 @@ fn place_along(back: bool, count: usize, i: usize) -> usize
     if back { count - 1 - i } else { i }
 }
 
-// Evaluates the gates at the positions from `from` to before `end`, or back from there, each pair stored at once; whether any changed.
+// Evaluates the gates at the positions from `from` to before `end`, or back from there, and stores each pair at once;
+// tells whether any changed.
 pub fn sweep_part(
     graph: &[u16; GRAPH_WORDS],
     order: &[u16; MAX_GATES],
@@ -120,7 +123,8 @@ pub fn sweep_part(
     changed
 }
 
-// Is every gate there 0 or 1 at every lane in use? Then nothing there can change any more.
+// Is every gate at the positions from `from` to before `end` 0 or 1 at every lane in use? Then none of them can change
+// any more.
 fn is_decided(
     used: u64,
     order: &[u16; MAX_GATES],
@@ -142,7 +146,7 @@ fn is_decided(
     true
 }
 
-// One sweep over a loop; whether nothing there can change any more, since nothing changed or every lane is decided.
+// One sweep over a loop; tells whether nothing in it can change any more, since nothing changed or every lane is decided.
 fn sweep_decides(
     graph: &[u16; GRAPH_WORDS],
     m: usize,
@@ -163,8 +167,9 @@ fn sweep_decides(
     is_decided(used_lanes(n), order, from, end, lanes)
 }
 
-// Sweeps over a loop until nothing there can change any more: twice there, since an order that enters a loop at the wrong gate is right from the second sweep
-// on, and then back and there by turns, since where a value runs against the order, the way back is shorter.
+// Sweeps over a loop until nothing in it can change any more: twice along its order, since an order that enters a loop at
+// the wrong gate is right from the second sweep on, and then back and along by turns, since a value that runs against the
+// order gets through in one sweep back.
 fn settle_loop(
     graph: &[u16; GRAPH_WORDS],
     m: usize,
@@ -185,7 +190,7 @@ fn settle_loop(
     }
 }
 
-// Settles the layer that starts at position `i`; where the next one starts.
+// Settles the layer that starts at position `i`; gives the position at which the next one starts.
 fn settle_layer(
     graph: &[u16; GRAPH_WORDS],
     m: usize,
@@ -209,7 +214,7 @@ fn settle_layer(
     end
 }
 
-// The settled values of the batch at every lane.
+// Finds the settled values of the batch at every lane.
 pub fn decide_batch(
     graph: &[u16; GRAPH_WORDS],
     m: usize,
@@ -230,7 +235,8 @@ pub fn decide_batch(
     }
 }
 
-// The same of gates each of which reads only gates before it: evaluated once, as they come.
+// Finds the settled values of a straight block: its gates, each of which reads only gates before it, are evaluated once,
+// as they come.
 pub fn decide_straight(
     graph: &[u16; GRAPH_WORDS],
     m: usize,

@@ -1,4 +1,4 @@
-// What every walk over a block's settings goes by, made once: its graph, and the gates in layers.
+// The plan that every walk over a block's settings goes by, made once: the block's graph, and its gates in layers.
 use graph_gates::GRAPH_WORDS;
 use graph_gates::decode_gates;
 use graph_scc::layers::layer_gates;
@@ -9,7 +9,7 @@ ghost use mathlib.Core.Bool.{false};
 ghost use Rattle.netlist.specs.StoredBlock.{isMalformed};
 ghost use Rattle.lanes_batch.specs.Layered.{PlanRoom, Planned};
 
-// The graph of a block that is not torn, and its gates in layers.
+// Makes the plan of a block that is not malformed.
 pub fn plan_block(
     words: &[u16],
     graph: &mut [u16; GRAPH_WORDS],

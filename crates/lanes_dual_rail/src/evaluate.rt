@@ -1,5 +1,6 @@
-// One gate's pair from its row and the words of its operands. `lanes` has two words for each place: word 2 × place + v marks the lanes at which what stands
-// there has value v. A gate reads four places; behind its last operand stands the constant that changes nothing.
+// One gate under 64 settings at a time, in dual-rail words: the gate's pair from its row and the words of its operands.
+// `lanes` has two words for each place: word 2 × place + v marks the lanes at which what stands there has value v. A gate
+// reads four places; behind its last operand stands the constant that changes nothing.
 use crate::LANE_WORDS;
 use crate::Pair;
 use graph_gates::GRAPH_WORDS;
@@ -13,12 +14,12 @@ ghost use Rattle.graph_gates.specs.Graph.{Node, placeAt};
 ghost use Rattle.lanes_dual_rail.specs.Pairs.{parityPair, swapped};
 ghost use Rattle.lanes_dual_rail.specs.LaneWords.{pairAt, putPair, operandWord, someWord, everyWord, rulePair, parityOf, parityAt, gatePairIn};
 
-// What stands behind the kind and the operand count in an operation (crates/graph_gates/specs/Graph.antt).
+// Where the controlling and the forced value of a gate's row stand in its operation (crates/graph_gates/specs/Graph.antt).
 const CONTROLLING: usize = 64;
 
 const FORCED: usize = 128;
 
-// The kinds from here on have no row.
+// The kinds from this one on, `xor` and `xnor`, have no row of controlling and forced values.
 const FIRST_PARITY: usize = 5;
 
 // The pair at a place.
@@ -49,7 +50,7 @@ fn operand_place(graph: &[u16; GRAPH_WORDS], j: usize, i: usize) -> usize
     graph[NODE_SIZE * j + 1 + i] as usize
 }
 
-// The lanes at which that operand has value `v`.
+// The lanes at which operand `i` of gate `j` has value `v`.
 fn operand_word(
     graph: &[u16; GRAPH_WORDS],
     j: usize,
@@ -63,7 +64,7 @@ fn operand_word(
     lanes[2 * operand_place(graph, j, i) + v]
 }
 
-// The lanes at which some operand has value `v`.
+// The lanes at which some operand of gate `j` has value `v`.
 fn some_word(graph: &[u16; GRAPH_WORDS], j: usize, v: usize, lanes: &[u64; LANE_WORDS]) -> u64
     requires { ⌜ Node maxGates (now graph) j × (j < maxGates) × (v < 2) ⌝ }
     ensures { λ r. ⌜ r ≡ someWord (now (graph .entry)) j (now (lanes .entry)) v ⌝ }
@@ -75,7 +76,7 @@ fn some_word(graph: &[u16; GRAPH_WORDS], j: usize, v: usize, lanes: &[u64; LANE_
     a | (b | (c | d))
 }
 
-// The lanes at which every operand has value `v`.
+// The lanes at which every operand of gate `j` has value `v`.
 fn every_word(graph: &[u16; GRAPH_WORDS], j: usize, v: usize, lanes: &[u64; LANE_WORDS]) -> u64
     requires { ⌜ Node maxGates (now graph) j × (j < maxGates) × (v < 2) ⌝ }
     ensures { λ r. ⌜ r ≡ everyWord (now (graph .entry)) j (now (lanes .entry)) v ⌝ }
@@ -87,7 +88,8 @@ fn every_word(graph: &[u16; GRAPH_WORDS], j: usize, v: usize, lanes: &[u64; LANE
     a & (b & (c & d))
 }
 
-// The pair by the row: `forced` where some operand is `controlling`, the other value where every operand is the other.
+// The pair of a gate by its row: `forced` where some operand is `controlling`, the other value where every operand is the
+// other.
 fn rule_pair(
     graph: &[u16; GRAPH_WORDS],
     j: usize,
@@ -122,7 +124,7 @@ fn parity_of_two(p: Pair, q: Pair) -> Pair
     }
 }
 
-// The pair of operand `i`.
+// The pair of operand `i` of gate `j`.
 fn operand_pair(graph: &[u16; GRAPH_WORDS], j: usize, i: usize, lanes: &[u64; LANE_WORDS]) -> Pair
     requires { ⌜ Node maxGates (now graph) j × (j < maxGates) × (i < 4) ⌝ }
     ensures { λ r. ⌜ r ≡ pairAt (now (lanes .entry)) (placeAt (now (graph .entry)) j i) ⌝ }
@@ -130,7 +132,7 @@ fn operand_pair(graph: &[u16; GRAPH_WORDS], j: usize, i: usize, lanes: &[u64; LA
     pair_at(lanes, operand_place(graph, j, i))
 }
 
-// The pair by parity, inverted where `forced` is 1.
+// The pair of a gate without a row: the parity of its operands, inverted where `forced` is 1.
 fn parity_pair(
     graph: &[u16; GRAPH_WORDS],
     j: usize,

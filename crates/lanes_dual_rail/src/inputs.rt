@@ -5,10 +5,10 @@ ghost use Prim.Native.Nat.{_<_};
 ghost use Rattle.lanes_dual_rail.specs.Pairs.{full};
 ghost use Rattle.lanes_dual_rail.specs.Batches.{lanesOf, pattern, inputPair};
 
-// The settings of a batch have six inputs to tell them apart.
+// The 64 settings of a batch differ in the six lowest inputs alone.
 pub const LOW_INPUTS: usize = 6;
 
-// Bit s of number i is bit i of s.
+// The lanes at which each of the six lowest inputs is 1: bit s of entry i is bit i of s.
 const PATTERNS: [u64; 6] = [
     0xaaaa_aaaa_aaaa_aaaa,
     0xcccc_cccc_cccc_cccc,

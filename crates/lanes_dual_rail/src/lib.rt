@@ -1,4 +1,5 @@
-// Sixty-four settings at a time: one gate's values under them as a pair of words, and the gate's pair from its operands' pairs.
+// Sixty-four settings at a time in dual-rail words: a value under each of them is a pair of bits, and a gate's pair of
+// words comes from its operands' pairs.
 use graph_gates::PLACES;
 
 pub mod evaluate;

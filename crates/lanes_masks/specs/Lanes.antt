@@ -40,7 +40,7 @@ isUndefinedAt b o s = not (isDefined (getD (outputsUnder b s) o undefined))
 unfoldable pub isUnsettled : Block → ℕ → Bool
 isUnsettled b s = not (isSettled b s)
 
--- it may come, and is not settled
+-- the setting may come, and is not settled
 unfoldable pub isUnsound : Block → ℕ → Bool
 isUnsound b s = not (isSoundAt b s)
 
@@ -50,14 +50,14 @@ isUnsound b s = not (isSoundAt b s)
 unfoldable pub outputPair : List ℕ → ℕ → ℕ → List ℕ → ℕ → Pair
 outputPair ws at n w o = pairAt w (placeOf (operandOf n (getD ws (at + outputSize * o + nameSize) 0)))
 
--- neither 0 nor 1, where `used` has a bit at each lane in use
+-- the lanes at which output o is neither 0 nor 1, where `used` has a bit at each lane in use
 unfoldable pub undefinedIn : ℕ → Pair → ℕ
 undefinedIn used p = bitXor used (bitOr (p .zeros) (p .ones))
 
 unfoldable pub undefinedWord : List ℕ → ℕ → ℕ → List ℕ → ℕ → ℕ
 undefinedWord ws at n w o = undefinedIn (full (lanesOf n)) (outputPair ws at n w o)
 
--- one of the first outputs is undefined
+-- the lanes at which one of the first outputs is undefined
 unfoldable pub unsettledWord : List ℕ → ℕ → ℕ → List ℕ → ℕ → ℕ
 unsettledWord ws at n w zero = 0
 unsettledWord ws at n w (suc o) = bitOr (unsettledWord ws at n w o) (undefinedWord ws at n w o)
@@ -69,7 +69,7 @@ pub record OutputThere (ws : List ℕ) (at n o : ℕ) : Type 0 where
   pub fewInputs : n ≤ maxInputs
   pub inside : placeOf (operandOf n (getD ws (at + outputSize * o + nameSize) 0)) < placeCount
 
--- the same of the first outputs
+-- what reading the first outputs asks
 pub record OutputsThere (ws : List ℕ) (at n count : ℕ) : Type 0 where
   pub many : count < countRoom
   pub each : (o : ℕ) → o < count → OutputThere ws at n o

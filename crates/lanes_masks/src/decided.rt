@@ -13,7 +13,7 @@ ghost use Rattle.lanes_dual_rail.specs.LaneWords.{laneSize};
 ghost use Rattle.lanes_batch.specs.Layered.{Planned, StraightPlanned};
 ghost use Rattle.lanes_masks.specs.Lanes.{Judged};
 
-// The settled values of the batch at `base`.
+// Finds the settled values of the batch at `base` of a planned block.
 pub fn judge_batch(
     words: &[u16],
     graph: &[u16; GRAPH_WORDS],
@@ -30,7 +30,7 @@ pub fn judge_batch(
     decide_batch(graph, m, n, order, ends, base, lanes);
 }
 
-// The same of a straight block, from its graph alone.
+// Finds the settled values of the batch at `base` of a straight block, from its graph alone.
 pub fn judge_straight(
     words: &[u16],
     graph: &[u16; GRAPH_WORDS],

@@ -17,7 +17,7 @@ ghost use Rattle.lanes_dual_rail.specs.Batches.{lanesOf};
 ghost use Rattle.lanes_dual_rail.specs.Words.{Tells};
 ghost use Rattle.lanes_masks.specs.Lanes.{agreesAt, mayCome};
 
-// Where input `i` has an assignment's value, or is not fixed.
+// The lanes at which input `i` has an assignment's value; all lanes where the assignment does not fix it.
 fn agreeing_at(n: usize, base: usize, fixed: usize, values: usize, i: usize) -> u64
     requires { ⌜ (i < 64) × (base % 64 ≡ 0) ⌝ }
     ensures { λ r. ⌜ Tells (lanesOf n) base (agreesAt (record { fixed = fixed; ones = values }) i) r ⌝ }
@@ -33,7 +33,7 @@ fn agreeing_at(n: usize, base: usize, fixed: usize, values: usize, i: usize) -> 
     }
 }
 
-// Where every fixed input has the assignment's value.
+// The lanes at which every input that the assignment fixes has its value.
 fn agreeing_lanes(n: usize, base: usize, fixed: usize, values: usize) -> u64
     requires { ⌜ (n ≤ maxInputs) × (base % 64 ≡ 0) ⌝ }
     ensures { λ r. ⌜ Tells (lanesOf n) base (agrees n (record { fixed = fixed; ones = values })) r ⌝ }
@@ -47,7 +47,7 @@ fn agreeing_lanes(n: usize, base: usize, fixed: usize, values: usize) -> u64
     agreeing
 }
 
-// The same of the never line whose masks are at `at`.
+// The lanes that agree with the never line whose two masks stand at `at`.
 fn line_lanes(words: &[u16], n: usize, base: usize, at: usize) -> u64
     requires { ⌜ (n ≤ maxInputs) × (base % 64 ≡ 0) × (at < countRoom) ⌝ }
     ensures { λ r. ⌜ Tells (lanesOf n) base (agrees n (neverAt (now (words .entry)) at)) r ⌝ }
@@ -55,7 +55,7 @@ fn line_lanes(words: &[u16], n: usize, base: usize, at: usize) -> u64
     agreeing_lanes(n, base, word_at(words, at), word_at(words, at + 1))
 }
 
-// Where the setting agrees with one of the block's never lines.
+// The lanes whose setting agrees with one of the block's never lines, and so never comes.
 fn excluded_lanes(words: &[u16], n: usize, base: usize) -> u64
     requires { ⌜ (n ≤ maxInputs) × (base % 64 ≡ 0) × (n ≡ getD (now words) 0 0) ⌝ }
     ensures { λ r. ⌜ Tells (lanesOf n) base (isExcluded (decode (now (words .entry)))) r ⌝ }
@@ -71,7 +71,7 @@ fn excluded_lanes(words: &[u16], n: usize, base: usize) -> u64
     excluded
 }
 
-// Where the setting may come.
+// The lanes whose setting may come.
 pub fn coming_lanes(words: &[u16], n: usize, base: usize) -> u64
     requires { ⌜ (n ≤ maxInputs) × (base % 64 ≡ 0) × (n ≡ getD (now words) 0 0) ⌝ }
     ensures { λ r. ⌜ Tells (lanesOf n) base (mayCome (decode (now (words .entry)))) r ⌝ }

@@ -20,7 +20,7 @@ pub fn output_pair(words: &[u16], at: usize, n: usize, o: usize, lanes: &[u64; L
     pair_at(lanes, place_of(node, n))
 }
 
-// Where it is undefined.
+// The lanes at which output `o` is undefined.
 pub fn undefined_lanes(
     words: &[u16],
     at: usize,
@@ -35,7 +35,7 @@ pub fn undefined_lanes(
     used_lanes(n) ^ (pair.zeros | pair.ones)
 }
 
-// Where one of `count` outputs is undefined.
+// The lanes at which one of the first `count` outputs is undefined.
 pub fn unsettled_lanes(
     words: &[u16],
     at: usize,

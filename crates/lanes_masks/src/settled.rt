@@ -11,7 +11,7 @@ ghost use Rattle.lanes_dual_rail.specs.Batches.{lanesOf};
 ghost use Rattle.lanes_dual_rail.specs.Words.{Tells};
 ghost use Rattle.lanes_masks.specs.Lanes.{Judged, isUnsettled, isUnsound};
 
-// Where some output is undefined.
+// The lanes at which some output is undefined.
 fn undecided_lanes(words: &[u16], n: usize, base: usize, lanes: &[u64; LANE_WORDS]) -> u64
     requires { ⌜ Judged (now words) n base (now lanes) ⌝ }
     ensures { λ r. ⌜ Tells (lanesOf n) base (isUnsettled (decode (now (words .entry)))) r ⌝ }
@@ -21,7 +21,7 @@ fn undecided_lanes(words: &[u16], n: usize, base: usize, lanes: &[u64; LANE_WORD
     unsettled_lanes(words, at, n, outputs, lanes)
 }
 
-// Where the setting may come and is not settled.
+// The lanes whose setting may come and is not settled.
 pub fn unsound_lanes(words: &[u16], n: usize, base: usize, lanes: &[u64; LANE_WORDS]) -> u64
     requires { ⌜ Judged (now words) n base (now lanes) ⌝ }
     ensures { λ r. ⌜ Tells (lanesOf n) base (isUnsound (decode (now (words .entry)))) r ⌝ }
@@ -29,7 +29,7 @@ pub fn unsound_lanes(words: &[u16], n: usize, base: usize, lanes: &[u64; LANE_WO
     coming_lanes(words, n, base) & undecided_lanes(words, n, base, lanes)
 }
 
-// Where it may come and is settled.
+// The lanes whose setting may come and is settled.
 pub fn counted_lanes(words: &[u16], n: usize, base: usize, lanes: &[u64; LANE_WORDS]) -> u64
     requires { ⌜ Judged (now words) n base (now lanes) ⌝ }
     ensures { λ r. ⌜ Tells (lanesOf n) base (isCounted (decode (now (words .entry)))) r ⌝ }
@@ -38,7 +38,7 @@ pub fn counted_lanes(words: &[u16], n: usize, base: usize, lanes: &[u64; LANE_WO
     coming_lanes(words, n, base) & (used_lanes(n) ^ undecided)
 }
 
-// Where it never comes or is settled.
+// The lanes whose setting never comes or is settled.
 pub fn sound_lanes(words: &[u16], n: usize, base: usize, lanes: &[u64; LANE_WORDS]) -> u64
     requires { ⌜ Judged (now words) n base (now lanes) ⌝ }
     ensures { λ r. ⌜ Tells (lanesOf n) base (isSoundAt (decode (now (words .entry)))) r ⌝ }

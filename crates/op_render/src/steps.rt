@@ -38,7 +38,8 @@ ghost use Rattle.graph_gates.specs.Graph.{Decoded};
 ghost use Rattle.lanes_batch.specs.Layered.{Planned};
 ghost use Rattle.op_render.specs.Tests.{ListRoom, Listed, CopiesReady, RenderingReady};
 
-// The groups of a planned block one after the other, with room for each gate's group number; how many groups there are.
+// Lists the groups of a planned block one after the other, with room lent for each gate's group number; gives how many
+// groups there are.
 fn list_numbered(
     words: &[u16],
     graph: &[u16; GRAPH_WORDS],
@@ -56,7 +57,7 @@ fn list_numbered(
     count
 }
 
-// The block's plan, and its groups one after the other; how many groups there are.
+// Makes the block's plan, and lists its groups one after the other; gives how many groups there are.
 fn list_block(
     words: &[u16],
     graph: &mut [u16; GRAPH_WORDS],
@@ -96,7 +97,7 @@ fn write_copies(
     write_rendering(words, &copies, total, &mut newest, rendered);
 }
 
-// Writes the rendered block, if there is room.
+// Writes the rendered block if there is room; answers 11 if there is none.
 fn finish(
     words: &[u16],
     count: usize,
@@ -132,7 +133,7 @@ fn test_settings(words: &[u16], lowest: usize) -> Test
     refuse_if(lowest < count, Refusal::NotSettled(lowest))
 }
 
-// Render of a block that is not torn.
+// Render of a block that is not malformed.
 pub fn render_with(
     words: &[u16],
     graph: &mut [u16; GRAPH_WORDS],

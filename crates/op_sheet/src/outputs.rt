@@ -2,12 +2,12 @@
 use graph_gates::PLACES;
 use graph_ternary::output::shown_value;
 use netlist::Record;
-use words_layout::gather::defined_bit;
-use words_layout::gather::one_bit;
 use words_layout::offsets::OUTPUT_SIZE;
 use words_layout::offsets::inputs_of;
 use words_layout::offsets::outputs_at;
 use words_layout::offsets::outputs_of;
+use words_layout::value_masks::defined_bit;
+use words_layout::value_masks::one_bit;
 ghost use mathlib.Core.Path.{_≡_};
 ghost use mathlib.Core.Bool.{false};
 ghost use Rattle.netlist.specs.StoredBlock.{isMalformed};

@@ -19,7 +19,7 @@ use Rattle.netlist.specs.Netlist.{Name}
 use Rattle.netlist.specs.Syntax.{Pair}
 use Rattle.netlist.specs.Reading.{neverMentions, firstRepeat, firstOutside, givenValue}
 use Rattle.words_layout.specs.Masks.{masksOf}
-use Rattle.words_layout.specs.declared.gather.Masks.{Masks}
+use Rattle.words_layout.specs.declared.value_masks.Masks.{Masks}
 use Rattle.text_symbols.specs.Index.{maxPairs}
 use Rattle.text_symbols.specs.Lines.{lineOpens}
 use Rattle.text_pairs.specs.PairBytes.{pairNumber, pairCodes, inputCode}

@@ -49,7 +49,7 @@ pub record Ran (graph js w after : List ℕ) : Type 0 where
   pub changed : Bool
   pub evaluated : GatesEvaluated graph w js after changed
 
--- the same at every lane
+-- the gates listed were evaluated one after the other, as seen at every lane
 pub record Stepped (b : Block) (n : ℕ) (js w after : List ℕ) : Type 0 where
   pub held : Held b n after
   pub inputsKept : inputsIn after ≡ inputsIn w
@@ -184,7 +184,7 @@ pub record WalkedBatch (b : Block) (count next : ℕ) (entry passes : List ℕ) 
   pub same : SameRest count entry passes
   pub lowest : LowestBelow b next (r .lowest)
 
--- the same of all of them, or of those before the copies are too many
+-- what was found in all batches, or in those before the copies are too many
 pub record WalkedAll (b : Block) (count : ℕ) (entry passes : List ℕ) (r : Found) : Type 0 where
   pub reached : ℕ
   pub counting : Counting b count reached 0 reached passes (r .total)
@@ -192,7 +192,7 @@ pub record WalkedAll (b : Block) (count : ℕ) (entry passes : List ℕ) (r : Fo
   pub same : SameRest count entry passes
   pub lowest : r .total ≤ maxCopies → r .lowest ≡ lowestUnsettled b
 
--- what was found in all of them; the lowest setting is told where the copies are not too many
+-- what was found in all batches; the lowest setting is told where the copies are not too many
 pub record Walked (b : Block) (entry passes : List ℕ) (r : Found) : Type 0 where
   pub counted : AllCounted b entry passes (r .total)
   pub lowest : r .total ≤ maxCopies → r .lowest ≡ lowestUnsettled b

@@ -46,19 +46,19 @@ differenceOf p q = bitOr (bitXor (p .zeros) (q .zeros)) (bitXor (p .ones) (q .on
 abbrev pub ProperAt : ℕ → List ℕ → List ℕ → Type 0
 ProperAt lanes group w = (j : ℕ) → member j group ≡ true → Proper lanes (pairAt w (firstGate + j))
 
--- at lane s each of them has the same value in both states
+-- at lane s each of the gates listed has the same value in both states
 unfoldable pub agreeAt : List ℕ → List ℕ → List ℕ → ℕ → Bool
 agreeAt group w other s = all (λ j. eqb (code (lane s (pairAt w (firstGate + j)))) (code (lane s (pairAt other (firstGate + j))))) group
 
--- one of them has another
+-- at lane s one of the gates listed has another value in one state than in the other
 unfoldable pub differAt : List ℕ → List ℕ → List ℕ → ℕ → Bool
 differAt group w other s = not (agreeAt group w other s)
 
--- the word marks the lanes at which one has another
+-- the word marks the lanes at which one of the gates listed has another value
 pub record Differs (group w other : List ℕ) (word : ℕ) : Type 0 where
   pub tells : (lanes : ℕ) → ProperAt lanes group w → ProperAt lanes group other → Tells lanes 0 (differAt group w other) word
 
--- whether one has another at the lane of a setting that may come
+-- whether one of the gates listed has another value at the lane of a setting that may come
 pub record Lacks (b : Block) (n base : ℕ) (group w other : List ℕ) (r : Bool) : Type 0 where
   pub some : r ≡ true → (s : ℕ) × (s < lanesOf n) × (isExcluded b (base + s) ≡ false) × (agreeAt group w other s ≡ false)
   pub none : r ≡ false → (s : ℕ) → s < lanesOf n → isExcluded b (base + s) ≡ false → agreeAt group w other s ≡ true

@@ -1,4 +1,4 @@
-// The passes that one group needs for the settings of a batch, whose settled values `lanes` holds.
+// The unrolling depth of one strongly connected group under the settings of a batch, whose settled values `lanes` holds.
 use crate::Counted;
 use crate::Turn;
 use crate::pairs::clear_pairs;
@@ -17,7 +17,7 @@ ghost use Rattle.lanes_batch.specs.Layered.{Part, part};
 ghost use Rattle.unroll_depth.specs.Pairs.{groupOf};
 ghost use Rattle.unroll_depth.specs.Counting.{Ran, PassReady, MorePasses, GroupReady, GroupCounted};
 
-// So many passes: evaluates the gates listed, each pair stored at once.
+// Makes so many passes over a group: evaluates its gates one after the other, and stores each pair at once.
 fn run_passes(
     graph: &[u16; GRAPH_WORDS],
     members: &[u16; MAX_GATES],
@@ -38,7 +38,8 @@ fn run_passes(
     }
 }
 
-// Further passes until every gate of the group has its settled pair, which `kept` holds, at each lane that may come, or the copies are too many.
+// Makes further passes until every gate of the group has its settled pair, which `kept` holds, at each lane that may come,
+// or the copies are too many.
 fn more_passes(
     words: &[u16],
     graph: &[u16; GRAPH_WORDS],
@@ -65,8 +66,8 @@ fn more_passes(
     Counted { passes, total }
 }
 
-// The passes that the group needs when `counted.passes` are needed for earlier settings, and the copies when they were `counted.total`. `lanes` holds the
-// settled values, and does so again at the end; `kept` has the group's in between.
+// The passes that the group needs when earlier settings need `counted.passes`, and the copies of all groups when they were
+// `counted.total`. `lanes` holds the settled values, and does so again at the end; `kept` has the group's in between.
 pub fn count_group(
     words: &[u16],
     graph: &[u16; GRAPH_WORDS],

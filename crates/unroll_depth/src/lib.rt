@@ -1,5 +1,6 @@
-// Render's one walk over a block's settings, 64 at a time: how many passes over each group its gates need (SPECIFICATION 6.1), and the lowest setting that may
-// come and is not settled. specs/Counting.antt states what is found.
+// How deep loops are unrolled: Render's one walk over a block's settings, 64 at a time, finds how many passes over each
+// group its gates need (SPECIFICATION 6.1), and the lowest setting that may come and is not settled. specs/Counting.antt
+// states what is found.
 pub mod group;
 pub mod pairs;
 pub mod walk;

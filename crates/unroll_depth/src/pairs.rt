@@ -1,5 +1,5 @@
-// The pairs of a group's gates: put where others stand, cleared, and compared with others. The gates are `members[from..end]`; gate j's pair stands at place
-// FIRST_GATE + j.
+// The pairs of a group's gates: copied, made undefined, and compared with others. The gates are `members[from..end]`;
+// gate j's pair stands at place FIRST_GATE + j.
 use crate::Turn;
 use graph_gates::FIRST_GATE;
 use lanes_dual_rail::LANE_WORDS;
@@ -22,7 +22,7 @@ ghost use Rattle.lanes_dual_rail.specs.LaneWords.{laneSize, pairAt};
 ghost use Rattle.lanes_batch.specs.Layered.{OrderPart, part};
 ghost use Rattle.unroll_depth.specs.Pairs.{Put, differenceOf, ProperAt, Differs, groupOf, Lacks};
 
-// Stores the pairs that the group's gates have in a source.
+// Copies the pairs of the group's gates from a source.
 pub fn put_pairs(
     members: &[u16; MAX_GATES],
     from: usize,
@@ -72,7 +72,7 @@ fn difference(place: usize, lanes: &[u64; LANE_WORDS], kept: &[u64; LANE_WORDS])
     (here.zeros ^ there.zeros) | (here.ones ^ there.ones)
 }
 
-// The lanes at which some gate of the group has.
+// The lanes at which some gate of the group has another value in `lanes` than in `kept`.
 fn differing_lanes(
     members: &[u16; MAX_GATES],
     from: usize,

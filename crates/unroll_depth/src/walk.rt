@@ -1,5 +1,6 @@
-// The one walk over batches: each batch is judged once, its groups are counted, and its lowest setting that may come and is not settled is looked for while
-// none is known. Group g of a block's `count` groups is `members[starts[g]..starts[g + 1]]`, and `passes[g]` has its passes so far.
+// The one walk over batches: each batch is decided once, the passes of its groups are counted, and its lowest setting that
+// may come and is not settled is looked for while none is known. Group g of a block's `count` groups is
+// `members[starts[g]..starts[g + 1]]`, and `passes[g]` has its passes so far.
 use crate::Counted;
 use crate::Found;
 use crate::Turn;
@@ -46,7 +47,8 @@ struct Batch {
     lowest: usize,
 }
 
-// One group more for the settings of the batch; the copies of all groups. A group that has as many passes as gates needs no more, whatever the setting.
+// Counts the passes of one group for the settings of the batch; gives the copies of all groups. A group that has as many
+// passes as gates needs no more, whatever the setting.
 fn count_at(
     words: &[u16],
     graph: &[u16; GRAPH_WORDS],
@@ -94,8 +96,8 @@ fn count_at(
     counted.total
 }
 
-// The lowest setting found that may come and is not settled, or 2^n: `lowest` is the one in the batches before the one at `base`, whose settled values
-// `lanes` holds.
+// The lowest setting found so far that may come and is not settled, or 2^n: `lowest` is that of the batches before the one
+// at `base`, whose settled values `lanes` holds.
 fn lowest_with(words: &[u16], base: usize, lowest: usize, lanes: &[u64; LANE_WORDS]) -> usize
     requires { ⌜ Judged (now words) (getD (now words) 0 0) base (now lanes) × LowestBelow (decode (now words)) base lowest ⌝ }
     requires { ⌜ base + lanesOf (getD (now words) 0 0) ≤ settingCount (decode (now words)) ⌝ }
@@ -112,7 +114,8 @@ fn lowest_with(words: &[u16], base: usize, lowest: usize, lanes: &[u64; LANE_WOR
     base + lowest_lane(unsound)
 }
 
-// Every group for the settings of a batch, whose settled values `lanes` holds, and the lowest setting that is not settled.
+// Counts the passes of every group for the settings of a batch, whose settled values `lanes` holds, and looks for its
+// lowest setting that is not settled.
 fn count_batch(
     words: &[u16],
     graph: &[u16; GRAPH_WORDS],
@@ -163,8 +166,8 @@ fn are_full(count: usize, starts: &[u16; MAX_GATES + 1], passes: &[u16; MAX_GATE
     true
 }
 
-// Every batch in turn, from one pass for each group on. The walk ends where there are too many copies, and where an unsettled setting is known and no group
-// can need more passes.
+// Goes through every batch in turn, from one pass for each group on. The walk ends where there are too many copies, and
+// where an unsettled setting is known and no group can need more passes.
 fn walk_loops(
     words: &[u16],
     graph: &[u16; GRAPH_WORDS],
@@ -218,7 +221,7 @@ fn walk_loops(
     found
 }
 
-// Where no group can need more passes than one: only a setting that is not settled is looked for.
+// The walk of a block in which no group can need more passes than one: it only looks for a setting that is not settled.
 fn walk_settings(
     words: &[u16],
     graph: &[u16; GRAPH_WORDS],
@@ -236,8 +239,8 @@ fn walk_settings(
     }
 }
 
-// Writes each group's passes; the copies of all groups, or a number above the limit where they are too many, and where they are not, the lowest setting that
-// may come and is not settled.
+// Writes each group's passes; gives the copies of all groups, or a number above the limit where they are too many, and
+// where they are not, the lowest setting that may come and is not settled.
 pub fn walk_batches(
     words: &[u16],
     graph: &[u16; GRAPH_WORDS],

@@ -3,7 +3,6 @@
 // stand here.
 pub mod bytes;
 pub mod fill;
-pub mod gather;
 pub mod kinds;
 pub mod limits;
 pub mod masks;
@@ -12,3 +11,4 @@ pub mod nodes;
 pub mod offsets;
 pub mod read;
 pub mod trim;
+pub mod value_masks;

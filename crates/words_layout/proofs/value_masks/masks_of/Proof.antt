@@ -1,4 +1,4 @@
--- `words_layout::gather::masks_of` meets its contract: the masks of the values passed, from the last. Assumes nothing.
+-- `words_layout::value_masks::masks_of` meets its contract: the masks of the values passed, from the last. Assumes nothing.
 use borrow.Author.Needs.{needs}
 use mathlib.Core.Path.{_≡_, sym}
 use mathlib.Core.Bool.{cond}
@@ -9,8 +9,8 @@ use lib.ListN.{length, getD, length-map}
 use Rattle.netlist.specs.Values.{undefined, valueOf, isDefined}
 use Rattle.netlist.specs.Assignments.{isOne}
 use Rattle.words_layout.proofs.Gathered.{Gathered, gathered-none, gathered-next, gathered-all, defined-half, defined-fits, one-half, one-fits, bit-at}
-use Rattle.words_layout.proofs.gather.masks_of.Statement.{statement}
-use Rattle.words_layout.proofs.gather.masks_of.Tie as tie
+use Rattle.words_layout.proofs.value_masks.masks_of.Statement.{statement}
+use Rattle.words_layout.proofs.value_masks.masks_of.Tie as tie
 
 abbrev Inv-loop : tie.InvT-loop
 Inv-loop values defined₀ ones₀ i₀ defined ones i = Gathered (map valueOf values) i defined ones

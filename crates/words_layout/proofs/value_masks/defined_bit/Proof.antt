@@ -1,10 +1,10 @@
--- `words_layout::gather::defined_bit` meets its contract, in each arm. Assumes nothing.
+-- `words_layout::value_masks::defined_bit` meets its contract, in each arm. Assumes nothing.
 use mathlib.Core.Path.{sym}
 use native.Mathlib.Omega.{arith}
 use Rattle.netlist.specs.Values.{valueOf, isDefined}
 use Rattle.words_layout.proofs.Gathered.{high-bit}
-use Rattle.words_layout.proofs.gather.defined_bit.Statement.{statement}
-use Rattle.words_layout.proofs.gather.defined_bit.Tie as tie
+use Rattle.words_layout.proofs.value_masks.defined_bit.Statement.{statement}
+use Rattle.words_layout.proofs.value_masks.defined_bit.Tie as tie
 
 returns : tie.Need-returns
 unfolding valueOf isDefined

@@ -1,11 +1,11 @@
--- `words_layout::gather::one_bit` meets its contract, in each arm. Assumes nothing.
+-- `words_layout::value_masks::one_bit` meets its contract, in each arm. Assumes nothing.
 use mathlib.Core.Path.{sym}
 use native.Mathlib.Omega.{arith}
 use Rattle.netlist.specs.Values.{valueOf}
 use Rattle.netlist.specs.Assignments.{isOne}
 use Rattle.words_layout.proofs.Gathered.{other-bit}
-use Rattle.words_layout.proofs.gather.one_bit.Statement.{statement}
-use Rattle.words_layout.proofs.gather.one_bit.Tie as tie
+use Rattle.words_layout.proofs.value_masks.one_bit.Statement.{statement}
+use Rattle.words_layout.proofs.value_masks.one_bit.Tie as tie
 
 returns : tie.Need-returns
 unfolding valueOf isOne
