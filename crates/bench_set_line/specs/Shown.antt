@@ -11,7 +11,7 @@ use Rattle.netlist.specs.StoredBlock.{nameSize, outputSize, outputsAt, nameAt, 
 use Rattle.netlist.specs.GateTable.{gateTable}
 use Rattle.netlist.specs.Syntax.{pairText}
 use Rattle.graph_gates.specs.Places.{placeOf}
-use Rattle.op_settle.specs.Rounded.{PreparedFor}
+use Rattle.graph_simulation.specs.Rounded.{PreparedFor}
 use Rattle.text_pieces.specs.Pieces.{pieces}
 
 -- a block that is not malformed, with the table, its graph and its fan-out
