@@ -11,12 +11,12 @@ free_memory() {
   echo $((limit && limit < free ? limit : free))
 }
 
-# How many jobs at a time so much memory is enough for: FREE A_JOB, in megabytes. rt goes by batches and waits for each: with four at a time
+# How many jobs at a time so much memory is enough for: FREE A_JOB, in megabytes. rt goes by batches and waits for each: with six at a time
 # two processors are rarely idle.
 jobs_within() {
   local jobs=$(($1 / $2)) most
   most=$(nproc)
-  if ((most < 4)); then most=4; fi
+  if ((most < 6)); then most=6; fi
   echo $((jobs < 1 ? 1 : jobs > most ? most : jobs))
 }
 

@@ -17,17 +17,19 @@ fn listed() -> BTreeSet<String> {
     names.map(|(name, _)| name.to_string()).collect()
 }
 
+/// What a script of docs/ prints, which is the file that is committed.
+fn made(script: &str, file: &str) -> String {
+    let printed = ended(&mut Command::new(root().join(script)), b"");
+    assert!(printed.status.success(), "{printed:?}");
+    let printed = String::from_utf8(printed.stdout).expect("text");
+    assert!(printed == text(file), "run {script} > {file}");
+    printed
+}
+
 /// What docs/picture draws, with crates.txt as it is, is the picture that is committed.
 #[test]
 fn the_picture_is_drawn_from_crates_txt() {
-    let drawn = ended(&mut Command::new(root().join("docs/picture")), b"");
-    assert!(drawn.status.success(), "{drawn:?}");
-    let drawn = String::from_utf8(drawn.stdout).expect("text");
-    let committed = text("docs/architecture.svg");
-    assert!(
-        drawn == committed,
-        "run docs/picture > docs/architecture.svg"
-    );
+    let drawn = made("docs/picture", "docs/architecture.svg");
     let rooms = drawn.matches("monospace").count();
     assert_eq!(rooms, listed().len(), "a room for each crate");
 }
@@ -51,4 +53,16 @@ fn every_crate_has_a_row_and_a_folder() {
         .map(|name| name.into_string().expect("a name"))
         .collect();
     assert_eq!(folders, listed());
+}
+
+/// The list of wrong programs that the checker refuses is that of the edits, one row each.
+#[test]
+fn the_edits_are_listed() {
+    let list = made("docs/edits", "docs/MUST_FAIL.md");
+    let edits: usize = listed()
+        .iter()
+        .filter_map(|name| fs::read_dir(root().join("crates").join(name).join("must-fail")).ok())
+        .map(Iterator::count)
+        .sum();
+    assert_eq!(list.matches("\n| `").count(), edits, "a row for each edit");
 }

@@ -23,7 +23,7 @@ use Rattle.netlist.specs.Program.{shown}
 use Rattle.netlist.specs.Bench.{lineAnswer, lineAnswers, lastLine, benchAfter}
 use Rattle.bench_stream.specs.Runs.{heldBytes, inNetlist, inLines, opened, turn, ending}
 use Rattle.bench_stream.proofs.Whole.{read-whole}
-use Rattle.op_settle.specs.Rounded.{PreparedFor}
+use Rattle.graph_simulation.specs.Rounded.{PreparedFor}
 use Rattle.text_refusal_line.specs.Shown.{Shown}
 use Rattle.text_refusal_line.proofs.Told.{Gave, told-refused, told-done, gave-within}
 use Rattle.text_refusal_line.proofs.Sizes.{read-fits}

@@ -10,7 +10,7 @@ use Rattle.netlist.specs.Limits.{maxText, maxOutputs, maxName, maxBlock}
 use Rattle.netlist.specs.StoredBlock.{isMalformed}
 use Rattle.graph_gates.specs.Graph.{graphSize}
 use Rattle.graph_gates.specs.Fanout.{Empty}
-use Rattle.op_settle.specs.Rounded.{PreparedFor}
+use Rattle.graph_simulation.specs.Rounded.{PreparedFor}
 use Rattle.bench_stream.specs.Runs.{heldBytes, Run, inNetlist, inLines, over, Turn, start, heldFront, after, outputs}
 use Rattle.bench_session.specs.declared.State.{State}
 use Rattle.bench_session.specs.declared.State.the-variants.{Netlist, Lines, Ended}

@@ -16,7 +16,7 @@ ghost use Prim.Native.Nat.{ℕ, _≤_};
 ghost use lib.ListN.{length, take};
 ghost use Rattle.netlist.specs.StoredBlock.{isMalformed, decode};
 ghost use Rattle.netlist.specs.Bench.{lineAnswer, lineAnswers, lastLine};
-ghost use Rattle.op_settle.specs.Rounded.{PreparedFor};
+ghost use Rattle.graph_simulation.specs.Rounded.{PreparedFor};
 ghost use Rattle.bench_stream.specs.Runs.{heldBytes, inLines, turn};
 ghost use Rattle.bench_session.specs.Session.{maxAnswer, TextHeld, LineRoom, SessionStepped, AnswerWritten};
 

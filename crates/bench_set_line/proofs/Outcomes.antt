@@ -28,7 +28,7 @@ use Rattle.words_refusals.specs.declared.Test.the-variants.{Passed, Failed}
 use Rattle.words_refusals.specs.Tests.{testAt, refusalOf}
 use Rattle.words_refusals.proofs.Promised.{IsFailed, failed-at, keeps-room}
 use Rattle.bench_set_line.specs.Tables.{LineFor, thenTest, pairsTest, LineRead}
-use Rattle.op_settle.specs.Rounded.{Starting}
+use Rattle.graph_simulation.specs.Rounded.{Starting}
 
 -- what comes behind the form
 unfoldable pub behindForm : Block → Parsed (List Pair) → Outcome

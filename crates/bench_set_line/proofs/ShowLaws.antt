@@ -20,11 +20,11 @@ use Rattle.graph_gates.specs.Places.{placeOf}
 use Rattle.graph_gates.specs.Graph.{Decoded}
 use Rattle.graph_ternary.specs.State.{Coded, inputsIn, stateIn, ShownAt}
 use Rattle.graph_ternary.proofs.Outputs.{shown-ready, shown-code}
-use Rattle.op_settle.specs.Rounded.{Starting, SettledIn}
-use Rattle.op_settle.proofs.Rounds.{operands-same, starting-inputs, settled-of}
+use Rattle.graph_simulation.specs.Rounded.{Starting, SettledIn}
+use Rattle.graph_simulation.proofs.Rounds.{operands-same, starting-inputs, settled-of}
 use Rattle.theory_fixpoint.proofs.Values.{valueOf-code}
-use Rattle.op_write.specs.Pieces.{Short, pieces}
-use Rattle.op_write.proofs.Appending.{pieces-more, pieces-none}
+use Rattle.text_pieces.specs.Pieces.{Short, pieces}
+use Rattle.text_pieces.proofs.Appending.{pieces-more, pieces-none}
 use Rattle.bench_set_line.specs.Shown.{PortOf, portPiece, showText}
 
 -- the byte of a value

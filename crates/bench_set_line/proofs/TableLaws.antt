@@ -29,7 +29,7 @@ use Rattle.netlist.specs.Bench.{givenValues}
 use Rattle.text_symbols.specs.Packed.{packed, nameFront}
 use Rattle.theory_fixpoint.proofs.Values.{code-le}
 use Rattle.text_symbols.specs.Search.{indexOf}
-use Rattle.op_settle.specs.Rounded.{Bytes}
+use Rattle.graph_simulation.specs.Rounded.{Bytes}
 use Rattle.text_pairs.specs.PairBytes.{givenCode, inputCode}
 use Rattle.text_pairs.specs.Tables.{PairsAt, PairRoom, PairsTabled, InputsAre}
 use Rattle.text_pairs.proofs.PairPlaces.{count-is}

@@ -11,8 +11,8 @@ use Rattle.netlist.specs.StoredBlock.{nameSize, outputSize, outputsAt, nameAt, 
 use Rattle.netlist.specs.GateTable.{gateTable}
 use Rattle.netlist.specs.Syntax.{pairText}
 use Rattle.graph_gates.specs.Places.{placeOf}
-use Rattle.op_settle.specs.Rounded.{PreparedFor}
-use Rattle.op_write.specs.Pieces.{pieces}
+use Rattle.graph_simulation.specs.Rounded.{PreparedFor}
+use Rattle.text_pieces.specs.Pieces.{pieces}
 
 -- a block that is not malformed, with the table, its graph and its fan-out
 pub record BlockReady (ws table graph fanout : List ℕ) : Type 0 where

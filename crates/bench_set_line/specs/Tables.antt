@@ -17,7 +17,7 @@ use Rattle.netlist.specs.SetLine.{printSetLine, isLegalSetLine}
 use Rattle.words_refusals.specs.declared.Test.{Test}
 use Rattle.words_refusals.specs.declared.Test.the-variants.{Passed, Failed}
 use Rattle.words_refusals.specs.Tests.{testAt}
-use Rattle.op_settle.specs.Rounded.{Starting}
+use Rattle.graph_simulation.specs.Rounded.{Starting}
 use Rattle.text_symbols.specs.Packed.{packed, nameFront}
 use Rattle.text_pairs.specs.Tables.{PairsTabled, InputsAre}
 

@@ -1,5 +1,5 @@
 // The names of a block's inputs as numbers.
-use op_write::pieces::name_bytes;
+use text_pieces::name_bytes;
 use text_symbols::pack::pack;
 use words_layout::offsets::INPUTS_AT;
 use words_layout::offsets::NAME_SIZE;

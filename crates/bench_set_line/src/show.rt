@@ -1,14 +1,14 @@
-// The show line of a block under a setting of its inputs, appended piece by piece as Write does (`op_write::pieces`).
+// The show line of a block under a setting of its inputs, appended piece by piece as Write does (`text_pieces`).
 use graph_gates::GRAPH_WORDS;
 use graph_gates::PLACES;
 use graph_gates::fanout::FANOUT_WORDS;
+use graph_simulation::round::settle_prepared;
 use graph_ternary::output::shown_value;
 use graph_ternary::table::GATE_ENTRIES;
 use netlist::Answer;
-use op_settle::round::settle_prepared;
-use op_write::pieces::put;
-use op_write::pieces::put_all;
-use op_write::pieces::put_name;
+use text_pieces::put;
+use text_pieces::put_all;
+use text_pieces::put_name;
 use words_layout::offsets::OUTPUT_SIZE;
 use words_layout::offsets::gates_of;
 use words_layout::offsets::inputs_of;
@@ -27,8 +27,8 @@ ghost use Rattle.netlist.specs.Answers.{inRoom, Promise};
 ghost use Rattle.netlist.specs.Operations.{counted};
 ghost use Rattle.netlist.specs.Syntax.{valueText};
 ghost use Rattle.netlist.specs.Bench.{showLine};
-ghost use Rattle.op_write.specs.Pieces.{Appended, Short, pieces};
-ghost use Rattle.op_settle.specs.Rounded.{Unsettled, Starting};
+ghost use Rattle.text_pieces.specs.Pieces.{Appended, Short, pieces};
+ghost use Rattle.graph_simulation.specs.Rounded.{Unsettled, Starting};
 ghost use Rattle.bench_set_line.specs.Shown.{BlockReady, PortOf, PortsOf, portPiece, showText};
 
 // The byte of a value: `0`, `1` or `u`.

@@ -7,7 +7,7 @@ use Rattle.netlist.specs.declared.Reply.{Reply}
 use Rattle.netlist.specs.Answers.{Shows, Outcome, answerOf, Told, Promise}
 use Rattle.words_refusals.proofs.Shown.{shows-same}
 use Rattle.words_refusals.proofs.Promised.{told-answer, promise-answer}
-use Rattle.op_settle.specs.Passed.{PassPromise}
+use Rattle.op_pass.specs.Passed.{PassPromise}
 use Rattle.op_cells.specs.Promise.{CellsPromise}
 use Rattle.op_gather.specs.Promise.{GatherPromise}
 use Rattle.op_render.specs.Promise.{RenderPromise}

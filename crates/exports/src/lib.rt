@@ -65,7 +65,7 @@ pub extern "C" fn unloop_settle(block: &[u16], setting: &[u8], values: &mut [u8]
 pub extern "C" fn unloop_pass(block: &[u16], setting: &[u8], values: &mut [u8]) -> Reply
     ensures { λ r. ⌜ PassReply (now (block .entry)) (now (setting .entry)) (now (values .entry)) r (now (values .exit)) ⌝ }
 {
-    reply_of(op_settle::pass::pass(block, setting, values))
+    reply_of(op_pass::pass(block, setting, values))
 }
 
 // Sheet: each record's answer from its two masks of inputs; count: the records. A function on a slice of structs is

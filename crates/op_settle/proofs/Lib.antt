@@ -1,8 +1,4 @@
--- Laws on the rounds in an array that belong to no one function.
+-- Mathematics of Settle; no function of src/ is named.
 pub mod Settings
 pub mod Codes
-pub mod Starts
-pub mod Updates
-pub mod Rounds
-pub mod Sweeps
 pub mod Outcomes

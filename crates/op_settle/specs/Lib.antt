@@ -1,5 +1,3 @@
 -- What the contracts of this crate add to the definitions of `netlist`.
 pub mod Tests
-pub mod Rounded
-pub mod Changes
-pub mod Passed
+pub mod Settled

@@ -1,13 +1,13 @@
 // Settle (SPECIFICATION 7.5): the least fixpoint of a block under one setting, by event-driven simulation.
-use crate::round::UNDEFINED;
-use crate::round::prepare;
-use crate::round::settle_prepared;
 use crate::setting::test_setting;
-use crate::values::put_setting;
-use crate::values::take_gates;
 use graph_gates::GRAPH_WORDS;
 use graph_gates::PLACES;
 use graph_gates::fanout::FANOUT_WORDS;
+use graph_simulation::round::UNDEFINED;
+use graph_simulation::round::prepare;
+use graph_simulation::round::settle_prepared;
+use graph_simulation::values::put_setting;
+use graph_simulation::values::take_gates;
 use graph_ternary::table::gate_table;
 use netlist::Answer;
 use words_block::check_words;
@@ -22,7 +22,8 @@ ghost use lib.ListN.{length, getD};
 ghost use Rattle.netlist.specs.StoredBlock.{isMalformed};
 ghost use Rattle.netlist.specs.Answers.{Promise};
 ghost use Rattle.netlist.specs.Operations.{settle};
-ghost use Rattle.op_settle.specs.Rounded.{Bytes, Settled};
+ghost use Rattle.graph_simulation.specs.Rounded.{Bytes};
+ghost use Rattle.op_settle.specs.Settled.{Settled};
 
 // Writes the settled values into the first bytes of `out`; gives how many rounds change something.
 fn settle_into(words: &[u16], setting: &[u8], out: &mut [u8]) -> usize

@@ -18,9 +18,10 @@ use Rattle.theory_encoding.proofs.Decoded.{decode-inputCount}
 use Rattle.theory_fixpoint.proofs.Sweep.{sweep-settled}
 use Rattle.graph_gates.specs.Graph.{Decoded}
 use Rattle.graph_ternary.specs.State.{inputsIn, stateIn}
-use Rattle.op_settle.specs.Rounded.{Starting, SettledIn, SweptIn}
-use Rattle.op_settle.proofs.Rounds.{operands-same, starting-inputs, settled-of}
-use Rattle.op_settle.proofs.Sweeps.{sweep-of}
+use Rattle.graph_simulation.specs.Rounded.{Starting, SettledIn}
+use Rattle.op_pass.specs.Swept.{SweptIn}
+use Rattle.graph_simulation.proofs.Rounds.{operands-same, starting-inputs, settled-of}
+use Rattle.op_pass.proofs.Sweeps.{sweep-of}
 use Rattle.op_sheet.specs.Shown.{BlockSettled, shownIn}
 
 -- ---- the call

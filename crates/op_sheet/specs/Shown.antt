@@ -10,7 +10,7 @@ use Rattle.netlist.specs.StoredBlock.{decode, isMalformed}
 use Rattle.netlist.specs.Rounds.{outputValue, settled}
 use Rattle.netlist.specs.Sheet.{outputValues}
 use Rattle.graph_ternary.specs.State.{Coded, inputsIn, stateIn}
-use Rattle.op_settle.specs.Rounded.{Starting}
+use Rattle.graph_simulation.specs.Rounded.{Starting}
 
 -- output o of a block that is not torn, of n inputs
 pub record OfBlock (ws : List ℕ) (n o : ℕ) : Type 0 where

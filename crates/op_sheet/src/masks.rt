@@ -1,14 +1,14 @@
 // The setting that a record's two masks of inputs stand for.
 use graph_gates::FIRST_INPUT;
 use graph_gates::PLACES;
-use op_settle::values::put_constants;
+use graph_simulation::values::put_constants;
 ghost use mathlib.Core.Path.{_≡_};
 ghost use mathlib.Core.List.{map};
 ghost use Prim.Native.Nat.{_≤_, _<_};
 ghost use Rattle.netlist.specs.Limits.{maxInputs};
 ghost use Rattle.netlist.specs.Values.{valueOf};
 ghost use Rattle.netlist.specs.Sheet.{inputByte, settingBytes};
-ghost use Rattle.op_settle.specs.Rounded.{Blank, Starting};
+ghost use Rattle.graph_simulation.specs.Rounded.{Blank, Starting};
 
 // The byte of input i in the setting of two masks: 0 or 1 where it is fixed, 2 where it is not.
 fn input_byte(fixed: usize, ones: usize, i: usize) -> u8

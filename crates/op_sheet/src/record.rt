@@ -6,13 +6,13 @@ use graph_gates::PLACES;
 use graph_gates::decode_gates;
 use graph_gates::fanout::FANOUT_WORDS;
 use graph_gates::fanout::link_slots;
+use graph_simulation::round::UNDEFINED;
+use graph_simulation::round::settle_prepared;
 use graph_ternary::table::GATE_ENTRIES;
 use graph_ternary::table::gate_table;
 use netlist::Record;
 use netlist::Refusal;
-use op_settle::round::UNDEFINED;
-use op_settle::round::settle_prepared;
-use op_settle::sweep::sweep_gates;
+use op_pass::sweep::sweep_gates;
 use words_block::check_straight;
 use words_layout::masks::are_masks;
 use words_layout::offsets::gates_of;
@@ -25,7 +25,7 @@ ghost use Rattle.netlist.specs.StoredBlock.{decode, isMalformed};
 ghost use Rattle.netlist.specs.GateTable.{gateTable};
 ghost use Rattle.netlist.specs.Sheet.{refusedRecord, recordOf};
 ghost use Rattle.graph_gates.specs.Graph.{Graph};
-ghost use Rattle.op_settle.specs.Rounded.{Unsettled, SettledIn};
+ghost use Rattle.graph_simulation.specs.Rounded.{Unsettled, SettledIn};
 ghost use Rattle.op_sheet.specs.Shown.{BlockSettled};
 
 // A record with refusal 7 and two zero masks of outputs.

@@ -1,9 +1,5 @@
 -- Mathematics of the written text; no function of src/ is named.
-pub mod Appending
-pub mod DecimalLaws
-pub mod NameLaws
-pub mod TrimLaws
-pub mod OperandLaws
+pub mod ExpressionLaws
 pub mod NeverLaws
 pub mod WrittenText
 pub mod Outcomes

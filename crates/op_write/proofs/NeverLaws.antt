@@ -8,7 +8,8 @@ use borrow.Author.Tests.{eq-eqb, ne-eqb}
 use Rattle.prelude.specs.Lists.{ascii}
 use Rattle.netlist.specs.Assignments.{bit}
 use Rattle.netlist.specs.StoredBlock.{inputsAt, nameSize}
-use Rattle.op_write.specs.Pieces.{pieces, pairPiece, fixedText, neverText}
+use Rattle.text_pieces.specs.Pieces.{pieces, pairPiece}
+use Rattle.op_write.specs.Lines.{fixedText, neverText}
 
 module _ (ws : List ℕ) (fixed ones i : ℕ) where
   pub fixed-none : (bit fixed i ≡ 1 → ⊥) → fixedText ws fixed ones i ≡ []

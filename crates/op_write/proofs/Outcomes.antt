@@ -18,7 +18,8 @@ use Rattle.theory_encoding.proofs.WellFormed.{wellFormed-parts}
 use Rattle.theory_grammar.proofs.WritingLength.{written-length}
 use Rattle.words_refusals.specs.declared.Test.the-variants.{Passed}
 use Rattle.words_refusals.specs.Tests.{testOf}
-use Rattle.op_write.specs.Pieces.{Short, pieces, inputText, neverLineText, gateText, outputText, blockText}
+use Rattle.text_pieces.specs.Pieces.{Short, pieces}
+use Rattle.op_write.specs.Lines.{inputText, neverLineText, gateText, outputText, blockText}
 use Rattle.op_write.proofs.WrittenText.{decoded-well, written-pieces}
 
 -- ---- the parts, from the header's words

@@ -24,9 +24,10 @@ use Rattle.theory_encoding.proofs.Decoded.{decode-inputCount, decode-input, dec
 use Rattle.theory_encoding.proofs.Intact.{intact-wellFormed}
 use Rattle.theory_encoding.proofs.Readers.{whole-intact, wellFormed-output}
 use Rattle.theory_encoding.proofs.WellFormed.{noOutput}
-use Rattle.op_write.specs.Pieces.{pieces, pairPiece, operandText, itemText, expressionText, inputText, fixedText, neverText, neverLineText, gateText}
-use Rattle.op_write.specs.Pieces.{outputText, blockText}
-use Rattle.op_write.proofs.Appending.{pieces-more, pieces-none}
+use Rattle.text_pieces.specs.Pieces.{pieces, pairPiece, operandText}
+use Rattle.op_write.specs.Lines.{itemText, expressionText, inputText, fixedText, neverText, neverLineText, gateText}
+use Rattle.op_write.specs.Lines.{outputText, blockText}
+use Rattle.text_pieces.proofs.Appending.{pieces-more, pieces-none}
 
 -- ---- lines one after the other
 

@@ -16,11 +16,10 @@ ghost use Rattle.netlist.specs.Operations.{write};
 ghost use Rattle.netlist.specs.StoredBlock.{isMalformed};
 ghost use Rattle.netlist.specs.declared.Refusal.the-variants.{NoRoom};
 ghost use Rattle.words_refusals.specs.Tests.{testOf};
-ghost use Rattle.op_write.specs.Pieces.{blockText};
+ghost use Rattle.op_write.specs.Lines.{blockText};
 
 mod lines;
 mod nevers;
-pub mod pieces;
 
 // Refusal 11, of a block that is not malformed. Where there is room for the longest text nothing is measured; else a
 // pass over a text of one byte does.

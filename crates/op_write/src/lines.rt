@@ -1,12 +1,12 @@
 // The lines of a text, those of inputs, gates and outputs, appended as in `pieces`, and the whole of it (SPECIFICATION
 // 1).
 use crate::nevers::put_nevers;
-use crate::pieces::put;
-use crate::pieces::put_all;
-use crate::pieces::put_gate_name;
-use crate::pieces::put_keyword;
-use crate::pieces::put_name;
-use crate::pieces::put_operand;
+use text_pieces::put;
+use text_pieces::put_all;
+use text_pieces::put_gate_name;
+use text_pieces::put_keyword;
+use text_pieces::put_name;
+use text_pieces::put_operand;
 use words_layout::offsets::GATE_SIZE;
 use words_layout::offsets::INPUTS_AT;
 use words_layout::offsets::NAME_SIZE;
@@ -23,7 +23,8 @@ ghost use Prim.Native.Nat.{_≤_};
 ghost use lib.ListN.{getD};
 ghost use Rattle.netlist.specs.Limits.{maxInputs};
 ghost use Rattle.words_layout.specs.Bounds.{maxWord, writtenRoom, lineRoom};
-ghost use Rattle.op_write.specs.Pieces.{Appended, Short, pieces, itemText, expressionText, inputText, gateText, outputText, blockText};
+ghost use Rattle.text_pieces.specs.Pieces.{Appended, Short, pieces};
+ghost use Rattle.op_write.specs.Lines.{itemText, expressionText, inputText, gateText, outputText, blockText};
 
 // Appends a space and operand i of the gate whose first word is at `from`.
 fn put_item(text: &mut [u8], at: usize, words: &[u16], from: usize, i: usize) -> usize

@@ -1,7 +1,7 @@
 // Never lines, appended as in `pieces`: a pair for each input that a line fixes, by ascending input (SPECIFICATION 1.3,
 // 7.11).
-use crate::pieces::put_all;
-use crate::pieces::put_pair;
+use text_pieces::put_all;
+use text_pieces::put_pair;
 use words_layout::offsets::INPUTS_AT;
 use words_layout::offsets::NAME_SIZE;
 use words_layout::offsets::NEVER_SIZE;
@@ -11,7 +11,8 @@ ghost use Prim.Native.Nat.{_≤_};
 ghost use lib.ListN.{getD};
 ghost use Rattle.netlist.specs.Limits.{maxInputs};
 ghost use Rattle.words_layout.specs.Bounds.{writtenRoom, maxWord, lineRoom};
-ghost use Rattle.op_write.specs.Pieces.{Appended, Short, pieces, fixedText, neverText, neverLineText};
+ghost use Rattle.text_pieces.specs.Pieces.{Appended, Short, pieces};
+ghost use Rattle.op_write.specs.Lines.{fixedText, neverText, neverLineText};
 
 // Appends the pair of input i, where the mask `fixed` has it.
 fn put_fixed(

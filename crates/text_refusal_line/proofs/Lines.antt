@@ -13,8 +13,8 @@ use Rattle.netlist.specs.declared.Refusal.{Refusal}
 use Rattle.netlist.specs.Writing.{decimal}
 use Rattle.netlist.specs.Answers.{refused, refusalNumber, refusalDetail}
 use Rattle.netlist.specs.Program.{refusalLine, shown}
-use Rattle.op_write.specs.Pieces.{Appended}
-use Rattle.op_write.proofs.DecimalLaws.{decimal-one, decimal-more}
+use Rattle.text_pieces.specs.Pieces.{Appended}
+use Rattle.text_pieces.proofs.DecimalLaws.{decimal-one, decimal-more}
 use Rattle.text_refusal_line.specs.Shown.{maxLine, Shown}
 
 -- a number below 10 ^ (k + 1) has at most k + 1 digits

@@ -1,7 +1,7 @@
 // The line of a refusal: `(refused NUMBER DETAIL)`, both decimal.
 use netlist::Refusal;
-use op_write::pieces::put_all;
-use op_write::pieces::put_decimal;
+use text_pieces::put_all;
+use text_pieces::put_decimal;
 use words_refusals::detail_of;
 use words_refusals::number_of;
 ghost use Prim.Native.Nat.{_≤_};

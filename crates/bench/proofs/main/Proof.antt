@@ -1,6 +1,6 @@
 -- `bench::main` meets its contract: the buffers are long enough, and nothing is prepared yet. Assumes nothing.
 use mathlib.Core.Path.{refl}
-use Rattle.op_settle.proofs.Starts.{empty}
+use Rattle.graph_simulation.proofs.Starts.{empty}
 use borrow.Author.Needs.{needs}
 use Rattle.bench.proofs.main.Statement.{statement}
 use Rattle.bench.proofs.main.Tie as tie

@@ -1,5 +1,5 @@
 -- `bench_set_line::answer_line` meets its contract. Assumes nothing.
-use Rattle.op_settle.proofs.Starts.{blank}
+use Rattle.graph_simulation.proofs.Starts.{blank}
 use borrow.Author.Needs.{needs}
 use Rattle.bench_set_line.proofs.answer_line.Statement.{statement}
 use Rattle.bench_set_line.proofs.answer_line.Tie as tie

@@ -7,7 +7,7 @@ use lib.Dec.{ltb}
 use borrow.Author.Needs.{needs}
 use Rattle.netlist.specs.declared.Refusal.the-variants.{NoRoom}
 use Rattle.words_refusals.specs.Tests.{testOf}
-use Rattle.op_write.specs.Pieces.{blockText}
+use Rattle.op_write.specs.Lines.{blockText}
 use Rattle.op_write.proofs.Outcomes.{few-inputs, block-short, room-enough}
 use Rattle.op_write.proofs.check_room.Statement.{statement}
 use Rattle.op_write.proofs.check_room.Tie as tie

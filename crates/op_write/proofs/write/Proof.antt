@@ -13,7 +13,7 @@ use Rattle.netlist.specs.StoredBlock.{isMalformed}
 use Rattle.netlist.specs.Answers.{inRoom}
 use Rattle.words_refusals.specs.Tests.{testOf}
 use Rattle.words_refusals.proofs.Promised.{passed, passed-false, failed, keeps-room, bare, keeps-bare, finished}
-use Rattle.op_write.specs.Pieces.{blockText}
+use Rattle.op_write.specs.Lines.{blockText}
 use Rattle.op_write.proofs.Outcomes.{few-inputs, block-short, write-start, write-room}
 use Rattle.op_write.proofs.write.Statement.{statement}
 use Rattle.op_write.proofs.write.Tie as tie

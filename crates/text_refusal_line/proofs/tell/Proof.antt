@@ -6,7 +6,7 @@ use borrow.Author.Needs.{needs}
 use Rattle.netlist.specs.Writing.{decimal}
 use Rattle.text_refusal_line.proofs.tell.Statement.{statement}
 use Rattle.text_refusal_line.proofs.tell.Tie as tie
-use Rattle.op_write.proofs.Appending.{appended-then}
+use Rattle.text_pieces.proofs.Appending.{appended-then}
 use Rattle.text_refusal_line.proofs.Lines.{toldLine, number-short, line-told}
 
 -- what stands behind a piece, from what stands behind the next one; and the two numbers, from the first piece

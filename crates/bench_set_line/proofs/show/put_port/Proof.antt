@@ -12,7 +12,7 @@ use Rattle.netlist.specs.StoredBlock.{nameSize, outputSize, operandOf}
 use Rattle.netlist.specs.Values.{valueOf}
 use Rattle.netlist.specs.Syntax.{valueText, pairText}
 use Rattle.graph_gates.specs.Places.{placeOf}
-use Rattle.op_write.proofs.Appending.{appended-then, short-first, short-rest}
+use Rattle.text_pieces.proofs.Appending.{appended-then, short-first, short-rest}
 use Rattle.bench_set_line.specs.Shown.{portPiece}
 use Rattle.bench_set_line.proofs.ShowLaws.{ports-near, port-ready}
 

@@ -1,7 +1,7 @@
 -- `bench_set_line::show::put_ports` meets its contract: after o turns the first o ports are appended. Assumes nothing.
 use Prim.Native.Nat.{_-_}
 use native.Mathlib.Omega.{arith}
-use Rattle.op_write.proofs.Appending.{appended-length, PiecesPut, put-none, put-short, put-more, put-every}
+use Rattle.text_pieces.proofs.Appending.{appended-length, PiecesPut, put-none, put-short, put-more, put-every}
 use Rattle.bench_set_line.specs.Shown.{portPiece}
 use Rattle.bench_set_line.proofs.ShowLaws.{ports-near}
 use Rattle.bench_set_line.proofs.show.put_ports.Statement.{statement}

@@ -5,8 +5,8 @@ use Rattle.bench_set_line.proofs.show.put_show.Tie as tie
 use mathlib.Core.List.{_++_}
 use mathlib.Core.Path.{_≡_}
 use Rattle.prelude.specs.Lists.{ascii}
-use Rattle.op_write.specs.Pieces.{Short, pieces}
-use Rattle.op_write.proofs.Appending.{appended-then, short-first, short-rest}
+use Rattle.text_pieces.specs.Pieces.{Short, pieces}
+use Rattle.text_pieces.proofs.Appending.{appended-then, short-first, short-rest}
 use Rattle.bench_set_line.specs.Shown.{portPiece, showText}
 use Rattle.bench_set_line.proofs.ShowLaws.{show-of, show-short}
 

@@ -1,5 +1,5 @@
 -- `bench_set_line::show::show` meets its contract: the graph's settled values give the definition's line (`show-is`). Assumes nothing.
-use Rattle.op_settle.proofs.Rounds.{prepared-with}
+use Rattle.graph_simulation.proofs.Rounds.{prepared-with}
 use Rattle.bench_set_line.proofs.ShowLaws.{show-is}
 use borrow.Author.Needs.{needs}
 use Rattle.bench_set_line.proofs.show.show.Statement.{statement}

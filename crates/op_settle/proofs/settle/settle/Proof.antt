@@ -14,7 +14,7 @@ use Rattle.netlist.specs.Rounds.{rounds, settled}
 use Rattle.netlist.specs.Answers.{done, refuseIf, inRoom}
 use Rattle.netlist.specs.Operations.{isBadSetting, settleBlock, settle}
 use Rattle.words_refusals.proofs.Promised.{passed, passed-false, failed, keeps-room, bare, keeps-bare, finished}
-use Rattle.op_settle.proofs.Starts.{good-setting}
+use Rattle.op_settle.proofs.Settings.{good-setting}
 use Rattle.op_settle.proofs.Outcomes.{settle-chain, settle-room}
 use Rattle.op_settle.proofs.settle.settle.Statement.{statement}
 use Rattle.op_settle.proofs.settle.settle.Tie as tie

@@ -1,8 +1,9 @@
 -- `op_settle::settle::settle_into` meets its contract: the graph's settled values are the block's (`settled-bytes`). Assumes nothing.
 use mathlib.Core.Path.{refl}
 use denote.Ref.{now}
-use Rattle.op_settle.proofs.Starts.{empty, blank}
-use Rattle.op_settle.proofs.Rounds.{prepared-with, settled-bytes}
+use Rattle.graph_simulation.proofs.Starts.{empty, blank}
+use Rattle.graph_simulation.proofs.Rounds.{prepared-with}
+use Rattle.op_settle.proofs.Outcomes.{settled-bytes}
 use borrow.Author.Needs.{needs}
 use Rattle.op_settle.proofs.settle.settle_into.Statement.{statement}
 use Rattle.op_settle.proofs.settle.settle_into.Tie as tie

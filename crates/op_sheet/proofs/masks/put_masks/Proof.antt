@@ -9,8 +9,8 @@ use Rattle.prelude.specs.Lists.{tab}
 use Rattle.prelude.proofs.Tab.{length-tab}
 use Rattle.netlist.specs.Values.{valueOf}
 use Rattle.netlist.specs.Sheet.{inputByte, settingBytes}
-use Rattle.op_settle.specs.Rounded.{Starting}
-use Rattle.op_settle.proofs.Starts.{starting-more}
+use Rattle.graph_simulation.specs.Rounded.{Starting}
+use Rattle.graph_simulation.proofs.Starts.{starting-more}
 use Rattle.op_sheet.proofs.MaskLaws.{byte-most}
 use Rattle.op_sheet.proofs.masks.put_masks.Statement.{statement}
 use Rattle.op_sheet.proofs.masks.put_masks.Tie as tie

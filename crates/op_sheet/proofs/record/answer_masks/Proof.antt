@@ -4,7 +4,7 @@ use native.Mathlib.Omega.{arith}
 use denote.Ref.{now}
 use borrow.Author.Needs.{needs}
 use Rattle.theory_encoding.proofs.Readers.{whole-parts}
-use Rattle.op_settle.proofs.Starts.{blank}
+use Rattle.graph_simulation.proofs.Starts.{blank}
 use Rattle.op_sheet.proofs.RecordLaws.{bad-as, record-refused, settled-record}
 use Rattle.op_sheet.proofs.record.answer_masks.Statement.{statement}
 use Rattle.op_sheet.proofs.record.answer_masks.Tie as tie

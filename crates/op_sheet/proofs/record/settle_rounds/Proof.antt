@@ -1,6 +1,6 @@
 -- `op_sheet::record::settle_rounds` meets its contract: the fan-out is linked in an array of zeros. Assumes nothing.
 use borrow.Author.Needs.{needs}
-use Rattle.op_settle.proofs.Starts.{empty}
+use Rattle.graph_simulation.proofs.Starts.{empty}
 use Rattle.op_sheet.proofs.record.settle_rounds.Statement.{statement}
 use Rattle.op_sheet.proofs.record.settle_rounds.Tie as tie
 

@@ -4,9 +4,10 @@ use native.Mathlib.Omega.{arith}
 use lib.ListN.{getD}
 use borrow.Author.Needs.{needs}
 use Rattle.netlist.specs.StoredBlock.{neversAt, gatesAt, outputsAt}
-use Rattle.op_write.specs.Pieces.{pieces, inputText, neverLineText, gateText, outputText, blockText}
+use Rattle.text_pieces.specs.Pieces.{pieces}
+use Rattle.op_write.specs.Lines.{inputText, neverLineText, gateText, outputText, blockText}
 use Rattle.op_write.proofs.Outcomes.{inputs-part, nevers-part, gates-part, outputs-part}
-use Rattle.op_write.proofs.Appending.{appended-then, appended-is, short-first, short-rest}
+use Rattle.text_pieces.proofs.Appending.{appended-then, appended-is, short-first, short-rest}
 use Rattle.op_write.proofs.lines.put_block.Statement.{statement}
 use Rattle.op_write.proofs.lines.put_block.Tie as tie
 

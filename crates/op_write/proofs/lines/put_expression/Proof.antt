@@ -6,9 +6,10 @@ use native.Mathlib.Omega.{arith}
 use borrow.Author.Needs.{needs}
 use Rattle.prelude.specs.Lists.{ascii}
 use Rattle.netlist.specs.Kinds.{keyword}
-use Rattle.op_write.specs.Pieces.{pieces, itemText, expressionText}
-use Rattle.op_write.proofs.OperandLaws.{expression-of}
-use Rattle.op_write.proofs.Appending.{appended-then, short-first, short-rest}
+use Rattle.text_pieces.specs.Pieces.{pieces}
+use Rattle.op_write.specs.Lines.{itemText, expressionText}
+use Rattle.op_write.proofs.ExpressionLaws.{expression-of}
+use Rattle.text_pieces.proofs.Appending.{appended-then, short-first, short-rest}
 use Rattle.op_write.proofs.lines.put_expression.Statement.{statement}
 use Rattle.op_write.proofs.lines.put_expression.Tie as tie
 

@@ -1,8 +1,8 @@
 -- `op_write::lines::put_gates` meets its contract: after j turns the first j lines are appended. Assumes nothing.
 use Prim.Native.Nat.{_-_}
 use native.Mathlib.Omega.{arith}
-use Rattle.op_write.specs.Pieces.{gateText}
-use Rattle.op_write.proofs.Appending.{appended-length, PiecesPut, put-none, put-short, put-more, put-every}
+use Rattle.op_write.specs.Lines.{gateText}
+use Rattle.text_pieces.proofs.Appending.{appended-length, PiecesPut, put-none, put-short, put-more, put-every}
 use Rattle.op_write.proofs.lines.put_gates.Statement.{statement}
 use Rattle.op_write.proofs.lines.put_gates.Tie as tie
 

@@ -1,8 +1,8 @@
 -- `op_write::lines::put_item` meets its contract: a space, and then the operand. Assumes nothing.
 use borrow.Author.Needs.{needs}
 use Rattle.prelude.specs.Lists.{ascii}
-use Rattle.op_write.specs.Pieces.{itemText}
-use Rattle.op_write.proofs.Appending.{appended-then, short-first, short-rest}
+use Rattle.op_write.specs.Lines.{itemText}
+use Rattle.text_pieces.proofs.Appending.{appended-then, short-first, short-rest}
 use Rattle.op_write.proofs.lines.put_item.Statement.{statement}
 use Rattle.op_write.proofs.lines.put_item.Tie as tie
 

@@ -1,8 +1,8 @@
 -- `op_write::lines::put_items` meets its contract: after i turns the first i operands are appended. Assumes nothing.
 use Prim.Native.Nat.{_-_}
 use native.Mathlib.Omega.{arith}
-use Rattle.op_write.specs.Pieces.{itemText}
-use Rattle.op_write.proofs.Appending.{appended-length, PiecesPut, put-none, put-short, put-more, put-every}
+use Rattle.op_write.specs.Lines.{itemText}
+use Rattle.text_pieces.proofs.Appending.{appended-length, PiecesPut, put-none, put-short, put-more, put-every}
 use Rattle.op_write.proofs.lines.put_items.Statement.{statement}
 use Rattle.op_write.proofs.lines.put_items.Tie as tie
 

@@ -2,8 +2,8 @@
 use native.Mathlib.Omega.{arith}
 use borrow.Author.Needs.{needs}
 use Rattle.prelude.specs.Lists.{ascii}
-use Rattle.op_write.specs.Pieces.{outputText}
-use Rattle.op_write.proofs.Appending.{appended-then, short-first, short-rest}
+use Rattle.op_write.specs.Lines.{outputText}
+use Rattle.text_pieces.proofs.Appending.{appended-then, short-first, short-rest}
 use Rattle.op_write.proofs.lines.put_output.Statement.{statement}
 use Rattle.op_write.proofs.lines.put_output.Tie as tie
 

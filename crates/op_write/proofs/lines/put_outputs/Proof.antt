@@ -1,8 +1,8 @@
 -- `op_write::lines::put_outputs` meets its contract: after o turns the first o lines are appended. Assumes nothing.
 use Prim.Native.Nat.{_-_}
 use native.Mathlib.Omega.{arith}
-use Rattle.op_write.specs.Pieces.{outputText}
-use Rattle.op_write.proofs.Appending.{appended-length, PiecesPut, put-none, put-short, put-more, put-every}
+use Rattle.op_write.specs.Lines.{outputText}
+use Rattle.text_pieces.proofs.Appending.{appended-length, PiecesPut, put-none, put-short, put-more, put-every}
 use Rattle.op_write.proofs.lines.put_outputs.Statement.{statement}
 use Rattle.op_write.proofs.lines.put_outputs.Tie as tie
 

@@ -2,7 +2,7 @@
 use native.Mathlib.Omega.{arith}
 use borrow.Author.Needs.{needs}
 use Rattle.netlist.specs.Assignments.{bit}
-use Rattle.op_write.proofs.Appending.{appended-none}
+use Rattle.text_pieces.proofs.Appending.{appended-none}
 use Rattle.op_write.proofs.NeverLaws.{fixed-none, fixed-some}
 use Rattle.op_write.proofs.nevers.put_fixed.Statement.{statement}
 use Rattle.op_write.proofs.nevers.put_fixed.Tie as tie

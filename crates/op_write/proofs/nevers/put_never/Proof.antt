@@ -3,9 +3,10 @@ use mathlib.Core.List.{_++_}
 use mathlib.Core.Path.{_≡_}
 use borrow.Author.Needs.{needs}
 use Rattle.prelude.specs.Lists.{ascii}
-use Rattle.op_write.specs.Pieces.{pieces, fixedText, neverText}
+use Rattle.text_pieces.specs.Pieces.{pieces}
+use Rattle.op_write.specs.Lines.{fixedText, neverText}
 use Rattle.op_write.proofs.NeverLaws.{never-of}
-use Rattle.op_write.proofs.Appending.{appended-then, short-first, short-rest}
+use Rattle.text_pieces.proofs.Appending.{appended-then, short-first, short-rest}
 use Rattle.op_write.proofs.nevers.put_never.Statement.{statement}
 use Rattle.op_write.proofs.nevers.put_never.Tie as tie
 

@@ -1,8 +1,8 @@
 -- `op_write::nevers::put_nevers` meets its contract: after i turns the first i lines are appended. Assumes nothing.
 use Prim.Native.Nat.{_-_}
 use native.Mathlib.Omega.{arith}
-use Rattle.op_write.specs.Pieces.{neverLineText}
-use Rattle.op_write.proofs.Appending.{appended-length, PiecesPut, put-none, put-short, put-more, put-every}
+use Rattle.op_write.specs.Lines.{neverLineText}
+use Rattle.text_pieces.proofs.Appending.{appended-length, PiecesPut, put-none, put-short, put-more, put-every}
 use Rattle.op_write.proofs.nevers.put_nevers.Statement.{statement}
 use Rattle.op_write.proofs.nevers.put_nevers.Tie as tie
 

@@ -1,8 +1,8 @@
 -- `op_write::nevers::put_pairs` meets its contract: after i turns the pairs of the first i inputs are appended. Assumes nothing.
 use Prim.Native.Nat.{_-_}
 use native.Mathlib.Omega.{arith}
-use Rattle.op_write.specs.Pieces.{fixedText}
-use Rattle.op_write.proofs.Appending.{appended-length, PiecesPut, put-none, put-short, put-more, put-every}
+use Rattle.op_write.specs.Lines.{fixedText}
+use Rattle.text_pieces.proofs.Appending.{appended-length, PiecesPut, put-none, put-short, put-more, put-every}
 use Rattle.op_write.proofs.nevers.put_pairs.Statement.{statement}
 use Rattle.op_write.proofs.nevers.put_pairs.Tie as tie
 

@@ -1,0 +1,65 @@
+-- `op_settle::changes::copy_changed` meets its contract: the gates queued before q have their values copied. Assumes nothing.
+use mathlib.Core.Path.{_≡_}
+use Prim.Native.Nat.{_-_, _≤_, _<_}
+use native.Mathlib.Omega.{arith}
+use denote.Ref.{now}
+use lib.ListN.{getD}
+use Rattle.netlist.specs.Limits.{maxGates}
+use Rattle.graph_simulation.specs.Changes.{Copied}
+use Rattle.graph_simulation.proofs.Updates.{copied-none, copied-next}
+use Rattle.graph_simulation.proofs.changes.copy_changed.Statement.{statement}
+use Rattle.graph_simulation.proofs.changes.copy_changed.Tie as tie
+
+abbrev Inv-loop : tie.InvT-loop
+Inv-loop found queue changed values₀ q₀ values q =
+    (changed .head ≤ q) × (q ≤ changed .tail) × Copied found queue (changed .head) q values₀ values
+
+abbrev μ-loop : tie.MeasureT-loop
+μ-loop found queue changed values₀ q₀ values q = changed .tail - q
+
+loop-holds : tie.Need-loop-holds Inv-loop μ-loop
+loop-holds c = (omega arith, c .pre .1, copied-none _ _ _ _)
+
+mul-k : tie.Need-mul-k Inv-loop μ-loop
+mul-k c = omega (arith, c .before .before .before .pre .0 .queued)
+
+element-copy-out-k : tie.Need-element-copy-out-k Inv-loop μ-loop
+element-copy-out-k c = omega (arith, c .before .before .before .pre .0 .queued)
+
+-- a queued gate
+inside : (c : tie.Then1 Inv-loop μ-loop) → getD (now (c .before .before .before .args .queue)) (c .before .before .loop .q) 0 < maxGates
+inside c = c .before .before .before .pre .0 .inside (c .before .before .loop .q) (c .if1 .taken)
+
+cast-k : tie.Need-cast-k Inv-loop μ-loop
+cast-k c = omega (arith, inside (c .before))
+
+element-copy-out-values : tie.Need-element-copy-out-values Inv-loop μ-loop
+element-copy-out-values c = inside (c .before)
+
+add-values : tie.Need-add-values Inv-loop μ-loop
+add-values c = omega (arith, inside (c .before .before))
+
+element-write-values : tie.Need-element-write-values Inv-loop μ-loop
+element-write-values c = omega (arith, inside (c .before .before))
+
+loop-again : tie.Need-loop-again Inv-loop μ-loop
+loop-again c =
+    let l = c .before .before .before .before in
+    let s = l .before in (
+      omega arith,
+      omega arith,
+      copied-next (l .loop .inv .2) (l .loop .inv .0) (omega (arith, inside (c .before .before), s .pre .0 .long)),
+    )
+
+returns : tie.Need-returns Inv-loop μ-loop
+returns c =
+    let l = c .before .before in
+    let e : l .loop .q ≡ l .before .args .changed .tail = omega arith in
+    rw e at (l .loop .inv .2)
+
+pub copy-changed-spec : {M : Type 1} → statement M
+copy-changed-spec =
+    tie.close
+    (tie.spec
+    Inv-loop μ-loop loop-holds mul-k element-copy-out-k cast-k element-copy-out-values add-values element-write-values
+    (λ c. omega arith) (λ c. omega arith) loop-again returns)

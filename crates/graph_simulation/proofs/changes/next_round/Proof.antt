@@ -1,0 +1,27 @@
+-- `op_settle::changes::next_round` meets its contract: `values` gets what was found, and then the readers of what changed are evaluated. Assumes nothing.
+use Rattle.graph_simulation.proofs.Updates.{copy-ready, copied-ready, next-ready, next-awake, round-next}
+use Rattle.graph_simulation.proofs.changes.next_round.Statement.{statement}
+use Rattle.graph_simulation.proofs.changes.next_round.Tie as tie
+
+copy-changed-requires : tie.Need-copy-changed-requires
+copy-changed-requires c κs = let s = c .before .before .before in (copy-ready (s .pre .0 .legal) (s .pre .1), s .pre .1 .ordered)
+
+update-changed-requires : tie.Need-update-changed-requires
+update-changed-requires c κs =
+    let f = c .before .before .before in
+    let s = f .before .before .before .before in
+    let g = s .pre .0 .legal in
+    let r = s .pre .1 in
+    let k = f .copy-changed .ensures in (
+      s .pre .0,
+      ((next-ready g r k, r .ordered), (copied-ready g r k, next-awake g r k)),
+    )
+
+returns : tie.Need-returns
+returns c =
+    let f = c .before .before .before .before in
+    let s = f .before .before .before .before in
+    round-next (s .pre .0 .legal) (s .pre .1) (f .copy-changed .ensures) (c .update-changed .ensures)
+
+pub next-round-spec : {M : Type 1} → statement M
+next-round-spec = tie.close (tie.spec copy-changed-requires update-changed-requires returns)

@@ -1,0 +1,54 @@
+-- `op_settle::values::put_setting` meets its contract: the first i inputs have their values (`starting-more`). Assumes nothing.
+use mathlib.Core.Path.{_≡_, _∙_}
+use mathlib.Core.List.{_∷_, [], _++_, map, map-append}
+use Prim.Native.Nat.{_+_, _-_, _≤_, _<_}
+use denote.Ref.{now}
+use native.Mathlib.Omega.{arith}
+use native.Mathlib.Numerals.{add-one}
+use lib.ListN.{length, getD, take, length-map}
+use lib.Seq.{take-suc, take-all, length-take-le}
+use Rattle.netlist.specs.Values.{valueOf}
+use Rattle.graph_simulation.specs.Rounded.{Starting}
+use Rattle.graph_simulation.proofs.Starts.{starting-more}
+use Rattle.graph_simulation.proofs.values.put_setting.Statement.{statement}
+use Rattle.graph_simulation.proofs.values.put_setting.Tie as tie
+
+abbrev Inv-loop : tie.InvT-loop
+Inv-loop setting values₀ i₀ values i = (i ≤ length setting) × Starting (map valueOf (take i setting)) values
+
+abbrev μ-loop : tie.MeasureT-loop
+μ-loop setting values₀ i₀ values i = length setting - i
+
+put-constants-requires : tie.Need-put-constants-requires Inv-loop μ-loop
+put-constants-requires c κs = c .before .before .pre .0
+
+loop-holds : tie.Need-loop-holds Inv-loop μ-loop
+loop-holds c = (omega arith, c .put-constants .ensures)
+
+element-write-values : tie.Need-element-write-values Inv-loop μ-loop
+element-write-values c = omega (arith, c .before .before .before .before .before .before .pre .1 .few)
+
+loop-again : tie.Need-loop-again Inv-loop μ-loop
+loop-again c =
+    let l = c .before .before in
+    let s = l .before .before .before .before in
+    let setting = now (s .args .setting) in
+    let i = l .loop .i in
+    let few : i < length setting = c .before .loop-test .taken in
+    let long : length (map valueOf (take i setting)) ≡ i = length-map (take i setting) valueOf ∙ length-take-le i setting (omega arith) in
+    let more : map valueOf (take (i + 1) setting) ≡ map valueOf (take i setting) ++ (valueOf (getD setting i 0) ∷ []) =
+    rw (add-one, take-suc setting i 0 few) (map-append valueOf (take i setting) (getD setting i 0 ∷ [])) in
+    (omega arith, rw more (starting-more (l .loop .inv .1) i (getD setting i 0) long (omega (arith, s .pre .1 .few)) (s .pre .1 .most i)))
+
+returns : tie.Need-returns Inv-loop μ-loop
+returns c =
+    let l = c .before in
+    let setting = now (l .before .before .before .before .args .setting) in
+    rw (take-all (l .loop .i) setting (c .loop-test .left)) at (l .loop .inv .1)
+
+pub put-setting-spec : {M : Type 1} → statement M
+put-setting-spec =
+    tie.close
+    (tie.spec
+    Inv-loop μ-loop put-constants-requires loop-holds (λ c. omega arith) (λ c. omega arith) element-write-values
+    (λ c. omega arith) (λ c. omega arith) loop-again returns)

@@ -1,0 +1,3 @@
+-- Mathematics of Pass; no function of src/ is named.
+pub mod Sweeps
+pub mod Outcomes

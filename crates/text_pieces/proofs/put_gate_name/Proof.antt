@@ -1,0 +1,26 @@
+-- `text_pieces::put_gate_name` meets its contract: `_`, and then the number. Assumes nothing.
+use native.Mathlib.Omega.{arith}
+use borrow.Author.Needs.{needs}
+use Rattle.prelude.specs.Lists.{ascii}
+use Rattle.netlist.specs.Writing.{gateName, decimal}
+use Rattle.text_pieces.proofs.DecimalLaws.{short-smaller}
+use Rattle.text_pieces.proofs.Appending.{appended-then, short-first, short-rest}
+use Rattle.text_pieces.proofs.put_gate_name.Statement.{statement}
+use Rattle.text_pieces.proofs.put_gate_name.Tie as tie
+
+put-requires : tie.Need-put-requires
+unfolding gateName
+put-requires c κs = short-first {xs = ascii "_"} (decimal (c .before .before .args .j)) (c .before .before .pre)
+
+put-number-requires : tie.Need-put-number-requires
+unfolding gateName
+put-number-requires c κs =
+    let opened = c .before .before .before in
+    short-smaller (omega arith) (short-rest (decimal (opened .before .before .before .args .j)) (opened .before .before .before .pre) (opened .put .ensures))
+
+returns : tie.Need-returns
+unfolding gateName
+returns c = appended-then (c .before .before .before .before .before .before .put .ensures) (c .before .before .put-number .ensures)
+
+pub put-gate-name-spec : {M : Type 1} → statement M
+put-gate-name-spec = tie.close (tie.spec put-requires put-number-requires (λ c. search needs) returns)
