@@ -1,6 +1,6 @@
 -- The eight bytes of a name, read one by one: where each stands, and what it says of the rest. Assumes nothing.
-use mathlib.Core.Path.{_≡_, refl, sym}
-use mathlib.Core.Bool.{true, false, cond, _&&_}
+use mathlib.Core.Path.{_≡_, refl, sym, ap, _∙_}
+use mathlib.Core.Bool.{Bool, true, false, cond, _&&_}
 use mathlib.Core.List.{List, []}
 use Prim.Native.Nat.{ℕ, zero, suc, _+_, _*_, _/_, _%_, _≤_, _<_}
 use native.Mathlib.Nat.{mul-le-mul}
@@ -10,6 +10,7 @@ use lib.ListN.{length, getD, drop}
 use lib.Seq.{drop-cons}
 use lib.Dec.{eqb}
 use borrow.Author.Tests.{ne-eqb}
+use Rattle.prelude.specs.Lists.{all}
 use Rattle.netlist.specs.StoredBlock.{bytesAt}
 use Rattle.netlist.specs.Names.{isNameByte}
 use Rattle.theory_encoding.specs.Rules.{padded}
@@ -34,8 +35,7 @@ pub bytes-length : (ws : List ℕ) (at : ℕ) → length (bytesAt ws at) ≡ 8
 unfolding bytesAt
 bytes-length ws at = refl
 
--- past the last byte nothing is left
-pub bytes-end : (ws : List ℕ) (at i : ℕ) → 8 ≤ i → i ≤ 8 → drop i (bytesAt ws at) ≡ []
+bytes-end : (ws : List ℕ) (at i : ℕ) → 8 ≤ i → i ≤ 8 → drop i (bytesAt ws at) ≡ []
 unfolding bytesAt
 bytes-end ws at i a b = let e : i ≡ 8 = omega arith in rw e
 
@@ -44,29 +44,62 @@ module _ (bs : List ℕ) (i : ℕ) (inside : i < length bs) where
   zeros-from : zerosFrom bs i ≡ eqb 0 (getD bs i 0) && zerosFrom bs (i + 1)
   zeros-from = rw (add-one, drop-cons bs i 0)
 
-  padded-from : padded (drop i bs) ≡ cond (eqb (getD bs i 0) 0) (zerosFrom bs (i + 1)) (isNameByte (getD bs i 0) && padded (drop (i + 1) bs))
+  padded-from : padded (drop i bs) ≡ cond (eqb (getD bs i 0) 0) (zerosFrom bs (i + 1))
+      (isNameByte (getD bs i 0) && padded (drop (i + 1) bs))
   unfolding padded
   padded-from = rw (add-one, drop-cons bs i 0)
 
--- what byte i of the name at `at`, which was read as r, says of the bytes from i on
-module _ (ws : List ℕ) (at i r : ℕ) (inside : i < 8) (read : r ≡ getD (bytesAt ws at) i 0) where
-  within : i < length (bytesAt ws at)
-  within = rw (bytes-length ws at) inside
+-- The invariant of a loop over the eight bytes: i of them are passed, and a test of all is the test of the others.
+pub record Rest (test : List ℕ → Bool) (ws : List ℕ) (at first i : ℕ) : Type 0 where
+  pub within : i ≤ 8
+  pub same : test (drop first (bytesAt ws at)) ≡ test (drop i (bytesAt ws at))
 
-  pub zeros-more : r ≡ 0 → zerosFrom (bytesAt ws at) i ≡ zerosFrom (bytesAt ws at) (i + 1)
-  zeros-more e = rw (zeros-from (bytesAt ws at) i within, ← read, e)
+pub rest-start : {test : List ℕ → Bool} {ws : List ℕ} {at first : ℕ} → first ≤ 8 → Rest test ws at first first
+rest-start l = record { within = l; same = refl }
 
-  pub zeros-fail : (r ≡ 0 → ⊥) → zerosFrom (bytesAt ws at) i ≡ false
-  zeros-fail e = rw (zeros-from (bytesAt ws at) i within, ← read, ne-eqb 0 r (λ q. e (sym q)))
+-- past the last byte nothing is left
+pub rest-end : {test : List ℕ → Bool} {ws : List ℕ} {at first i : ℕ} → Rest test ws at first i → 8 ≤ i
+    → test [] ≡ test (drop first (bytesAt ws at))
+rest-end {test} {ws} {at} {first} {i} h l = sym (h .same ∙ ap test (bytes-end ws at i l (h .within)))
 
-  pub padded-zero : r ≡ 0 → padded (drop i (bytesAt ws at)) ≡ zerosFrom (bytesAt ws at) (i + 1)
-  padded-zero e = rw (padded-from (bytesAt ws at) i within, ← read, e)
+inside-bytes : (ws : List ℕ) (at i : ℕ) → i < 8 → i < length (bytesAt ws at)
+inside-bytes ws at i h = rw (bytes-length ws at) h
 
-  pub padded-more : (r ≡ 0 → ⊥) → isNameByte r ≡ true → padded (drop i (bytesAt ws at)) ≡ padded (drop (i + 1) (bytesAt ws at))
-  padded-more e t = rw (padded-from (bytesAt ws at) i within, ← read, ne-eqb r 0 e, t)
+-- byte i, which was read as r, decides the test or leaves it to the bytes behind it
+module _ {ws : List ℕ} {at first i r : ℕ} (inside : i < 8) (read : r ≡ getD (bytesAt ws at) i 0) where
+  pub zeros-more : Rest (all (eqb 0)) ws at first i → r ≡ 0 → Rest (all (eqb 0)) ws at first (i + 1)
+  zeros-more h e =
+      record {
+        within = omega arith;
+        same = h .same
+            ∙ rw (zeros-from (bytesAt ws at) i (inside-bytes ws at i inside), ← read, e);
+      }
 
-  pub padded-fails : (r ≡ 0 → ⊥) → isNameByte r ≡ false → padded (drop i (bytesAt ws at)) ≡ false
-  padded-fails e t = rw (padded-from (bytesAt ws at) i within, ← read, ne-eqb r 0 e, t)
+  pub zeros-fail : Rest (all (eqb 0)) ws at first i → (r ≡ 0 → ⊥) → false ≡ all (eqb 0) (drop first (bytesAt ws at))
+  zeros-fail h e =
+      sym (h .same ∙ rw (
+        zeros-from (bytesAt ws at) i (inside-bytes ws at i inside),
+        ← read,
+        ne-eqb 0 r (λ q. e (sym q)),
+      ))
+
+  pub padded-zero : Rest padded ws at first i → r ≡ 0
+      → zerosFrom (bytesAt ws at) (i + 1) ≡ padded (drop first (bytesAt ws at))
+  padded-zero h e = sym (h .same ∙ rw (padded-from (bytesAt ws at) i (inside-bytes ws at i inside), ← read, e))
+
+  pub padded-more : Rest padded ws at first i → (r ≡ 0 → ⊥) → isNameByte r ≡ true
+      → Rest padded ws at first (i + 1)
+  padded-more h e t =
+      record {
+        within = omega arith;
+        same = h .same
+            ∙ rw (padded-from (bytesAt ws at) i (inside-bytes ws at i inside), ← read, ne-eqb r 0 e, t);
+      }
+
+  pub padded-fails : Rest padded ws at first i → (r ≡ 0 → ⊥) → isNameByte r ≡ false
+      → false ≡ padded (drop first (bytesAt ws at))
+  padded-fails h e t =
+      sym (h .same ∙ rw (padded-from (bytesAt ws at) i (inside-bytes ws at i inside), ← read, ne-eqb r 0 e, t))
 
 -- where name i stands
 pub place-le : (at size i : ℕ) → at ≤ 8192 → size ≤ 5 → i ≤ 1024 → at + size * i ≤ 65535

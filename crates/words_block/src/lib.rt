@@ -16,7 +16,6 @@ ghost use Rattle.netlist.specs.StoredBlock.{outputSize, outputsAt, isMalformed,
 ghost use Rattle.netlist.specs.Rendering.{isStraight};
 ghost use Rattle.words_block.specs.Steps.{frontRule, partsRule};
 
-pub mod gates;
 mod header;
 mod names;
 mod nevers;
@@ -47,7 +46,7 @@ fn parts_fit(words: &[u16], n: usize, l: usize, m: usize, k: usize) -> bool
     if !front_fits(words, n, l) {
         return false;
     }
-    if !gates::fit(words, n + m, offsets::gates_behind(n, l), m) {
+    if !words_gates::fit(words, n + m, offsets::gates_behind(n, l), m) {
         return false;
     }
     if !names::fit(words, outputs_at, offsets::OUTPUT_SIZE, k) {
@@ -85,5 +84,8 @@ pub fn check_straight(words: &[u16]) -> Test
     let n = offsets::inputs_of(words);
     let m = offsets::gates_of(words);
     let at = offsets::gates_at(words);
-    refuse_if(!gates::read_lower(words, n, at, m), Refusal::NotStraight)
+    refuse_if(
+        !words_gates::read_lower(words, n, at, m),
+        Refusal::NotStraight,
+    )
 }

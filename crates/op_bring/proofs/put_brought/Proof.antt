@@ -1,4 +1,5 @@
--- `op_bring::put_brought` meets its contract: the counts stand in front, and behind them the words passed. Assumes nothing.
+-- `op_bring::put_brought` meets its contract: the counts stand in front, and behind them the words passed. Assumes
+-- nothing.
 use mathlib.Core.Path.{_≡_, refl, sym, _∙_, ap}
 use Prim.Native.Nat.{ℕ, _≤_, _-_}
 use mathlib.Core.List.{List}
@@ -14,23 +15,30 @@ use Rattle.op_bring.proofs.put_brought.Tie as tie
 
 abbrev Inv-loop : tie.InvT-loop
 Inv-loop old block₀ count p₀ block p =
-    (4 ≤ p) × (p ≤ count) × (length block ≡ length block₀) × (block ≡ placed (tab (λ p. getD (brought old) p 0) p) block₀)
+    (4 ≤ p) × (p ≤ count) × (length block ≡ length block₀)
+    × (block ≡ placed (tab (λ p. getD (brought old) p 0) p) block₀)
 
 abbrev μ-loop : tie.MeasureT-loop
 μ-loop old block₀ count p₀ block p = count - p
 
 loop-holds : tie.Need-loop-holds Inv-loop μ-loop
 loop-holds c =
+    let start : tie.Start Inv-loop μ-loop = search in
     let put = c .before .before in
-    let a = put .before .before .before .before .args in
-    let counts = tab (λ p. getD (brought (a .old .now)) p 0) 4 in
-    (omega arith, omega arith, refl, placed-again counts (a .block .now) (put .put-counts .last .1 .0) (put .put-counts .ensures))
+    let a = start .args in
+    let counts = tab (λ p. getD (brought (a .old .now)) p 0) 4 in (
+      omega arith,
+      omega arith,
+      refl,
+      placed-again counts (a .block .now) (put .put-counts .last .1 .0)
+          (put .put-counts .ensures),
+    )
 
 loop-again : tie.Need-loop-again Inv-loop μ-loop
 loop-again c =
     let l = c .before .before .loop in
-    let put = c .before .before .before .before .before in
-    let s = put .before .before .before .before in
+    let put : tie.After-put-counts Inv-loop μ-loop = search in
+    let s : tie.Start Inv-loop μ-loop = search in
     let word : ℕ → ℕ = λ p. getD (brought (s .args .old .now)) p 0 in (
       omega arith,
       omega arith,
@@ -40,13 +48,14 @@ loop-again c =
     )
 
 same-length : tie.Need-same-length Inv-loop μ-loop
-same-length c = let put = c .before .before .before .before in c .before .loop .inv .2 ∙ put .put-counts .kept .1 .0
+same-length c =
+    let put : tie.After-put-counts Inv-loop μ-loop = search in c .before .loop .inv .2 ∙ put .put-counts .kept .1 .0
 
 returns : tie.Need-returns Inv-loop μ-loop
 returns c =
     let l = c .before .loop in
-    let put = c .before .before .before .before in
-    let s = put .before .before .before .before in
+    let put : tie.After-put-counts Inv-loop μ-loop = search in
+    let s : tie.Start Inv-loop μ-loop = search in
     let old = s .args .old .now in
     let counts = tab (λ p. getD (brought old) p 0) 4 in
     l .inv .3

@@ -23,11 +23,13 @@ loop-holds c = (omega arith, refl, refl)
 
 loop-again : tie.Need-loop-again Inv-loop μ-loop
 loop-again c =
+    let start : tie.Start Inv-loop μ-loop = search in
     let l = c .before .before .loop in
-    let a = c .before .before .before .before .before .args in (
+    let a = start .args in (
       omega arith,
       simp length-set (l .inv .1),
-      fill-next (λ p. getD (brought (a .old .now)) p 0) (l .p) (a .block .now) (l .block) _ (l .inv .2) (omega arith) (c .brought-count .ensures),
+      fill-next (λ p. getD (brought (a .old .now)) p 0) (l .p) (a .block .now) (l .block) _ (l .inv .2) (omega arith)
+          (c .brought-count .ensures),
     )
 
 same-length : tie.Need-same-length Inv-loop μ-loop
@@ -35,7 +37,7 @@ same-length c = c .before .loop .inv .1
 
 returns : tie.Need-returns Inv-loop μ-loop
 returns c =
-    let s = c .before .before .before .before in
+    let s : tie.Start Inv-loop μ-loop = search in
     let l = c .before .loop in
     let all : l .p ≡ 4 = omega arith in
     l .inv .2 ∙ ap (λ (k : ℕ). placed (tab (λ p. getD (brought (s .args .old .now)) p 0) k) (s .args .block .now)) all

@@ -7,7 +7,7 @@ use Rattle.op_gather.proofs.gather_block.Tie as tie
 
 write-gathered-requires : tie.Need-write-gathered-requires
 write-gathered-requires c κs =
-    let s = c .before .before .before .before .before .before .before .before in
+    let s : tie.Start = search in
     let p = whole-parts (now (s .args .words)) (s .pre .whole) in
     record { block = s .pre; numberRoom = p .fewGates; placeRoom = p .fewGates; tableRoom = p .fewGates }
 

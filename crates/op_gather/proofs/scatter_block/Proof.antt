@@ -7,7 +7,7 @@ use Rattle.op_gather.proofs.scatter_block.Tie as tie
 
 scatter-with-requires : tie.Need-scatter-with-requires
 scatter-with-requires c κs =
-    let s = c .before .before .before .before .before .before in
+    let s : tie.Start = search in
     let p = whole-parts (now (s .args .words)) (s .pre) in
     record { whole = s .pre; placeRoom = p .fewGates; tableRoom = p .fewGates }
 

@@ -8,7 +8,9 @@ use Rattle.netlist.specs.Line.{lineLength}
 use Rattle.op_line.proofs.Ends.{ends-in-order}
 
 sub-result : tie.Need-sub-result
-sub-result c = let s = c .before .before in omega (arith, ends-in-order (s .args .text .now) (s .args .place), c .line-end .ensures, s .pre)
+sub-result c =
+    let s = c .before .before in
+    omega (arith, ends-in-order (s .args .text .now) (s .args .place), c .line-end .ensures, s .pre)
 
 returns : tie.Need-returns
 unfolding lineLength

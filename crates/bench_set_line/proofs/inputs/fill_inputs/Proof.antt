@@ -12,7 +12,8 @@ use Rattle.text_symbols.specs.Packed.{packed, nameFront}
 use Rattle.bench_set_line.specs.Tables.{inputKey}
 
 abbrev Inv-loop : tie.InvT-loop
-Inv-loop words n inputs₀ i₀ inputs i = (i ≤ n) × (inputs ≡ placed (tab (inputKey words) i) inputs₀) × (length inputs ≡ length inputs₀)
+Inv-loop words n inputs₀ i₀ inputs i =
+    (i ≤ n) × (inputs ≡ placed (tab (inputKey words) i) inputs₀) × (length inputs ≡ length inputs₀)
 
 abbrev μ-loop : tie.MeasureT-loop
 μ-loop words n inputs₀ i₀ inputs i = n - i
@@ -23,10 +24,13 @@ loop-holds c = (omega arith, refl, refl)
 loop-again : tie.Need-loop-again Inv-loop μ-loop
 unfolding inputKey
 loop-again c =
-    let a = c .before .before .before .before .before .before .before .args in
-    let l = c .before .before .before .before .loop in (
+    let start : tie.Start Inv-loop μ-loop = search in
+    let head : tie.At-loop Inv-loop μ-loop = search in
+    let a = start .args in
+    let l = head .loop in (
       omega arith,
-      fill-next (inputKey (a .words .now)) (l .i) (a .inputs .now) (l .inputs) (c .pack .result) (l .inv .1) (omega arith)
+      fill-next (inputKey (a .words .now)) (l .i) (a .inputs .now) (l .inputs) (c .pack .result) (l .inv .1)
+          (omega arith)
           (c .pack .ensures ∙ ap (λ bytes. packed (nameFront 8 bytes)) (c .before .before .name-bytes .ensures)),
       length-set (l .inputs) (l .i) (c .pack .result) ∙ l .inv .2,
     )
@@ -35,7 +39,9 @@ same-length : tie.Need-same-length Inv-loop μ-loop
 same-length c = c .before .loop .inv .2
 
 returns : tie.Need-returns Inv-loop μ-loop
-returns c = let l = c .before .loop in let e : l .i ≡ c .before .before .before .before .args .n = omega arith in rw (← e) (l .inv .1)
+returns c =
+    let start : tie.Start Inv-loop μ-loop = search in
+    let l = c .before .loop in let e : l .i ≡ start .args .n = omega arith in rw (← e) (l .inv .1)
 
 pub fill-inputs-spec : {M : Type 1} → statement M
 fill-inputs-spec =

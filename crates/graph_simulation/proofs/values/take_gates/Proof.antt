@@ -27,7 +27,9 @@ element-copy-out-out : tie.Need-element-copy-out-out Inv-loop μ-loop
 element-copy-out-out c = omega (arith, c .before .before .pre .0)
 
 slice-write-out : tie.Need-slice-write-out Inv-loop μ-loop
-slice-write-out c = omega (arith, c .before .before .before .pre .1, c .before .before .loop .inv .2)
+slice-write-out c =
+    let start : tie.Start Inv-loop μ-loop = search in
+    omega (arith, start .pre .1, c .before .before .loop .inv .2)
 
 loop-again : tie.Need-loop-again Inv-loop μ-loop
 loop-again c =
@@ -35,7 +37,8 @@ loop-again c =
     let s = l .before in
     let v = now (s .args .values) in (
       omega arith,
-      fill-next (λ k. getD v (firstGate + k) 0) (l .loop .j) (now (s .args .out)) (l .loop .out) _ (l .loop .inv .1) (omega (arith, s .pre .1)) refl,
+      fill-next (λ k. getD v (firstGate + k) 0) (l .loop .j) (now (s .args .out)) (l .loop .out) _ (l .loop .inv .1)
+          (omega (arith, s .pre .1)) refl,
       length-set (l .loop .out) (l .loop .j) _ ∙ l .loop .inv .2,
     )
 

@@ -17,7 +17,8 @@ use Rattle.op_cells.proofs.make.put_cells.Tie as tie
 
 abbrev Inv-loop : tie.InvT-loop
 Inv-loop words count cells₀ p₀ cells p =
-    (p ≤ count) × (length cells ≡ length cells₀) × (cells ≡ placed (tab (λ p. getD (cellsOf (decode words)) p 0) p) cells₀)
+    (p ≤ count) × (length cells ≡ length cells₀)
+    × (cells ≡ placed (tab (λ p. getD (cellsOf (decode words)) p 0) p) cells₀)
 
 abbrev μ-loop : tie.MeasureT-loop
 μ-loop words count cells₀ p₀ cells p = count - p
@@ -27,11 +28,13 @@ loop-holds c = (omega arith, refl, refl)
 
 loop-again : tie.Need-loop-again Inv-loop μ-loop
 loop-again c =
+    let start : tie.Start Inv-loop μ-loop = search in
     let l = c .before .before .loop in
-    let a = c .before .before .before .before .before .args in (
+    let a = start .args in (
       omega arith,
       simp length-set (l .inv .1),
-      fill-next (λ p. getD (cellsOf (decode (now (a .words)))) p 0) (l .p) (now (a .cells)) (l .cells) _ (l .inv .2) (omega arith) (c .made-word .ensures),
+      fill-next (λ p. getD (cellsOf (decode (now (a .words)))) p 0) (l .p) (now (a .cells)) (l .cells) _ (l .inv .2)
+          (omega arith) (c .made-word .ensures),
     )
 
 same-length : tie.Need-same-length Inv-loop μ-loop
@@ -39,7 +42,7 @@ same-length c = c .before .loop .inv .1
 
 returns : tie.Need-returns Inv-loop μ-loop
 returns c =
-    let s = c .before .before .before .before in
+    let s : tie.Start Inv-loop μ-loop = search in
     let l = c .before .loop in
     let ws = now (s .args .words) in
     l .inv .2

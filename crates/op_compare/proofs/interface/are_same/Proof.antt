@@ -5,7 +5,7 @@ use Prim.Native.Nat.{_≤_, _+_, _-_, _*_}
 use native.Mathlib.Omega.{arith}
 use borrow.Author.Needs.{needs}
 use Rattle.prelude.specs.Lists.{all, upTo}
-use Rattle.words_block.proofs.TestLaws.{passes, fails, passed}
+use Rattle.words_gates.proofs.TestLaws.{passes, fails, passed}
 use Rattle.words_block.proofs.NameLaws.{place-le}
 use Rattle.op_compare.specs.Names.{sameNameAt}
 use Rattle.op_compare.proofs.interface.are_same.Statement.{statement}

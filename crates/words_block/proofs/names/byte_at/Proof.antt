@@ -10,7 +10,11 @@ use Rattle.words_block.proofs.names.byte_at.Tie as tie
 cast-result-2 : tie.Need-cast-result-2
 cast-result-2 c =
     let known = c .before .before in
-    omega (arith, c .before .word-at .ensures, known .shared-slice-known .given (known .before .args .at + known .before .args .i / 2))
+    omega (
+      arith,
+      c .before .word-at .ensures,
+      known .shared-slice-known .given (known .before .args .at + known .before .args .i / 2),
+    )
 
 returns : tie.Need-returns
 returns c =
@@ -23,4 +27,5 @@ returns-2 c =
     (← byte-is (a .words .now) (a .at) (a .i) (search needs), ne-eqb _ 0 (c .if1 .left), c .before .word-at .ensures)
 
 pub byte-at-spec : {M : Type 1} → statement M
-byte-at-spec = tie.close (tie.spec (λ c. search needs) (λ c κs. search needs) (λ c. search needs) cast-result-2 returns returns-2)
+byte-at-spec =
+    tie.close (tie.spec (λ c. search needs) (λ c κs. search needs) (λ c. search needs) cast-result-2 returns returns-2)

@@ -7,7 +7,10 @@ use Rattle.words_block.proofs.names.is_legal.Tie as tie
 
 returns : tie.Need-returns
 unfolding nameRule
-returns c = rw (← c .before .before .before .byte-at .ensures, sym (c .before .before .is-letter .ensures) ∙ c .before .if1 .taken) (c .is-padded .ensures)
+returns c =
+    let after-byte-at : tie.After-byte-at = search in
+    rw (← after-byte-at .byte-at .ensures, sym (c .before .before .is-letter .ensures) ∙ c .before .if1 .taken)
+    (c .is-padded .ensures)
 
 returns-2 : tie.Need-returns-2
 unfolding nameRule

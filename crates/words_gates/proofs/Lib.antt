@@ -1,0 +1,4 @@
+pub mod TestLaws
+mod GateLaws
+mod SlotLaws
+pub mod StraightLaws
