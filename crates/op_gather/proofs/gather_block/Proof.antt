@@ -14,6 +14,4 @@ write-gathered-requires c κs =
 pub gather-block-spec : {M : Type 1} → statement M
 gather-block-spec =
     tie.close
-    (tie.spec
-    (λ c. search needs) (λ c. search needs) (λ c. search needs) write-gathered-requires (λ c. search needs)
-    (λ c. search needs) (λ c. search needs))
+    (tie.spec write-gathered-requires (λ c. search needs) (λ c. search needs) (λ c. search needs))

@@ -13,6 +13,4 @@ scatter-with-requires c κs =
 
 pub scatter-block-spec : {M : Type 1} → statement M
 scatter-block-spec =
-    tie.close
-    (tie.spec
-    (λ c. search needs) (λ c. search needs) scatter-with-requires (λ c. search needs) (λ c. search needs))
+    tie.close (tie.spec scatter-with-requires (λ c. search needs) (λ c. search needs))

@@ -20,14 +20,14 @@ use Rattle.op_gather.proofs.steps.scatter_with.Tie as tie
 -- the function's entry, and the calls one before the other
 abbrev start : tie.After-gates-of → tie.Start
 start c =
-    let back = c .before .before .before in
-    back .before .before .before
+    let known = c .before .before in
+    known .before .before
 
 abbrev counting : tie.After-find-places → tie.After-gates-of
 counting c = c .before .before
 
 abbrev listing : tie.After-refuse-if → tie.After-find-places
-listing c = c .before .before .before
+listing c = c .before
 
 abbrev order-test : tie.After-enum-told → tie.After-refuse-if
 order-test c = c .before .before
@@ -78,7 +78,7 @@ returns-2 c =
 
 write-arranged-requires : tie.Need-write-arranged-requires
 write-arranged-requires c κs =
-    let e = c .before .before .before in
+    let e : tie.After-enum-told3 = search in
     let t = room-test e in
     let f = listing (order-test (t .before)) in
     let s = entry f in
@@ -116,6 +116,5 @@ scatter-with-spec =
     tie.close
     (tie.spec
     (λ c κs. search needs) find-places-requires (λ c κs. search needs) (λ c. search needs) (λ c. search needs)
-    (λ c κs. search needs) (λ c. search needs) returns (λ c κs. search needs) (λ c. search needs) (λ c. search needs)
-    (λ c κs. search needs) (λ c. search needs) returns-2 write-arranged-requires (λ c. search needs)
-    (λ c. search needs) (λ c. search needs) returns-3)
+    (λ c κs. search needs) returns (λ c κs. search needs) (λ c. search needs) (λ c. search needs)
+    (λ c κs. search needs) returns-2 write-arranged-requires (λ c. search needs) returns-3)

@@ -19,22 +19,21 @@ use Rattle.op_gather.proofs.steps.write_gathered.Tie as tie
 -- the function's entry, and the calls one before the other
 abbrev start : tie.After-gates-of → tie.Start
 start c =
-    let back = c .before .before .before in
-    let back2 = back .before .before .before in
-    back2 .before
+    let known = c .before .before in
+    known .before .before
 
 abbrev counting : tie.After-assign → tie.After-gates-of
 counting c = c .before .before
 
 abbrev numbering : tie.After-list-members → tie.After-assign
 numbering c =
-    let back = c .before .before .before in
-    back .before .before
+    let lent = c .before .before in
+    lent .before .before
 
 abbrev listing : tie.After-find-places → tie.After-list-members
 listing c =
-    let back = c .before .before .before in
-    back .before .before
+    let kept = c .before .before .before in
+    kept .before .before
 
 -- the groups' numbers, and the list
 gates-few : (c : tie.After-gates-of) → c .gates-of .result ≤ maxGates
@@ -117,5 +116,4 @@ write-gathered-spec =
     tie.close
     (tie.spec
     (λ c κs. search needs) (λ c κs. search needs) list-members-requires (λ c. search needs) slice-aggregate-find-places
-    find-places-requires write-arranged-requires (λ c. search needs) (λ c. search needs) (λ c. search needs)
-    (λ c. search needs) (λ c. search needs) returns)
+    find-places-requires write-arranged-requires (λ c. search needs) (λ c. search needs) returns)
