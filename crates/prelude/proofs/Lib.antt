@@ -10,4 +10,5 @@ pub mod Lists
 pub mod Stores
 pub mod Filling
 pub mod Tabled
+pub mod Tested
 pub mod Counting

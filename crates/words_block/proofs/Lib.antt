@@ -1,2 +1,1 @@
 mod HeaderLaws
-pub mod NameLaws

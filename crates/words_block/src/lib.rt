@@ -17,7 +17,6 @@ ghost use Rattle.netlist.specs.Rendering.{isStraight};
 ghost use Rattle.words_block.specs.Steps.{frontRule, partsRule};
 
 mod header;
-mod names;
 mod nevers;
 mod outputs;
 
@@ -27,7 +26,7 @@ fn front_fits(words: &[u16], n: usize, l: usize) -> bool
     requires { ⌜ l ≤ maxNevers ⌝ }
     ensures { λ r. ⌜ r ≡ frontRule (now (words .entry)) n l ⌝ }
 {
-    if !names::fit(words, offsets::INPUTS_AT, offsets::NAME_SIZE, n) {
+    if !words_names::fit(words, offsets::INPUTS_AT, offsets::NAME_SIZE, n) {
         return false;
     }
     nevers::fit(words, n, offsets::nevers_at(n), l)
@@ -49,7 +48,7 @@ fn parts_fit(words: &[u16], n: usize, l: usize, m: usize, k: usize) -> bool
     if !words_gates::fit(words, n + m, offsets::gates_behind(n, l), m) {
         return false;
     }
-    if !names::fit(words, outputs_at, offsets::OUTPUT_SIZE, k) {
+    if !words_names::fit(words, outputs_at, offsets::OUTPUT_SIZE, k) {
         return false;
     }
     outputs::fit(words, n + m, outputs_at, k)

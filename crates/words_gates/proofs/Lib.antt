@@ -1,4 +1,3 @@
-pub mod TestLaws
 mod GateLaws
 mod SlotLaws
 pub mod StraightLaws

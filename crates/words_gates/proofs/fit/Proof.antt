@@ -1,7 +1,7 @@
 -- `words_gates::fit` meets its contract: all gates passed keep their rule. Assumes nothing.
 use Prim.Native.Nat.{_-_}
 use borrow.Author.Needs.{needs}
-use Rattle.words_gates.proofs.TestLaws.{Tested, tested-none, tested-more, tested-fails, tested-all}
+use Rattle.prelude.proofs.Tested.{Tested, tested-none, tested-more, tested-fails, tested-all}
 use Rattle.words_gates.specs.GateSteps.{gateRuleAt}
 use Rattle.words_gates.proofs.fit.Statement.{statement}
 use Rattle.words_gates.proofs.fit.Tie as tie

@@ -2,7 +2,7 @@
 -- nothing.
 use Prim.Native.Nat.{_-_}
 use borrow.Author.Needs.{needs}
-use Rattle.words_gates.proofs.TestLaws.{Tested, tested-none, tested-more, tested-fails, tested-all}
+use Rattle.prelude.proofs.Tested.{Tested, tested-none, tested-more, tested-fails, tested-all}
 use Rattle.words_gates.specs.GateSteps.{lowerRuleAt}
 use Rattle.words_gates.proofs.read_lower.Statement.{statement}
 use Rattle.words_gates.proofs.read_lower.Tie as tie

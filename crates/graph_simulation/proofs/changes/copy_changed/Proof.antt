@@ -1,4 +1,4 @@
--- `op_settle::changes::copy_changed` meets its contract: the gates queued before q have their values copied. Assumes
+-- `graph_simulation::changes::copy_changed` meets its contract: the gates queued before q have their values copied. Assumes
 -- nothing.
 use mathlib.Core.Path.{_≡_}
 use Prim.Native.Nat.{_-_, _≤_, _<_}

@@ -1,4 +1,4 @@
--- `op_settle::changes::update_all` meets its contract: after j turns the first j gates have their values. Assumes
+-- `graph_simulation::changes::update_all` meets its contract: after j turns the first j gates have their values. Assumes
 -- nothing.
 use Prim.Native.Nat.{_-_, _≤_}
 use native.Mathlib.Omega.{arith}

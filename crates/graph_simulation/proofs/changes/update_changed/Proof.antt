@@ -1,4 +1,4 @@
--- `op_settle::changes::update_changed` meets its contract: a gate has its value, or reads a gate that is queued from q
+-- `graph_simulation::changes::update_changed` meets its contract: a gate has its value, or reads a gate that is queued from q
 -- on. Assumes nothing.
 use mathlib.Core.Path.{_≡_}
 use Prim.Native.Nat.{_-_, _*_, _≤_, _<_}

@@ -1,4 +1,4 @@
--- `op_settle::round::prepare` meets its contract. Assumes nothing.
+-- `graph_simulation::round::prepare` meets its contract. Assumes nothing.
 use borrow.Author.Needs.{needs}
 use Rattle.graph_simulation.proofs.round.prepare.Statement.{statement}
 use Rattle.graph_simulation.proofs.round.prepare.Tie as tie

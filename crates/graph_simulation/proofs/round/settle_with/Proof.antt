@@ -1,4 +1,4 @@
--- `op_settle::round::settle_with` meets its contract. The loop's invariant: `values` has the state after `count`
+-- `graph_simulation::round::settle_with` meets its contract. The loop's invariant: `values` has the state after `count`
 -- rounds, each of which changed something, and
 -- `found` that after one more. The measure is the number of gates less that count. Assumes nothing.
 use mathlib.Core.Path.{_≡_}

@@ -1,4 +1,4 @@
--- `op_settle::values::put_setting` meets its contract: the first i inputs have their values (`starting-more`). Assumes
+-- `graph_simulation::values::put_setting` meets its contract: the first i inputs have their values (`starting-more`). Assumes
 -- nothing.
 use mathlib.Core.Path.{_≡_, _∙_}
 use mathlib.Core.List.{_∷_, [], _++_, map, map-append}

@@ -1,4 +1,4 @@
--- `op_settle::values::take_gates` meets its contract: one byte a turn. Assumes nothing.
+-- `graph_simulation::values::take_gates` meets its contract: one byte a turn. Assumes nothing.
 use mathlib.Core.Path.{refl}
 use Prim.Native.Nat.{_+_, _-_}
 use native.Mathlib.Omega.{arith}

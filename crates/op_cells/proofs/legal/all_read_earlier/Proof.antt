@@ -3,7 +3,7 @@ use Prim.Native.Nat.{_-_}
 use denote.Ref.{now}
 use borrow.Author.Needs.{needs}
 use Rattle.netlist.specs.Cells.{readsEarlier}
-use Rattle.words_gates.proofs.TestLaws.{Tested, tested-none, tested-more, tested-fails, tested-all}
+use Rattle.prelude.proofs.Tested.{Tested, tested-none, tested-more, tested-fails, tested-all}
 use Rattle.op_cells.proofs.legal.all_read_earlier.Statement.{statement}
 use Rattle.op_cells.proofs.legal.all_read_earlier.Tie as tie
 

@@ -3,7 +3,7 @@ use Prim.Native.Nat.{_-_}
 use mathlib.Core.Path.{sym, _∙_}
 use denote.Ref.{now}
 use borrow.Author.Needs.{needs}
-use Rattle.words_gates.proofs.TestLaws.{Tested, tested-none, tested-more, tested-fails, tested-all}
+use Rattle.prelude.proofs.Tested.{Tested, tested-none, tested-more, tested-fails, tested-all}
 use Rattle.op_cells.proofs.Earlier.{wordRule, word-told, reads-rule}
 use Rattle.op_cells.proofs.legal.reads_earlier.Statement.{statement}
 use Rattle.op_cells.proofs.legal.reads_earlier.Tie as tie

@@ -1,4 +1,4 @@
--- `crate::sweep::sweep_gates` meets its contract: each gate is evaluated from the values already there. Assumes
+-- `op_pass::sweep::sweep_gates` meets its contract: each gate is evaluated from the values already there. Assumes
 -- nothing.
 use Prim.Native.Nat.{_-_, _≤_}
 use native.Mathlib.Omega.{arith}

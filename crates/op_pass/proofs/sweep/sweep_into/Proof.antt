@@ -1,4 +1,4 @@
--- `crate::sweep::sweep_into` meets its contract: the sweep of the graph is the block's (`swept-bytes`). Assumes
+-- `op_pass::sweep::sweep_into` meets its contract: the sweep of the graph is the block's (`swept-bytes`). Assumes
 -- nothing.
 use denote.Ref.{now}
 use Rattle.graph_simulation.proofs.Starts.{blank}

@@ -1,7 +1,7 @@
 -- `words_block::nevers::fit` meets its contract: all lines passed keep their rule. Assumes nothing.
 use Prim.Native.Nat.{_-_}
 use borrow.Author.Needs.{needs}
-use Rattle.words_gates.proofs.TestLaws.{Tested, tested-none, tested-more, tested-fails, tested-all}
+use Rattle.prelude.proofs.Tested.{Tested, tested-none, tested-more, tested-fails, tested-all}
 use Rattle.words_block.specs.Steps.{neverRuleAt}
 use Rattle.words_block.proofs.nevers.fit.Statement.{statement}
 use Rattle.words_block.proofs.nevers.fit.Tie as tie

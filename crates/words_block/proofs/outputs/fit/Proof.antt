@@ -1,7 +1,7 @@
 -- `words_block::outputs::fit` meets its contract: all outputs passed show a node. Assumes nothing.
 use Prim.Native.Nat.{_-_}
 use borrow.Author.Needs.{needs}
-use Rattle.words_gates.proofs.TestLaws.{Tested, tested-none, tested-more, tested-fails, tested-all}
+use Rattle.prelude.proofs.Tested.{Tested, tested-none, tested-more, tested-fails, tested-all}
 use Rattle.words_block.specs.Steps.{shownRule}
 use Rattle.words_block.proofs.outputs.fit.Statement.{statement}
 use Rattle.words_block.proofs.outputs.fit.Tie as tie

@@ -14,7 +14,7 @@ use Rattle.prelude.specs.Lists.{all}
 use Rattle.netlist.specs.StoredBlock.{bytesAt}
 use Rattle.netlist.specs.Names.{isNameByte}
 use Rattle.theory_encoding.specs.Rules.{padded}
-use Rattle.words_block.specs.Steps.{zerosFrom}
+use Rattle.words_names.specs.NameSteps.{zerosFrom}
 
 -- byte i is in word i / 2, the lower half of the word first
 pub byte-is : (ws : List ℕ) (at i : ℕ) → i < 8 →

@@ -13,7 +13,7 @@ ghost use Rattle.netlist.specs.Limits.{maxName, maxGates};
 ghost use Rattle.netlist.specs.StoredBlock.{bytesAt};
 ghost use Rattle.words_layout.specs.Bounds.{maxWord, placeRoom};
 ghost use Rattle.theory_encoding.specs.Rules.{padded, nameRule, namesRule};
-ghost use Rattle.words_block.specs.Steps.{zerosFrom, otherName, othersBefore, newName};
+ghost use Rattle.words_names.specs.NameSteps.{zerosFrom, otherName, othersBefore, newName};
 
 // Byte i of the eight bytes of the name whose words start at `at`.
 fn byte_at(words: &[u16], at: usize, i: usize) -> u8

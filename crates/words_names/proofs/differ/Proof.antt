@@ -1,13 +1,13 @@
--- `words_block::names::differ` meets its contract: both names stand within the longest words. Assumes nothing.
+-- `words_names::differ` meets its contract: both names stand within the longest words. Assumes nothing.
 use Prim.Native.Nat.{_≤_, _+_, _*_}
 use mathlib.Core.Path.{ap}
 use mathlib.Core.Bool.{not}
 use borrow.Author.Needs.{needs}
 use native.Mathlib.Omega.{arith}
-use Rattle.words_block.proofs.NameLaws.{place-le}
+use Rattle.words_names.proofs.NameLaws.{place-le}
 use Rattle.theory_encoding.specs.Rules.{sameName}
-use Rattle.words_block.proofs.names.differ.Statement.{statement}
-use Rattle.words_block.proofs.names.differ.Tie as tie
+use Rattle.words_names.proofs.differ.Statement.{statement}
+use Rattle.words_names.proofs.differ.Tie as tie
 
 -- where names i and j stand
 place-i : (s : tie.Start) → s .args .at + s .args .size * s .args .i ≤ 65535

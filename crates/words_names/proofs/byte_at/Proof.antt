@@ -1,11 +1,11 @@
--- `words_block::names::byte_at` meets its contract: two bytes to a word, the lower half first. Assumes nothing.
+-- `words_names::byte_at` meets its contract: two bytes to a word, the lower half first. Assumes nothing.
 use Prim.Native.Nat.{_+_, _/_}
 use native.Mathlib.Omega.{arith}
 use borrow.Author.Needs.{needs}
 use borrow.Author.Tests.{eq-eqb, ne-eqb}
-use Rattle.words_block.proofs.NameLaws.{byte-is}
-use Rattle.words_block.proofs.names.byte_at.Statement.{statement}
-use Rattle.words_block.proofs.names.byte_at.Tie as tie
+use Rattle.words_names.proofs.NameLaws.{byte-is}
+use Rattle.words_names.proofs.byte_at.Statement.{statement}
+use Rattle.words_names.proofs.byte_at.Tie as tie
 
 cast-result-2 : tie.Need-cast-result-2
 cast-result-2 c =

@@ -1,12 +1,12 @@
--- `words_block::names::is_legal_and_new` meets its contract: the two tests, of a name within the longest words.
+-- `words_names::is_legal_and_new` meets its contract: the two tests, of a name within the longest words.
 -- Assumes nothing.
 use Prim.Native.Nat.{_≤_, _+_, _*_}
 use mathlib.Core.Path.{sym, _∙_}
 use borrow.Author.Needs.{needs}
 use native.Mathlib.Omega.{arith}
-use Rattle.words_block.proofs.NameLaws.{place-le}
-use Rattle.words_block.proofs.names.is_legal_and_new.Statement.{statement}
-use Rattle.words_block.proofs.names.is_legal_and_new.Tie as tie
+use Rattle.words_names.proofs.NameLaws.{place-le}
+use Rattle.words_names.proofs.is_legal_and_new.Statement.{statement}
+use Rattle.words_names.proofs.is_legal_and_new.Tie as tie
 
 -- where name j stands
 place-j : (s : tie.Start) → s .args .at + s .args .size * s .args .j ≤ 65535

@@ -1,11 +1,11 @@
--- `words_block::names::only_zeros` meets its contract: the bytes passed are zero, so the rest decides. Assumes nothing.
+-- `words_names::only_zeros` meets its contract: the bytes passed are zero, so the rest decides. Assumes nothing.
 use Prim.Native.Nat.{_-_}
 use borrow.Author.Needs.{needs}
 use lib.Dec.{eqb}
 use Rattle.prelude.specs.Lists.{all}
-use Rattle.words_block.proofs.NameLaws.{Rest, rest-start, rest-end, zeros-more, zeros-fail}
-use Rattle.words_block.proofs.names.only_zeros.Statement.{statement}
-use Rattle.words_block.proofs.names.only_zeros.Tie as tie
+use Rattle.words_names.proofs.NameLaws.{Rest, rest-start, rest-end, zeros-more, zeros-fail}
+use Rattle.words_names.proofs.only_zeros.Statement.{statement}
+use Rattle.words_names.proofs.only_zeros.Tie as tie
 
 abbrev Inv-loop : tie.InvT-loop
 Inv-loop words at i j₀ j = Rest (all (eqb 0)) words at i j

@@ -1,11 +1,11 @@
--- `words_block::names::fit` meets its contract: the names passed are legal and new. Assumes nothing.
+-- `words_names::fit` meets its contract: the names passed are legal and new. Assumes nothing.
 use Prim.Native.Nat.{_-_}
 use borrow.Author.Needs.{needs}
-use Rattle.words_gates.proofs.TestLaws.{Tested, tested-none, tested-more, tested-fails, tested-all}
-use Rattle.words_block.specs.Steps.{newName}
+use Rattle.prelude.proofs.Tested.{Tested, tested-none, tested-more, tested-fails, tested-all}
+use Rattle.words_names.specs.NameSteps.{newName}
 use Rattle.theory_encoding.specs.Rules.{namesRule}
-use Rattle.words_block.proofs.names.fit.Statement.{statement}
-use Rattle.words_block.proofs.names.fit.Tie as tie
+use Rattle.words_names.proofs.fit.Statement.{statement}
+use Rattle.words_names.proofs.fit.Tie as tie
 
 abbrev Inv-loop : tie.InvT-loop
 Inv-loop words at size count j₀ j = Tested (newName words at size) count j

@@ -1,13 +1,13 @@
--- `words_block::names::is_padded` meets its contract: the bytes passed are name bytes, so the rest decides.
+-- `words_names::is_padded` meets its contract: the bytes passed are name bytes, so the rest decides.
 -- Assumes nothing.
 use Prim.Native.Nat.{_-_}
 use mathlib.Core.Path.{sym, _∙_}
 use borrow.Author.Needs.{needs}
 use borrow.Author.Tests.{not-true, not-false}
 use Rattle.theory_encoding.specs.Rules.{padded}
-use Rattle.words_block.proofs.NameLaws.{Rest, rest-start, rest-end, padded-zero, padded-more, padded-fails}
-use Rattle.words_block.proofs.names.is_padded.Statement.{statement}
-use Rattle.words_block.proofs.names.is_padded.Tie as tie
+use Rattle.words_names.proofs.NameLaws.{Rest, rest-start, rest-end, padded-zero, padded-more, padded-fails}
+use Rattle.words_names.proofs.is_padded.Statement.{statement}
+use Rattle.words_names.proofs.is_padded.Tie as tie
 
 abbrev Inv-loop : tie.InvT-loop
 Inv-loop words at i₀ i = Rest padded words at 0 i

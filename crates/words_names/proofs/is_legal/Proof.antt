@@ -1,9 +1,9 @@
--- `words_block::names::is_legal` meets its contract: the first byte, then all eight. Assumes nothing.
+-- `words_names::is_legal` meets its contract: the first byte, then all eight. Assumes nothing.
 use mathlib.Core.Path.{sym, _∙_}
 use borrow.Author.Needs.{needs}
 use Rattle.theory_encoding.specs.Rules.{nameRule}
-use Rattle.words_block.proofs.names.is_legal.Statement.{statement}
-use Rattle.words_block.proofs.names.is_legal.Tie as tie
+use Rattle.words_names.proofs.is_legal.Statement.{statement}
+use Rattle.words_names.proofs.is_legal.Tie as tie
 
 returns : tie.Need-returns
 unfolding nameRule

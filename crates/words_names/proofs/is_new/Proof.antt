@@ -1,10 +1,10 @@
--- `words_block::names::is_new` meets its contract: the names passed are others. Assumes nothing.
+-- `words_names::is_new` meets its contract: the names passed are others. Assumes nothing.
 use Prim.Native.Nat.{_-_}
 use borrow.Author.Needs.{needs}
-use Rattle.words_gates.proofs.TestLaws.{Tested, tested-none, tested-more, tested-fails, tested-all}
-use Rattle.words_block.specs.Steps.{otherName}
-use Rattle.words_block.proofs.names.is_new.Statement.{statement}
-use Rattle.words_block.proofs.names.is_new.Tie as tie
+use Rattle.prelude.proofs.Tested.{Tested, tested-none, tested-more, tested-fails, tested-all}
+use Rattle.words_names.specs.NameSteps.{otherName}
+use Rattle.words_names.proofs.is_new.Statement.{statement}
+use Rattle.words_names.proofs.is_new.Tie as tie
 
 abbrev Inv-loop : tie.InvT-loop
 Inv-loop words at size j i₀ i = Tested (otherName words at size j) j i
