@@ -1,5 +1,4 @@
--- `bench_set_form::line_last` meets its contract.
--- Assumes nothing.
+-- `bench_set_form::line_last` meets its contract. Assumes nothing.
 use borrow.Author.Needs.{needs}
 use Rattle.bench_set_form.proofs.line_last.Statement.{statement}
 use Rattle.bench_set_form.proofs.line_last.Tie as tie

@@ -1,5 +1,5 @@
--- `bench_set_form::set_line_scan` meets its contract: a chain of calls, each on what the one before left.
--- Assumes nothing.
+-- `bench_set_form::set_line_scan` meets its contract: a chain of calls, each on what the one before left. Assumes
+-- nothing.
 use borrow.Author.Needs.{needs}
 use Rattle.bench_set_form.proofs.set_line_scan.Statement.{statement}
 use Rattle.bench_set_form.proofs.set_line_scan.Tie as tie

@@ -1,5 +1,4 @@
--- `bench_set_form::test_set_line` meets its contract.
--- Assumes nothing.
+-- `bench_set_form::test_set_line` meets its contract. Assumes nothing.
 use borrow.Author.Needs.{needs}
 use Rattle.bench_set_form.proofs.test_set_line.Statement.{statement}
 use Rattle.bench_set_form.proofs.test_set_line.Tie as tie

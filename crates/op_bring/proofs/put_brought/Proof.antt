@@ -47,7 +47,8 @@ loop-again c =
 
 same-length : tie.Need-same-length Inv-loop μ-loop
 same-length c =
-    let put : tie.After-put-counts Inv-loop μ-loop = search in c .before .loop .inv .1 .kept ∙ put .put-counts .kept .1 .0
+    let put : tie.After-put-counts Inv-loop μ-loop = search in
+    c .before .loop .inv .1 .kept ∙ put .put-counts .kept .1 .0
 
 returns : tie.Need-returns Inv-loop μ-loop
 returns c =

@@ -1,6 +1,5 @@
 -- `op_groups::groups` meets its contract: the tests are the definition's conditions in its order, and then the groups
--- are numbered.
--- Assumes nothing.
+-- are numbered. Assumes nothing.
 use mathlib.Core.Path.{_≡_, _∙_}
 use denote.Ref.{now}
 use borrow.Author.Needs.{needs}

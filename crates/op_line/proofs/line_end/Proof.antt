@@ -1,6 +1,5 @@
 -- `op_line::line_end` meets its contract. The loop goes up from the part that has the LF; its invariant: the end from
--- `at` on is the end.
--- Assumes nothing.
+-- `at` on is the end. Assumes nothing.
 use Rattle.op_line.proofs.line_end.Statement.{statement}
 use Rattle.op_line.proofs.line_end.Tie as tie
 use mathlib.Core.Path.{_≡_, sym, ap, _∙_}

@@ -1,6 +1,5 @@
 -- `op_line::line_start` meets its contract. The loop goes down from the part that has the LF; its invariant: the start
--- before `at` is the start.
--- Assumes nothing.
+-- before `at` is the start. Assumes nothing.
 use Rattle.op_line.proofs.line_start.Statement.{statement}
 use Rattle.op_line.proofs.line_start.Tie as tie
 use mathlib.Core.Path.{_≡_, refl, sym, ap, _∙_}

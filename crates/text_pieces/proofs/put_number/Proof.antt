@@ -1,6 +1,5 @@
 -- `text_pieces::put_number` meets its contract: below 10,000 the digits of thousands, hundreds and tens, as far as
--- there are any, and the last
--- (`decimal-four`). Assumes nothing.
+-- there are any, and the last (`decimal-four`). Assumes nothing.
 use Prim.Native.Nat.{_+_, _%_, _<_}
 use mathlib.Core.List.{[], _∷_, _++_}
 use native.Mathlib.Omega.{arith}

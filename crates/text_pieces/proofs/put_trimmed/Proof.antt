@@ -1,6 +1,5 @@
 -- `text_pieces::put_trimmed` meets its contract: the bytes before the first zero stay, and what is behind it is trimmed
--- from the end.
--- Assumes nothing.
+-- from the end. Assumes nothing.
 use mathlib.Core.Path.{_≡_, sym, _∙_}
 use Prim.Native.Nat.{_-_}
 use native.Mathlib.Omega.{arith}

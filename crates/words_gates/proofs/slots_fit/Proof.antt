@@ -1,6 +1,5 @@
 -- `words_gates::slots_fit` meets its contract: in each arm the words below the count are tested as operands and the
--- others for 0 (`slots`).
--- Assumes nothing.
+-- others for 0 (`slots`). Assumes nothing.
 use borrow.Author.Needs.{needs}
 use mathlib.Core.Path.{_∙_}
 use native.Mathlib.Omega.{arith}

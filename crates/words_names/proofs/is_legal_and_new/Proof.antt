@@ -1,5 +1,5 @@
--- `words_names::is_legal_and_new` meets its contract: the two tests, of a name within the longest words.
--- Assumes nothing.
+-- `words_names::is_legal_and_new` meets its contract: the two tests, of a name within the longest words. Assumes
+-- nothing.
 use Prim.Native.Nat.{_≤_, _+_, _*_}
 use mathlib.Core.Path.{sym, _∙_}
 use borrow.Author.Needs.{needs}

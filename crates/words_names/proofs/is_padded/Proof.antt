@@ -1,5 +1,4 @@
--- `words_names::is_padded` meets its contract: the bytes passed are name bytes, so the rest decides.
--- Assumes nothing.
+-- `words_names::is_padded` meets its contract: the bytes passed are name bytes, so the rest decides. Assumes nothing.
 use Prim.Native.Nat.{_-_}
 use mathlib.Core.Path.{sym, _∙_}
 use borrow.Author.Needs.{needs}

@@ -1,6 +1,5 @@
 -- `bench_set_line::show::show_settled` meets its contract: the first pass tells the line's length, the second writes
--- it.
--- Assumes nothing.
+-- it. Assumes nothing.
 use borrow.Author.Needs.{needs}
 use Rattle.bench_set_line.proofs.show.show_settled.Statement.{statement}
 use Rattle.bench_set_line.proofs.show.show_settled.Tie as tie

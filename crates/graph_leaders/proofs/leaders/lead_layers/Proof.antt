@@ -1,6 +1,5 @@
 -- `graph_leaders::leaders::lead_layers` meets its contract: the first gate with a layer is the lowest of its group.
--- Assumes
--- nothing.
+-- Assumes nothing.
 use Prim.Native.Nat.{_-_, _≤_}
 use mathlib.Core.Path.{_∙_}
 use native.Mathlib.Omega.{arith}

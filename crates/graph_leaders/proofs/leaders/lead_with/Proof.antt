@@ -1,6 +1,5 @@
 -- `graph_leaders::leaders::lead_with` meets its contract: certified layers are the groups, and else the slow way finds
--- the
--- leaders. Assumes nothing.
+-- the leaders. Assumes nothing.
 use borrow.Author.Needs.{needs}
 use Rattle.graph_leaders.proofs.leaders.lead_with.Statement.{statement}
 use Rattle.graph_leaders.proofs.leaders.lead_with.Tie as tie

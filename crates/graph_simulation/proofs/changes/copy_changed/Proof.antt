@@ -1,5 +1,5 @@
--- `graph_simulation::changes::copy_changed` meets its contract: the gates queued before q have their values copied. Assumes
--- nothing.
+-- `graph_simulation::changes::copy_changed` meets its contract: the gates queued before q have their values copied.
+-- Assumes nothing.
 use mathlib.Core.Path.{_≡_}
 use Prim.Native.Nat.{_-_, _≤_, _<_}
 use native.Mathlib.Omega.{arith}

@@ -1,5 +1,5 @@
--- `graph_simulation::changes::next_round` meets its contract: `values` gets what was found, and then the readers of what
--- changed are evaluated. Assumes nothing.
+-- `graph_simulation::changes::next_round` meets its contract: `values` gets what was found, and then the readers of
+-- what changed are evaluated. Assumes nothing.
 use Rattle.graph_simulation.proofs.Updates.{copy-ready, copied-ready, next-ready, next-awake, round-next}
 use Rattle.graph_simulation.proofs.changes.next_round.Statement.{statement}
 use Rattle.graph_simulation.proofs.changes.next_round.Tie as tie

@@ -1,4 +1,5 @@
--- `graph_simulation::changes::update` meets its contract: the gate has its value, gets none, or is queued. Assumes nothing.
+-- `graph_simulation::changes::update` meets its contract: the gate has its value, gets none, or is queued. Assumes
+-- nothing.
 use Prim.Native.Nat.{_<_}
 use native.Mathlib.Omega.{arith}
 use Rattle.graph_ternary.proofs.State.{legal-gate}

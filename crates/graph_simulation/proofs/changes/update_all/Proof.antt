@@ -1,5 +1,5 @@
--- `graph_simulation::changes::update_all` meets its contract: after j turns the first j gates have their values. Assumes
--- nothing.
+-- `graph_simulation::changes::update_all` meets its contract: after j turns the first j gates have their values.
+-- Assumes nothing.
 use Prim.Native.Nat.{_-_, _≤_}
 use native.Mathlib.Omega.{arith}
 use Rattle.graph_simulation.specs.Changes.{Updated}

@@ -1,5 +1,5 @@
--- `graph_simulation::changes::update_changed` meets its contract: a gate has its value, or reads a gate that is queued from q
--- on. Assumes nothing.
+-- `graph_simulation::changes::update_changed` meets its contract: a gate has its value, or reads a gate that is queued
+-- from q on. Assumes nothing.
 use mathlib.Core.Path.{_≡_}
 use Prim.Native.Nat.{_-_, _*_, _≤_, _<_}
 use native.Mathlib.Omega.{arith}

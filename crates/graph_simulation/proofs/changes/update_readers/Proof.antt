@@ -1,5 +1,5 @@
--- `graph_simulation::changes::update_readers` meets its contract: whoever is in the list has its value, or is in the rest of
--- it. Assumes nothing.
+-- `graph_simulation::changes::update_readers` meets its contract: whoever is in the list has its value, or is in the
+-- rest of it. Assumes nothing.
 use mathlib.Core.Path.{refl}
 use mathlib.Core.Logic.{inr}
 use denote.Ref.{now}

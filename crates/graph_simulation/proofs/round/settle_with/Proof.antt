@@ -1,6 +1,6 @@
 -- `graph_simulation::round::settle_with` meets its contract. The loop's invariant: `values` has the state after `count`
--- rounds, each of which changed something, and
--- `found` that after one more. The measure is the number of gates less that count. Assumes nothing.
+-- rounds, each of which changed something, and `found` that after one more. The measure is the number of gates less
+-- that count. Assumes nothing.
 use mathlib.Core.Path.{_≡_}
 use lib.ListN.{getD}
 use Prim.Native.Nat.{ℕ, _+_, _-_, _<_}

@@ -1,5 +1,5 @@
--- `graph_simulation::values::put_setting` meets its contract: the first i inputs have their values (`starting-more`). Assumes
--- nothing.
+-- `graph_simulation::values::put_setting` meets its contract: the first i inputs have their values (`starting-more`).
+-- Assumes nothing.
 use mathlib.Core.Path.{_≡_, _∙_}
 use mathlib.Core.List.{_∷_, [], _++_, map, map-append}
 use Prim.Native.Nat.{_+_, _-_, _≤_, _<_}

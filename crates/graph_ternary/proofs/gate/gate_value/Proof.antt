@@ -1,6 +1,5 @@
 -- `graph_ternary::gate::gate_value` meets its contract: the codes are the digits of the gate's index, and its entry is
--- the gate's value (`gate-entry`).
--- Assumes nothing.
+-- the gate's value (`gate-entry`). Assumes nothing.
 use mathlib.Core.Path.{_≡_, _∙_}
 use mathlib.Core.Bool.{true}
 use native.Mathlib.Omega.{arith}

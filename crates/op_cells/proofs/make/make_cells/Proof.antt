@@ -1,6 +1,5 @@
 -- `op_cells::make::make_cells` meets its contract: the tests are the definition's conditions in its order, and then the
--- words are put.
--- Assumes nothing.
+-- words are put. Assumes nothing.
 use mathlib.Core.Path.{_≡_, ap}
 use mathlib.Core.Bool.{false, not}
 use Prim.Native.Nat.{ℕ, _*_}

@@ -1,6 +1,5 @@
 -- `op_cells::run::run_cells` meets its contract: the tests are the definition's conditions in its order, and then each
--- cell is run once.
--- Assumes nothing.
+-- cell is run once. Assumes nothing.
 use mathlib.Core.Path.{_≡_, refl}
 use mathlib.Core.Bool.{true}
 use Prim.Native.Nat.{_/_}

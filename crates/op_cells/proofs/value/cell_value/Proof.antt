@@ -1,6 +1,5 @@
 -- `op_cells::value::cell_value` meets its contract: the four bits are the digits of the place in the truth word
--- (`cell-value-is`).
--- Assumes nothing.
+-- (`cell-value-is`). Assumes nothing.
 use mathlib.Core.Path.{_≡_}
 use mathlib.Core.List.{List}
 use Prim.Native.Nat.{ℕ, _≤_}

@@ -1,6 +1,5 @@
 -- `op_gather::arranged::write_arranged` meets its contract: the front as it is, the gates in the order listed, and the
--- outputs, one after the other,
--- are the encoding of the arranged block. Assumes nothing.
+-- outputs, one after the other, are the encoding of the arranged block. Assumes nothing.
 use native.Mathlib.Omega.{arith}
 use Rattle.op_gather.proofs.Written.{ordered-as, Sizes, sizes, arranged-written}
 use borrow.Author.Needs.{needs}

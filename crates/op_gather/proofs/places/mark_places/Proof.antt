@@ -1,6 +1,5 @@
 -- `op_gather::places::mark_places` meets its contract: the first t numbers are marked, each at its place, and a number
--- that is not below m or is
--- marked already is not in a list of each once. Assumes nothing.
+-- that is not below m or is marked already is not in a list of each once. Assumes nothing.
 use Prim.Native.Nat.{_-_, _≤_}
 use mathlib.Core.Path.{_≡_, refl, _∙_}
 use native.Mathlib.Omega.{arith}

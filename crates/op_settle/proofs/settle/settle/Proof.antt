@@ -1,6 +1,5 @@
 -- `op_settle::settle::settle` meets its contract: the tests are the definition's conditions in its order, and then the
--- rounds settle.
--- Assumes nothing.
+-- rounds settle. Assumes nothing.
 use mathlib.Core.Path.{_≡_, _∙_}
 use mathlib.Core.List.{map}
 use denote.Ref.{now}

@@ -1,6 +1,5 @@
 -- `unroll_emission::rendered::copy_gate` meets its contract: the operand words of gate j are mapped while the table
--- still has its older copy.
--- Assumes nothing.
+-- still has its older copy. Assumes nothing.
 use mathlib.Core.Path.{refl}
 use borrow.Author.Needs.{needs}
 use Rattle.unroll_emission.proofs.rendered.copy_gate.Statement.{statement}

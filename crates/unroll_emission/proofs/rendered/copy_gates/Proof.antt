@@ -1,6 +1,5 @@
 -- `unroll_emission::rendered::copy_gates` meets its contract: after t turns t copies stand, and the table has the
--- newest of each gate.
--- Assumes nothing.
+-- newest of each gate. Assumes nothing.
 use Prim.Native.Nat.{_-_, _≤_}
 use mathlib.Core.Path.{_≡_, refl, _∙_}
 use native.Mathlib.Omega.{arith}

@@ -1,6 +1,5 @@
 -- `unroll_emission::rendered::write_rendering` meets its contract: header, names and never lines, copies and outputs,
--- one after the other, are the
--- encoding of the rendering. Assumes nothing.
+-- one after the other, are the encoding of the rendering. Assumes nothing.
 use native.Mathlib.Omega.{arith}
 use Rattle.unroll_emission.proofs.Written.{Sizes, sizes, ordered, rendering-written}
 use borrow.Author.Needs.{needs}

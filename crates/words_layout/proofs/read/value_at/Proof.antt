@@ -1,6 +1,5 @@
 -- `words_layout::read::value_at` meets its contract: inside the slice the default does not matter, past its end it is
--- the answer.
--- Assumes nothing.
+-- the answer. Assumes nothing.
 use mathlib.Core.Path.{sym}
 use borrow.Author.Needs.{needs}
 use lib.ListN.{List·getD-eq-default}
