@@ -21,7 +21,8 @@ use Rattle.netlist.specs.Syntax.{Pair, valueText, pairText}
 use Rattle.netlist.specs.SetLine.{setLineReader}
 use Rattle.netlist.specs.Answers.{Outcome, refused, refuseIf, inRoom, Promise}
 use Rattle.netlist.specs.Program.{shown}
-use Rattle.netlist.specs.Bench.{givenValues, portText, showLine, pairsOutcome, parsedOutcome, lineOutcome, answerLine, lineAnswer}
+use Rattle.netlist.specs.Bench.{givenValues, portText, showLine, pairsOutcome, parsedOutcome, lineOutcome, answerLine}
+use Rattle.netlist.specs.Bench.{lineAnswer}
 use Rattle.theory_encoding.proofs.WellFormed.{WellFormed, wellFormed-parts}
 use Rattle.theory_encoding.proofs.RoundTrip.{whole-wellFormed}
 use Rattle.theory_grammar.proofs.WritingLength.{name-short}
@@ -32,11 +33,13 @@ use Rattle.bench_session.specs.Session.{maxAnswer, AnswerWritten}
 
 -- ---- the length of a show line
 
-port-length : (o : Output) (x state : List Value) → isPlainName (o .port) ≡ true → length (portText x state o) ≤ maxName + 5
+port-length : (o : Output) (x state : List Value) → isPlainName (o .port) ≡ true
+    → length (portText x state o) ≤ maxName + 5
 unfolding portText pairText valueText isPlainName
 port-length o x state h = go (outputValue x state o)
   where
-    go : (v : Value) → length (ascii " (" ++ (o .port ++ (ascii " " ++ (valueText v ++ (ascii ")" ++ []))))) ≤ maxName + 5
+    go : (v : Value) → length (ascii " ("
+        ++ (o .port ++ (ascii " " ++ (valueText v ++ (ascii ")" ++ []))))) ≤ maxName + 5
     go undefined = let s = name-short _ (o .port) h in simp length-append (omega arith)
     go (val true) = let s = name-short _ (o .port) h in simp length-append (omega arith)
     go (val false) = let s = name-short _ (o .port) h in simp length-append (omega arith)
@@ -65,7 +68,8 @@ module _ (ws line : List ℕ) (whole : isMalformed ws ≡ false) (room : ℕ) (e
   pairs-fit ps =
       let w = wellFormed-parts (decode ws) (whole-wellFormed ws whole) in
       let x = givenValues (decode ws) ps in
-      at-fits room _ _ _ (at-fits room _ _ _ (counted-fits room (showLine (decode ws) x) (omega (arith, show-length (decode ws) x w, enough))))
+      at-fits room _ _ _ (at-fits room _ _ _
+      (counted-fits room (showLine (decode ws) x) (omega (arith, show-length (decode ws) x w, enough))))
 
   line-fits : Fits room (lineOutcome (decode ws) line)
   unfolding lineOutcome parsedOutcome
@@ -92,7 +96,8 @@ shown-written {o} {entry} {exit} s =
 pub nothing-written : (out : List ℕ) → AnswerWritten [] out 0
 nothing-written out = record { countIs = refl; within = omega arith; bytesAre = refl }
 
-module _ (ws line : List ℕ) (whole : isMalformed ws ≡ false) (entry exit : List ℕ) (enough : maxAnswer ≤ length entry) (a : Answer)
+module _ (ws line : List ℕ) (whole : isMalformed ws ≡ false) (entry exit : List ℕ) (enough : maxAnswer ≤ length entry)
+    (a : Answer)
     (p : Promise (answerLine ws line (length entry)) entry a exit) where
   o : Outcome
   o = lineOutcome (decode ws) line

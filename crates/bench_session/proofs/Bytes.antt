@@ -22,15 +22,18 @@ module _ (r : Run) (piece : List ℕ) (n : ℕ) (l : n < length piece) where
   unfolding after
   after-byte = rw one-more (after-append r (take n piece) (getD piece n 0 ∷ []))
 
-  pub outputs-byte : outputs r (take (n + 1) piece) ≡ outputs r (take n piece) ++ turn (after r (take n piece)) (getD piece n 0) .output
+  pub outputs-byte : outputs r (take (n + 1) piece)
+      ≡ outputs r (take n piece) ++ turn (after r (take n piece)) (getD piece n 0) .output
   unfolding outputs
   outputs-byte =
       rw one-more (outputs-append r (take n piece) (getD piece n 0 ∷ [])
-      ∙ ap (λ (l : List ℕ). outputs r (take n piece) ++ l) (append-nil (turn (after r (take n piece)) (getD piece n 0) .output)))
+      ∙ ap (λ (l : List ℕ). outputs r (take n piece) ++ l)
+      (append-nil (turn (after r (take n piece)) (getD piece n 0) .output)))
 
 -- ---- a piece, byte after byte
 
-pub at-start : {state : State} {text words graph fanout line out : List ℕ} (piece : List ℕ) → SessionReady state text words graph fanout line out
+pub at-start : {state : State} {text words graph fanout line out : List ℕ} (piece : List ℕ)
+    → SessionReady state text words graph fanout line out
     → Progressed (runOf state text words line) piece state text words graph fanout line out 0 0
 unfolding after outputs
 at-start {out = out} piece h = record { ready = h; within = omega arith; next = refl; output = nothing-written out }
@@ -56,7 +59,8 @@ module _ {r : Run} {piece : List ℕ} {state : State} {text words graph fanout l
         output = rw f (h .output);
       }
 
-  pub fed : (length piece ≤ taken) ⊎ (written ≡ 0 → ⊥) → Advanced r piece state text words graph fanout line out taken written
+  pub fed : (length piece ≤ taken) ⊎ (written ≡ 0 → ⊥)
+      → Advanced r piece state text words graph fanout line out taken written
   unfolding outputs
   fed end = record { progress = p; moves = λ some. moved end some (lt-or-le 0 taken); stops = end }
     where

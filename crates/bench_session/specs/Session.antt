@@ -34,7 +34,8 @@ pub record Unprepared (graph fanout : List ℕ) : Type 0 where
 unfoldable pub Sound : State → List ℕ → List ℕ → List ℕ → Type 0
 Sound (Netlist kept fresh) words graph fanout = (kept ≤ maxText) × Unprepared graph fanout
 Sound (Lines count kept) words graph fanout =
-    (kept ≤ heldBytes) × (count ≤ length words) × (isMalformed (take count words) ≡ false) × PreparedFor (take count words) graph fanout
+    (kept ≤ heldBytes) × (count ≤ length words) × (isMalformed (take count words) ≡ false)
+    × PreparedFor (take count words) graph fanout
 Sound Ended words graph fanout = Unit {0}
 
 -- a state behind a refused netlist
@@ -67,13 +68,15 @@ pub record AnswerWritten (output out : List ℕ) (written : ℕ) : Type 0 where
   pub bytesAre : take written out ≡ output
 
 -- one byte: the next state stands for the turn's next run, and its output is written
-pub record SessionStepped (t : Turn) (state : State) (text words graph fanout line out : List ℕ) (written : ℕ) : Type 0 where
-  pub sound : Sound state words graph fanout
-  pub next : runOf state text words line ≡ t .next
-  pub output : AnswerWritten (t .output) out written
+pub record SessionStepped (t : Turn) (state : State) (text words graph fanout line out : List ℕ) (written : ℕ) : Type 0
+  where
+    pub sound : Sound state words graph fanout
+    pub next : runOf state text words line ≡ t .next
+    pub output : AnswerWritten (t .output) out written
 
 -- What was taken of a piece led the run from `r` to where the state stands, and the answers to it are written.
-pub record Progressed (r : Run) (piece : List ℕ) (state : State) (text words graph fanout line out : List ℕ) (taken written : ℕ) : Type 0 where
+pub record Progressed (r : Run) (piece : List ℕ) (state : State) (text words graph fanout line out : List ℕ)
+    (taken written : ℕ) : Type 0 where
   pub ready : SessionReady state text words graph fanout line out
   pub within : taken ≤ length piece
   pub next : runOf state text words line ≡ after r (take taken piece)
@@ -82,7 +85,8 @@ pub record Progressed (r : Run) (piece : List ℕ) (state : State) (text words g
 -- Advanced is Progressed, and something is taken of a piece that isn't empty: all of it, or up to a byte that is
 -- answered. Left free: what stands in `out` behind the answer, in `text` and `line` behind the bytes that are held, and
 -- in `words` behind the block's.
-pub record Advanced (r : Run) (piece : List ℕ) (state : State) (text words graph fanout line out : List ℕ) (taken written : ℕ) : Type 0 where
+pub record Advanced (r : Run) (piece : List ℕ) (state : State) (text words graph fanout line out : List ℕ)
+    (taken written : ℕ) : Type 0 where
   pub progress : Progressed r piece state text words graph fanout line out taken written
   pub moves : 0 < length piece → 0 < taken
   pub stops : (length piece ≤ taken) ⊎ (written ≡ 0 → ⊥)

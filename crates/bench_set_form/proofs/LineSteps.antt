@@ -48,7 +48,8 @@ module _ (most : ℕ) where
   pub set-pairs : Continues setPairs (pairsReader most 0) (λ t. scanOf (lineLast t))
   unfolding setPairs lineLast
   set-pairs = continues-bind (pairsReader most 0) _ _ (λ ps t.
-      continues-same (continues-word (ascii "\n") (nothingBehind ps)) (nothing-scan ps 0) .goes-on t ∙ sym (last-word .goes-on t))
+      continues-same (continues-word (ascii "\n") (nothingBehind ps)) (nothing-scan ps 0) .goes-on t
+      ∙ sym (last-word .goes-on t))
 
   pub line-passed : (line : List ℕ) {r : Scan} {n : ℕ} → r ≡ scanOf (setLineReader most line) → r ≡ Next n
       → Passed ≡ testAt (firstBadInSetLine most line) SyntaxError
@@ -64,7 +65,8 @@ module _ (most : ℕ) where
   unfolding firstBadInSetLine testAt
   line-failed line {r} {n} e g = go (setLineReader most line) (sym g ∙ e)
     where
-      go : (p : Parsed (List Pair)) → Bad n ≡ scanOf p → Failed (SyntaxError (length line - n)) ≡ testAt (badOf line p) SyntaxError
+      go : (p : Parsed (List Pair)) → Bad n ≡ scanOf p
+          → Failed (SyntaxError (length line - n)) ≡ testAt (badOf line p) SyntaxError
       go (got ps rest) h = let z : _≡_ {A = ℕ} 0 1 = cc in absurd (omega arith)
       go (stuck left) h = let f : n ≡ left = cc in rw f
 
@@ -78,4 +80,5 @@ shortens-nothing {A} a = record { leaves = go }
 pub shortens-set-line : (most : ℕ) → Shortens (setLineReader most)
 unfolding setLineReader
 shortens-set-line most =
-    shortens-expect (ascii "(set") (shortens-bind (shortens-pairs most 0) (λ ps. shortens-expect (ascii "\n") (shortens-nothing ps)))
+    shortens-expect (ascii "(set") (shortens-bind (shortens-pairs most 0)
+    (λ ps. shortens-expect (ascii "\n") (shortens-nothing ps)))

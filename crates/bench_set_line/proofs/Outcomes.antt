@@ -8,7 +8,8 @@ use native.Mathlib.Omega.{arith}
 use types.Run.{miss}
 use lib.ListN.{length, getD}
 use lib.Dec.{ltb}
-use Rattle.netlist.specs.declared.Refusal.the-variants.{SyntaxError, DuplicateDeclaration, UndeclaredName, MalformedBlock, NoRoom}
+use Rattle.netlist.specs.declared.Refusal.the-variants.{SyntaxError, DuplicateDeclaration, UndeclaredName}
+use Rattle.netlist.specs.declared.Refusal.the-variants.{MalformedBlock, NoRoom}
 use Rattle.netlist.specs.Netlist.{Block}
 use Rattle.netlist.specs.StoredBlock.{decode, isMalformed}
 use Rattle.netlist.specs.Parse.{Parsed, got, stuck}
@@ -35,7 +36,8 @@ unfoldable pub behindForm : Block → Parsed (List Pair) → Outcome
 behindForm b (got ps rest) = pairsOutcome b ps
 behindForm b (stuck left) = refused MalformedBlock
 
-parsed-chain : (b : Block) (line : List ℕ) (p : Parsed (List Pair)) → parsedOutcome b line p ≡ refuseAt (badOf line p) SyntaxError (behindForm b p)
+parsed-chain : (b : Block) (line : List ℕ) (p : Parsed (List Pair))
+    → parsedOutcome b line p ≡ refuseAt (badOf line p) SyntaxError (behindForm b p)
 unfolding parsedOutcome refuseAt behindForm
 parsed-chain b line (got ps rest) = refl
 parsed-chain b line (stuck left) = refl
@@ -47,7 +49,8 @@ module _ (ws line : List ℕ) (room : ℕ) where
   pub line-chain : answerLine ws line room ≡ inRoom room (refuseIf (isMalformed ws) MalformedBlock
       (refuseAt (firstBadInSetLine n line) SyntaxError (behindForm (decode ws) (setLineReader n line))))
   unfolding answerLine lineOutcome firstBadInSetLine
-  line-chain = rw (decode-inputCount ws) (ap (λ o. inRoom room (refuseIf (isMalformed ws) MalformedBlock o)) (parsed-chain
+  line-chain =
+      rw (decode-inputCount ws) (ap (λ o. inRoom room (refuseIf (isMalformed ws) MalformedBlock o)) (parsed-chain
       (decode ws) line (setLineReader n line)))
 
 -- a line in form has pairs, and the rest of the chain is theirs
@@ -63,7 +66,11 @@ in-form ws line whole h = go (setLineReader (getD ws 0 0) line) refl h
     go : (p : Parsed (List Pair)) → setLineReader (getD ws 0 0) line ≡ p → badOf line p ≡ none → Found ws line
     go (got ps rest) e h =
         let f = setLine-sound (getD ws 0 0) line ps rest e in
-        record { pairs = ps; for = record { whole = whole; is = record { legal = f .legal; printed = f .printed } }; behind = ap (behindForm (decode ws)) e }
+        record {
+          pairs = ps;
+          for = record { whole = whole; is = record { legal = f .legal; printed = f .printed } };
+          behind = ap (behindForm (decode ws)) e;
+        }
     go (stuck left) e h = let z : _≡_ {A = ℕ} 0 1 = cc in absurd (omega arith)
 
 -- the conditions on the pairs
@@ -75,7 +82,8 @@ unfolding pairsOutcome
 pairs-chain b ps room = refl
 
 -- 11 is the last condition
-pub show-room : (s : List ℕ) (room : ℕ) → inRoom room (counted s) ≡ refuseIf (ltb room (length s)) NoRoom (done s (length s) 0)
+pub show-room : (s : List ℕ) (room : ℕ)
+    → inRoom room (counted s) ≡ refuseIf (ltb room (length s)) NoRoom (done s (length s) 0)
 unfolding counted inRoom
 show-room s room = refl
 
@@ -83,7 +91,8 @@ show-room s room = refl
 pub pairs-passed : (b : Block) (ps : List Pair) (room : ℕ) {t : Test} → t ≡ pairsTest b ps → t ≡ Passed
     → inRoom room (pairsOutcome b ps) ≡ inRoom room (counted (showLine b (givenValues b ps)))
 unfolding pairsOutcome pairsTest thenTest testAt refuseAt
-pairs-passed b ps room {t} told passes = go (firstRepeat [] (givenNames ps)) (firstOutside (b .inputs) (givenNames ps)) (sym told ∙ passes)
+pairs-passed b ps room {t} told passes =
+    go (firstRepeat [] (givenNames ps)) (firstOutside (b .inputs) (givenNames ps)) (sym told ∙ passes)
   where
     o : Outcome
     o = counted (showLine b (givenValues b ps))
@@ -94,10 +103,12 @@ pairs-passed b ps room {t} told passes = go (firstRepeat [] (givenNames ps)) (fi
     go none (some place) e = let z : _≡_ {A = ℕ} 0 1 = cc in absurd (omega arith)
     go (some place) q e = let z : _≡_ {A = ℕ} 0 1 = cc in absurd (omega arith)
 
-pub pairs-failed : (b : Block) (ps : List Pair) (room : ℕ) {t : Test} {r : Answer} (entry : List ℕ) → t ≡ pairsTest b ps → IsFailed t → r ≡ refusalOf t
+pub pairs-failed : (b : Block) (ps : List Pair) (room : ℕ) {t : Test} {r : Answer} (entry : List ℕ) → t ≡ pairsTest b ps
+    → IsFailed t → r ≡ refusalOf t
     → Promise (inRoom room (pairsOutcome b ps)) entry r entry
 unfolding pairsOutcome pairsTest thenTest testAt refuseAt
-pairs-failed b ps room {t} {r} entry told fails is = go (firstRepeat [] (givenNames ps)) (firstOutside (b .inputs) (givenNames ps)) told
+pairs-failed b ps room {t} {r} entry told fails is =
+    go (firstRepeat [] (givenNames ps)) (firstOutside (b .inputs) (givenNames ps)) told
   where
     o : Outcome
     o = counted (showLine b (givenValues b ps))
@@ -105,7 +116,9 @@ pairs-failed b ps room {t} {r} entry told fails is = go (firstRepeat [] (givenNa
     go : (p q : Option ℕ) → t ≡ thenTest (testAt p DuplicateDeclaration) (testAt q UndeclaredName)
         → Promise (inRoom room (refuseAt p DuplicateDeclaration (refuseAt q UndeclaredName o))) entry r entry
     go none q e = failed-at (inRoom room) (keeps-room room) o q UndeclaredName refl e entry fails is
-    go (some place) q e = failed-at (inRoom room) (keeps-room room) (refuseAt q UndeclaredName o) (some place) DuplicateDeclaration refl e entry fails is
+    go (some place) q e =
+        failed-at (inRoom room) (keeps-room room) (refuseAt q UndeclaredName o) (some place) DuplicateDeclaration refl e
+        entry fails is
 
 -- what reading the tables comes to: the first test fails, the second does, or both pass
 module _ (ws : List ℕ) (ps : List Pair) (values : List ℕ) where
@@ -126,7 +139,11 @@ module _ (ws : List ℕ) (ps : List Pair) (values : List ℕ) where
   pub repeat-read : {t : Test} → t ≡ repeated → IsFailed t → LineRead ws ps t values
   unfolding pairsTest
   repeat-read {t} e k =
-      record { told = then-failed t k ∙ ap (λ (a : Test). thenTest a unknown) e; given = λ p. absurd (failed-not-passed t k p) }
+      record {
+        told = then-failed t k ∙ ap (λ (a : Test). thenTest a unknown) e;
+        given = λ p. absurd
+            (failed-not-passed t k p);
+      }
 
   pub outside-read : {s t : Test} → s ≡ repeated → s ≡ Passed → t ≡ unknown → IsFailed t → LineRead ws ps t values
   unfolding pairsTest thenTest
@@ -134,7 +151,8 @@ module _ (ws : List ℕ) (ps : List Pair) (values : List ℕ) where
       let first : repeated ≡ Passed = sym d ∙ p in
       record { told = e ∙ rw first refl; given = λ q. absurd (failed-not-passed t k q) }
 
-  pub both-read : {s t : Test} → s ≡ repeated → s ≡ Passed → t ≡ unknown → t ≡ Passed → Starting (givenValues (decode ws) ps) values
+  pub both-read : {s t : Test} → s ≡ repeated → s ≡ Passed → t ≡ unknown → t ≡ Passed
+      → Starting (givenValues (decode ws) ps) values
       → LineRead ws ps Passed values
   unfolding pairsTest thenTest
   both-read d p e q g =
@@ -144,6 +162,7 @@ module _ (ws : List ℕ) (ps : List Pair) (values : List ℕ) where
 
 -- of a block that is not malformed the form is the first condition
 pub form-chain : (ws line : List ℕ) (room : ℕ) → isMalformed ws ≡ false → answerLine ws line room
-    ≡ inRoom room (refuseAt (firstBadInSetLine (getD ws 0 0) line) SyntaxError (behindForm (decode ws) (setLineReader (getD ws 0 0) line)))
+    ≡ inRoom room (refuseAt (firstBadInSetLine (getD ws 0 0) line) SyntaxError
+    (behindForm (decode ws) (setLineReader (getD ws 0 0) line)))
 unfolding refuseIf
 form-chain ws line room whole = line-chain ws line room ∙ rw whole refl

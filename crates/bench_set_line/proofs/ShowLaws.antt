@@ -11,7 +11,8 @@ use Rattle.theory_encoding.proofs.ListFacts.{length-trimmed}
 use Rattle.theory_encoding.proofs.Decoded.{decode-output}
 use Rattle.theory_encoding.proofs.Readers.{whole-parts}
 use Rattle.netlist.specs.Values.{Value, undefined, val, valueOf}
-use Rattle.netlist.specs.StoredBlock.{nameSize, outputSize, neversAt, gatesAt, outputsAt, bytesAt, nameAt, outputAt, operandOf, decode, isMalformed}
+use Rattle.netlist.specs.StoredBlock.{nameSize, outputSize, neversAt, gatesAt, outputsAt, bytesAt, nameAt, outputAt}
+use Rattle.netlist.specs.StoredBlock.{operandOf, decode, isMalformed}
 use Rattle.netlist.specs.Netlist.{Operand, Output}
 use Rattle.netlist.specs.Rounds.{operandValue, settled, outputValue}
 use Rattle.netlist.specs.Syntax.{valueText, pairText}
@@ -59,14 +60,16 @@ port-length : (ws : List ℕ) (from : ℕ) (values : List ℕ) (o : ℕ) → len
 unfolding portPiece pairText
 port-length ws from values o =
     let s = nameAt ws (from + outputSize * o) in
-    let v = valueOf (getD values (placeOf (operandOf (getD ws 0 0) (getD ws (from + outputSize * o + nameSize) 0))) 0) in
+    let v = valueOf (getD values (placeOf (operandOf (getD ws 0 0) (getD ws (from + outputSize * o + nameSize) 0)))
+    0) in
     let a = length-append s (ascii " " ++ (valueText v ++ (ascii ")" ++ []))) in
     let b = length-append (valueText v) (ascii ")" ++ []) in
     let d = value-bytes v in
     let n = name-short ws (from + outputSize * o) in
     omega arith
 
-ports-length : (ws : List ℕ) (from : ℕ) (values : List ℕ) (k : ℕ) → length (pieces (portPiece ws from values) k) ≤ 13 * k
+ports-length : (ws : List ℕ) (from : ℕ) (values : List ℕ) (k : ℕ)
+    → length (pieces (portPiece ws from values) k) ≤ 13 * k
 ports-length ws from values zero = rw (pieces-none (portPiece ws from values)) (omega arith)
 ports-length ws from values (suc k) =
     let f = portPiece ws from values in
@@ -85,20 +88,23 @@ show-short ws values whole =
     record { small = omega arith }
 
 -- the line from the header's words
-pub show-of : (ws values : List ℕ) {k from : ℕ} → k ≡ getD ws 2 0 → from ≡ outputsAt (getD ws 0 0) (getD ws 3 0) (getD ws 1 0)
+pub show-of : (ws values : List ℕ) {k from : ℕ} → k ≡ getD ws 2 0
+    → from ≡ outputsAt (getD ws 0 0) (getD ws 3 0) (getD ws 1 0)
     → showText ws values ≡ ascii "(show" ++ (pieces (portPiece ws from values) k ++ ascii ")\n")
 unfolding showText
 show-of ws values ek ef = rw (ef, ek) refl
 
 -- where the outputs' words stand
-pub ports-near : (ws : List ℕ) → isMalformed ws ≡ false → {from : ℕ} → from ≡ outputsAt (getD ws 0 0) (getD ws 3 0) (getD ws 1 0)
+pub ports-near : (ws : List ℕ) → isMalformed ws ≡ false → {from : ℕ}
+    → from ≡ outputsAt (getD ws 0 0) (getD ws 3 0) (getD ws 1 0)
     → (from ≤ 600000) × (getD ws 2 0 ≤ 65535)
 unfolding neversAt gatesAt outputsAt
 ports-near ws whole e =
     let w = whole-parts ws whole in
     (omega (arith, w .fewInputs, w .fewNevers, w .fewGates), omega (arith, w .fewOutputs))
 
-pub port-ready : {ws : List ℕ} {from o n : ℕ} → PortOf ws from o → n ≡ getD ws 0 0 → ShownAt ws n (from + outputSize * o)
+pub port-ready : {ws : List ℕ} {from o n : ℕ} → PortOf ws from o → n ≡ getD ws 0 0
+    → ShownAt ws n (from + outputSize * o)
 port-ready {ws} {from} {o} h e = rw (h .start, e) (shown-ready ws (h .whole) o (h .below))
 
 -- port by port
@@ -122,22 +128,27 @@ module _ (ws : List ℕ) (whole : isMalformed ws ≡ false) {values : List ℕ} 
       let shows = shown-code ws whole o l d c in
       let shown : valueOf (getD values (placeOf (operandOf (getD ws 0 0) (getD ws
       (from + outputSize * o + nameSize) 0))) 0) ≡ outputValue x state (outputOf o) =
-      ap valueOf shows ∙ valueOf-code (outputValue x state (getD (decode ws .outputs) o d)) ∙ ap (outputValue x state) (decode-output ws o d l) in
+      ap valueOf shows ∙ valueOf-code (outputValue x state (getD (decode ws .outputs) o d))
+      ∙ ap (outputValue x state) (decode-output ws o d l) in
       ap (λ (v : Value). pairText (nameAt ws (from + outputSize * o)) v []) shown
 
   show-ports : tab (portPiece ws from values) (getD ws 2 0) ≡ map (portText x state) (decode ws .outputs)
   unfolding decode
-  show-ports = tab-ext (portPiece ws from values) (λ o. portText x state (outputOf o)) (getD ws 2 0) port-is ∙ sym (map-tab
+  show-ports =
+      tab-ext (portPiece ws from values) (λ o. portText x state (outputOf o)) (getD ws 2 0) port-is ∙ sym (map-tab
       (portText x state) outputOf (getD ws 2 0))
 
   -- the line from what the places hold
-  pub show-shown : showText ws values ≡ ascii "(show" ++ (joined (map (portText x state) (decode ws .outputs)) ++ ascii ")\n")
+  pub show-shown : showText ws values ≡ ascii "(show" ++ (joined (map (portText x state) (decode ws .outputs))
+      ++ ascii ")\n")
   unfolding showText pieces
   show-shown = ap (λ (r : List ℕ). ascii "(show" ++ (r ++ ascii ")\n")) (ap joined show-ports)
 
 -- with the settled values the line is the definition's
-pub show-is : (ws : List ℕ) → isMalformed ws ≡ false → {graph start values : List ℕ} {m count : ℕ} {x : List Value} → Decoded (decode ws) (getD ws 1 0) graph
-    → Starting x start → m ≡ getD ws 1 0 → SettledIn m graph start values count → showText ws values ≡ showLine (decode ws) x
+pub show-is : (ws : List ℕ) → isMalformed ws ≡ false → {graph start values : List ℕ} {m count : ℕ} {x : List Value}
+    → Decoded (decode ws) (getD ws 1 0) graph
+    → Starting x start → m ≡ getD ws 1 0 → SettledIn m graph start values count
+    → showText ws values ≡ showLine (decode ws) x
 unfolding showLine portText outputValue
 show-is ws whole {graph} {start} {values} {m} {count} {x} d s e r =
     let t : SettledIn (getD ws 1 0) graph start values count = rw e at r in
@@ -146,5 +157,6 @@ show-is ws whole {graph} {start} {values} {m} {count} {x} d s e r =
     let same : operandValue (inputsIn values) st ≡ operandValue x st = rw (t .inputs) (operands-same (inputsIn start) x
     (starting-inputs s) st st (λ j. refl)) in
     show-shown ws whole (r .coded)
-    ∙ ap (λ (f : Operand → Value). ascii "(show" ++ (joined (map (λ (o : Output). pairText (o .port) (f (o .node)) []) (decode ws .outputs)) ++ ascii ")\n"))
+    ∙ ap (λ (f : Operand → Value). ascii "(show"
+    ++ (joined (map (λ (o : Output). pairText (o .port) (f (o .node)) []) (decode ws .outputs)) ++ ascii ")\n"))
     (ap (operandValue (inputsIn values)) found ∙ same)

@@ -48,7 +48,13 @@ module _ {n : ℕ} {ps : List Pair} {line : List ℕ} (is : SetLineOf n ps line)
   -- behind the word
   pub pairs-at : PairsAt pairsAt ps line
   unfolding printSetLine
-  pairs-at = record { legal = pairs-legal; rest = []; stand = rw (← is .printed) (ap (printLines printPair ps) (sym (append-nil (ascii ")\n")))) }
+  pairs-at =
+      record {
+        legal = pairs-legal;
+        rest = [];
+        stand = rw (← is .printed)
+            (ap (printLines printPair ps) (sym (append-nil (ascii ")\n"))));
+      }
 
   -- the word stands in the line
   pub line-inside : pairsAt ≤ length line
@@ -62,7 +68,8 @@ unfolding isNameByte isLetter isDigit isUnderscore
 no-zero = refl
 
 -- the front of a name's bytes is the name without the zeros behind it
-front-trimmed : (most : ℕ) (xs : List ℕ) → length xs ≤ most → all isNameByte (trimmed xs) ≡ true → nameFront most xs ≡ trimmed xs
+front-trimmed : (most : ℕ) (xs : List ℕ) → length xs ≤ most → all isNameByte (trimmed xs) ≡ true
+    → nameFront most xs ≡ trimmed xs
 unfolding nameFront
 front-trimmed zero [] l h = refl
 front-trimmed zero (x ∷ xs) l h = absurd (omega arith)
@@ -92,7 +99,8 @@ module _ (ws : List ℕ) (whole : isMalformed ws ≡ false) where
   unfolding inputKey nameAt bytesAt
   key-is i l =
       let at = inputsAt + nameSize * i in
-      let b = all-at (all isNameByte) (decode ws .inputs) i [] (plain-bytes (decode ws .inputs) (well .inputNames)) (rw (decode-inputCount ws) l) in
+      let b = all-at (all isNameByte) (decode ws .inputs) i [] (plain-bytes (decode ws .inputs) (well .inputNames))
+      (rw (decode-inputCount ws) l) in
       let g : all isNameByte (trimmed (bytesAt ws at)) ≡ true = rw (decode-input ws i [] l) at b in
       ap packed (front-trimmed 8 (bytesAt ws at) (omega arith) g) ∙ ap packed (sym (decode-input ws i [] l))
 
@@ -106,19 +114,22 @@ module _ (ws : List ℕ) (whole : isMalformed ws ≡ false) where
     where
       keys-are : tab (inputKey ws) (getD ws 0 0) ≡ map packed (decode ws .inputs)
       keys-are =
-          let size : length (map packed (decode ws .inputs)) ≡ getD ws 0 0 = length-map (decode ws .inputs) packed ∙ decode-inputCount ws in
+          let size : length (map packed (decode ws .inputs)) ≡ getD ws 0 0 =
+          length-map (decode ws .inputs) packed ∙ decode-inputCount ws in
           ap (tab (inputKey ws)) (sym size) ∙ tab-is (inputKey ws) (map packed (decode ws .inputs)) 0 (λ i h.
           let l : i < getD ws 0 0 = rw size at h in
           key-is i l ∙ sym (getD-map packed (decode ws .inputs) i [] 0 (rw (decode-inputCount ws) l)))
 
 -- by the count that the code read
-pub inputs-counted : {known : List Name} {n m : ℕ} {inputs : List ℕ} → m ≡ n → InputsAre known n inputs → InputsAre known m inputs
+pub inputs-counted : {known : List Name} {n m : ℕ} {inputs : List ℕ} → m ≡ n → InputsAre known n inputs
+    → InputsAre known m inputs
 inputs-counted e i = rw e i
 
 -- what the inputs are given
 pub line-setting : {ws : List ℕ} {ps : List Pair} {names places codes : List ℕ} {count : ℕ} {inputs : List ℕ}
     → TablesFor ws ps names places codes count inputs → {n : ℕ} (setting₀ : List ℕ) {setting : List ℕ} → n ≡ getD ws 0 0
-    → setting ≡ placed (tab (inputCode names codes count inputs) n) setting₀ → map valueOf (take n setting) ≡ givenValues (decode ws) ps
+    → setting ≡ placed (tab (inputCode names codes count inputs) n) setting₀
+    → map valueOf (take n setting) ≡ givenValues (decode ws) ps
 unfolding givenValues
 line-setting t setting₀ e f = setting-given (t .legal) (t .tabled) (inputs-counted e (t .inputsAre)) setting₀ f
 
@@ -157,10 +168,12 @@ code-bounded [] i = omega arith
 code-bounded (p ∷ ps) zero = code-le (val (p .value))
 code-bounded (p ∷ ps) (suc i) = code-bounded ps i
 
-given-most : {ps : List Pair} {at count : ℕ} {names places codes : List ℕ} → PairsTabled ps at count names places codes → (name : ℕ)
+given-most : {ps : List Pair} {at count : ℕ} {names places codes : List ℕ} → PairsTabled ps at count names places codes
+    → (name : ℕ)
     → givenCode names codes count name ≤ 2
 unfolding givenCode
-given-most {ps} {at} {count} {names} {places} {codes} t name = ⊎-elim there past (lt-or-le (indexOf names count name) count)
+given-most {ps} {at} {count} {names} {places} {codes} t name =
+    ⊎-elim there past (lt-or-le (indexOf names count name) count)
   where
     i : ℕ
     i = indexOf names count name
@@ -187,6 +200,7 @@ line-bytes {ws} {ps} {names} {places} {codes} {count} {inputs} t {n} setting₀ 
       few = rw (length-tab f′ n) (omega (arith, inputs-few ws (t .whole)));
       most = λ i. ⊎-elim
           (λ l. rw (getD-tab f′ n i 0 l) (given-most (t .tabled) (getD inputs i 0)))
-          (λ l. let long : length (tab f′ n) ≤ i = rw (length-tab f′ n) l in rw (List·getD-eq-default (tab f′ n) 0 long) (omega arith))
+          (λ l. let long : length (tab f′ n) ≤ i = rw (length-tab f′ n) l in rw (List·getD-eq-default (tab f′ n) 0 long)
+          (omega arith))
           (lt-or-le i n);
     })

@@ -40,4 +40,5 @@ portPiece ws from values o =
 
 unfoldable pub showText : List ℕ → List ℕ → List ℕ
 showText ws values =
-    ascii "(show" ++ (pieces (portPiece ws (outputsAt (getD ws 0 0) (getD ws 3 0) (getD ws 1 0)) values) (getD ws 2 0) ++ ascii ")\n")
+    ascii "(show" ++ (pieces (portPiece ws (outputsAt (getD ws 0 0) (getD ws 3 0) (getD ws 1 0)) values) (getD ws 2 0)
+    ++ ascii ")\n")

@@ -54,12 +54,13 @@ pub record SetTableRoom (names places codes inputs : List ℕ) : Type 0 where
   pub inputRoom : maxInputs ≤ length inputs
 
 -- the tables are those of these pairs and of the block's inputs
-pub record TablesFor (ws : List ℕ) (ps : List Pair) (names places codes : List ℕ) (count : ℕ) (inputs : List ℕ) : Type 0 where
-  pub whole : isMalformed ws ≡ false
-  pub few : count ≤ maxInputs
-  pub legal : all isLegalPair ps ≡ true
-  pub tabled : PairsTabled ps pairsAt count names places codes
-  pub inputsAre : InputsAre (decode ws .inputs) (getD ws 0 0) inputs
+pub record TablesFor (ws : List ℕ) (ps : List Pair) (names places codes : List ℕ) (count : ℕ) (inputs : List ℕ) : Type 0
+  where
+    pub whole : isMalformed ws ≡ false
+    pub few : count ≤ maxInputs
+    pub legal : all isLegalPair ps ≡ true
+    pub tabled : PairsTabled ps pairsAt count names places codes
+    pub inputsAre : InputsAre (decode ws .inputs) (getD ws 0 0) inputs
 
 pub record SetTablesReady (ws names places codes : List ℕ) (count : ℕ) (inputs : List ℕ) : Type 0 where
   pub pairs : List Pair
@@ -75,7 +76,8 @@ thenTest (Failed why) t = Failed why
 -- refusals 4 and 5 of a set line's pairs, 4 before 5
 unfoldable pub pairsTest : Block → List Pair → Test
 pairsTest b ps =
-    thenTest (testAt (firstRepeat [] (givenNames ps)) DuplicateDeclaration) (testAt (firstOutside (b .inputs) (givenNames ps)) UndeclaredName)
+    thenTest (testAt (firstRepeat [] (givenNames ps)) DuplicateDeclaration)
+    (testAt (firstOutside (b .inputs) (givenNames ps)) UndeclaredName)
 
 -- what reading a set line gives: the test's answer, and where it passes the values that the line gives the inputs
 pub record LineRead (ws : List ℕ) (ps : List Pair) (r : Test) (values : List ℕ) : Type 0 where

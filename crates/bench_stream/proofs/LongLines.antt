@@ -1,4 +1,5 @@
--- A set line in form has at most maxSetLine bytes; so of a longer line its first heldBytes bytes are answered as the whole line. Assumes nothing.
+-- A set line in form has at most maxSetLine bytes; so of a longer line its first heldBytes bytes are answered as the
+-- whole line. Assumes nothing.
 use Prim.Native.Nat.{ℕ, suc, _+_, _*_, _-_, _≤_, _<_}
 use mathlib.Core.Path.{_≡_, refl, ap}
 use mathlib.Core.Bool.{Bool, true, false, and-eq-true-iff}
@@ -36,7 +37,8 @@ pair-length p rest h =
     let s = name-short _ (p .name) h in
     go (p .value)
   where
-    go : (v : Bool) → length (ascii " (" ++ (p .name ++ (ascii " " ++ (valueText (val v) ++ (ascii ")" ++ rest))))) ≤ maxName + 5 + length rest
+    go : (v : Bool) → length (ascii " ("
+        ++ (p .name ++ (ascii " " ++ (valueText (val v) ++ (ascii ")" ++ rest))))) ≤ maxName + 5 + length rest
     go true = let s = name-short _ (p .name) h in simp length-append (omega arith)
     go false = let s = name-short _ (p .name) h in simp length-append (omega arith)
 
@@ -77,7 +79,8 @@ module _ (n : ℕ) (few : n ≤ maxInputs) where
         go (inr le) = le
         go (inl l) =
             let h = viable-length _ (f .begins) in
-            let e : take place (take heldBytes line) ≡ take heldBytes line = take-all place (take heldBytes line) (omega (arith, held-length)) in
+            let e : take place (take heldBytes line) ≡ take heldBytes line =
+            take-all place (take heldBytes line) (omega (arith, held-length)) in
             absurd (omega (arith, ap length e, held-length))
 
     first-bad-whole : (place : ℕ) → FirstBadInLine n (take heldBytes line) place → FirstBadInLine n line place
@@ -105,7 +108,8 @@ module _ (b : Block) (few : inputCount b ≤ maxInputs) where
       short : List ℕ
       short = take heldBytes line
 
-      go : (p q : Parsed (List Pair)) → setLineReader n short ≡ p → setLineReader n line ≡ q → parsedOutcome b short p ≡ parsedOutcome b line q
+      go : (p q : Parsed (List Pair)) → setLineReader n short ≡ p → setLineReader n line ≡ q
+          → parsedOutcome b short p ≡ parsedOutcome b line q
       go (got ps rest) q e f =
           let l = legal-length n few short (setLine-legal n short ps rest e) in
           absurd (omega (arith, held-length n few line long))
@@ -122,6 +126,7 @@ module _ (b : Block) (few : inputCount b ≤ maxInputs) where
   unfolding lineAnswer
   held-answer line = go (lt-or-le heldBytes (length line))
     where
-      go : (heldBytes < length line) ⊎ (length line ≤ heldBytes) → lineAnswer b (take heldBytes line) ≡ lineAnswer b line
+      go : (heldBytes < length line) ⊎ (length line ≤ heldBytes)
+          → lineAnswer b (take heldBytes line) ≡ lineAnswer b line
       go (inl long) = rw (long-outcome line long) refl
       go (inr le) = rw (take-all heldBytes line le) refl

@@ -1,4 +1,5 @@
--- What is known of a text that was read: it is a tree's, the tree passed every test, and the words are its block's. Assumes nothing.
+-- What is known of a text that was read: it is a tree's, the tree passed every test, and the words are its block's.
+-- Assumes nothing.
 use Prim.Native.Nat.{ℕ, _≤_}
 use mathlib.Core.Path.{_≡_, refl}
 use mathlib.Core.Bool.{Bool, true, false}
@@ -38,7 +39,8 @@ module _ (text ws : List ℕ) (count detail : ℕ) where
   in-tree t rest p e = go (isOverLimit t) (firstDuplicate t) (firstUndeclared t) refl refl refl e
     where
       go : (o : Bool) (d u : Option ℕ) → isOverLimit t ≡ o → firstDuplicate t ≡ d → firstUndeclared t ≡ u
-          → refuseIf o OverLimit (refuseAt d DuplicateDeclaration (refuseAt u UndeclaredName (counted (encode (blockOf t))))) ≡ done ws count detail
+          → refuseIf o OverLimit (refuseAt d DuplicateDeclaration
+          (refuseAt u UndeclaredName (counted (encode (blockOf t))))) ≡ done ws count detail
           → Accepted text ws
       go true d u eo ed eu h = not-refused h
       go false (some x) u eo ed eu h = not-refused h
@@ -55,12 +57,14 @@ module _ (text ws : List ℕ) (count detail : ℕ) where
   unfolding readText refuseIf
   read-accepted e = go (ltb maxText (length text)) refl e
     where
-      go : (l : Bool) → ltb maxText (length text) ≡ l → refuseIf l TextTooLong (readParsed text (parse text)) ≡ done ws count detail → Accepted text ws
+      go : (l : Bool) → ltb maxText (length text) ≡ l
+          → refuseIf l TextTooLong (readParsed text (parse text)) ≡ done ws count detail → Accepted text ws
       go true p h = not-refused h
       go false p h = in-parsed (parse text) refl h
 
 -- A block that was read has few enough inputs.
-pub read-few-inputs : (text ws : List ℕ) (count detail : ℕ) → readText text ≡ done ws count detail → inputCount (decode ws) ≤ maxInputs
+pub read-few-inputs : (text ws : List ℕ) (count detail : ℕ) → readText text ≡ done ws count detail
+    → inputCount (decode ws) ≤ maxInputs
 unfolding decode encode blockOf
 read-few-inputs text ws count detail e =
     let a = read-accepted text ws count detail e in

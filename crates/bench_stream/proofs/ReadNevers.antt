@@ -1,4 +1,5 @@
--- The never lines of a block that was read fit it: each fixes some input, and only inputs that are there. Assumes nothing.
+-- The never lines of a block that was read fit it: each fixes some input, and only inputs that are there. Assumes
+-- nothing.
 --   nevers-fit: the law, of legal lines whose names are those of inputs
 use Prim.Native.Nat.{ℕ, _^_, _≤_, _<_}
 use mathlib.Core.Path.{_≡_, refl}
@@ -60,17 +61,20 @@ unfolding givenValue isDefined
 some-fixed inputs p ps m =
     let at = any-at (same (p .name)) inputs [] m in
     let e : p .name ≡ getD inputs (at .0) [] = same-eq (p .name) (getD inputs (at .0) []) (at .2) in
-    mask-some isDefined (map (givenValue (p ∷ ps)) inputs) (at .0) (rw (length-map inputs (givenValue (p ∷ ps))) (at .1))
+    mask-some isDefined (map (givenValue (p ∷ ps)) inputs) (at .0)
+    (rw (length-map inputs (givenValue (p ∷ ps))) (at .1))
     (rw (getD-map (givenValue (p ∷ ps)) inputs (at .0) [] undefined (at .1), ← e, same-refl (p .name)) refl)
 
 module _ (b : Block) where
-  never-fits : (ps : List Pair) → isLegalNever ps ≡ true → all (λ (p : Pair). memberList (p .name) (b .inputs)) ps ≡ true
+  never-fits : (ps : List Pair) → isLegalNever ps ≡ true
+      → all (λ (p : Pair). memberList (p .name) (b .inputs)) ps ≡ true
       → neverFits b (assignmentOf (b .inputs) ps) ≡ true
   unfolding neverFits assignmentOf isLegalNever values
   never-fits [] legal names =
       let z = leb-true 1 0 (and-eq-true-iff (leb 1 0) (all isLegalPair []) .0 legal .0) in absurd (omega arith)
   never-fits (p ∷ ps) legal names =
-      let here = and-eq-true-iff (memberList (p .name) (b .inputs)) (all (λ (p : Pair). memberList (p .name) (b .inputs)) ps) .0 names .0 in
+      let here = and-eq-true-iff (memberList (p .name) (b .inputs))
+      (all (λ (p : Pair). memberList (p .name) (b .inputs)) ps) .0 names .0 in
       rw (lt-ltb 0 _ (some-fixed (b .inputs) p ps here)) (masks-fit (b .inputs) (p ∷ ps))
 
   pub nevers-fit : (ns : List (List Pair)) → all isLegalNever ns ≡ true
@@ -79,6 +83,7 @@ module _ (b : Block) where
   nevers-fit [] legal names = refl
   nevers-fit (ps ∷ ns) legal names =
       let l = and-eq-true-iff (isLegalNever ps) (all isLegalNever ns) .0 legal in
-      let k = and-eq-true-iff (all (λ (p : Pair). memberList (p .name) (b .inputs)) ps) (all (all (λ (p : Pair). memberList (p .name) (b .inputs))) ns)
+      let k = and-eq-true-iff (all (λ (p : Pair). memberList (p .name) (b .inputs)) ps)
+      (all (all (λ (p : Pair). memberList (p .name) (b .inputs))) ns)
       .0 names in
       rw (never-fits ps (l .0) (k .0)) (nevers-fit ns (l .1) (k .1))

@@ -59,7 +59,8 @@ turn (inNetlist fresh text) c =
     cond (fresh && eqb c lf) (opened (readText text))
     (cond (ltb (length text) maxText) (silent (inNetlist (eqb c lf) (text ++ (c ∷ [])))) (ended TextTooLong))
 turn (inLines ws line) c =
-    cond (eqb c lf) (record { next = inLines ws []; output = lineAnswer (decode ws) (heldFront line c) }) (silent (inLines ws (heldFront line c)))
+    cond (eqb c lf) (record { next = inLines ws []; output = lineAnswer (decode ws) (heldFront line c) })
+    (silent (inLines ws (heldFront line c)))
 turn over c = silent over
 
 -- where a run stands after a piece of input

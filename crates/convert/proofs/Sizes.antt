@@ -28,17 +28,31 @@ module _ (room : ℕ) where
   unfolding writeWords
   write-fits h ws =
       if-fits room (isMalformed ws) _ _
-      (λ whole. counted-fits room (writtenText (decode ws)) (omega (arith, h, written-length (decode ws) (whole-wellFormed ws whole))))
+      (λ whole. counted-fits room (writtenText (decode ws))
+      (omega (arith, h, written-length (decode ws) (whole-wellFormed ws whole))))
 
   module _ (h : maxBlock ≤ room) where
-    rendered-length : (ws : List ℕ) → isMalformed ws ≡ false → copyCount (decode ws) ≤ maxCopies → length (encode (rendering (decode ws))) ≤ room
+    rendered-length : (ws : List ℕ) → isMalformed ws ≡ false → copyCount (decode ws) ≤ maxCopies
+        → length (encode (rendering (decode ws))) ≤ room
     unfolding outputsAt gatesAt neversAt
     rendered-length ws whole few =
         let b = decode ws in
         let w = wellFormed-parts b (whole-wellFormed ws whole) in
         let i : inputCount (rendering b) ≡ inputCount b = ap {B = ℕ} length (rendering-inputs b) in
         let l : neverCount (rendering b) ≡ neverCount b = ap {B = ℕ} length (rendering-nevers b) in
-        omega (arith, h, length-encode (rendering b), i, l, rendering-count b, length-rendering-outputs b, w .fewInputs, w .fewNevers, few, w .fewOutputs)
+        omega (
+          arith,
+          h,
+          length-encode (rendering b),
+          i,
+          l,
+          rendering-count b,
+          length-rendering-outputs b,
+          w .fewInputs,
+          w .fewNevers,
+          few,
+          w .fewOutputs,
+        )
 
     pub render-fits : (ws : List ℕ) → Fits room (renderWords ws)
     unfolding renderWords renderBlock
@@ -46,4 +60,5 @@ module _ (room : ℕ) where
         if-fits room (isMalformed ws) _ _
         (λ whole. if-fits room (ltb maxCopies (copyCount (decode ws))) _ _
         (λ few. if-fits room (not (isSound (decode ws))) _ _
-        (λ s. counted-fits room (encode (rendering (decode ws))) (rendered-length ws whole (ltb-false maxCopies (copyCount (decode ws)) few)))))
+        (λ s. counted-fits room (encode (rendering (decode ws)))
+        (rendered-length ws whole (ltb-false maxCopies (copyCount (decode ws)) few)))))

@@ -1,4 +1,5 @@
--- From a block's words to its graph: the words are legal, the gates are put one after the other, and at the end the graph is the block's. Cited by
+-- From a block's words to its graph: the words are legal, the gates are put one after the other, and at the end the
+-- graph is the block's. Cited by
 -- `put_node` and `decode_gates`. Assumes nothing.
 use mathlib.Core.Path.{_≡_, refl, sym, ap, _∙_}
 use mathlib.Core.Logic.{_⊎_, ⊎-elim}
@@ -20,12 +21,14 @@ use Rattle.words_layout.specs.Nodes.{nodesOf}
 use Rattle.netlist.specs.Limits.{maxInputs, maxGates}
 use Rattle.netlist.specs.Kinds.{isKind, arityFits}
 use Rattle.netlist.specs.Netlist.{Operand, constant, Gate, gateOf}
-use Rattle.netlist.specs.StoredBlock.{gateSize, neversAt, gatesAt, outputsAt, operandOf, gateAt as storedGate, decode, isMalformed}
+use Rattle.netlist.specs.StoredBlock.{gateSize, neversAt, gatesAt, outputsAt, operandOf, gateAt as storedGate, decode}
+use Rattle.netlist.specs.StoredBlock.{isMalformed}
 use Rattle.theory_encoding.proofs.Decoded.{decode-gateCount, decode-gate}
 use Rattle.theory_encoding.proofs.Readers.{OperandWord, whole-parts, whole-gate}
 use Rattle.theory_encoding.proofs.Sizes.{whole-small}
 use Rattle.graph_gates.specs.Places.{firstGate, operandAt, placeOf}
-use Rattle.graph_gates.specs.Graph.{nodeSize, slots, graphSize, controllingOf, forcedOf, operationWord, operandPlace, kindAt, countAt, placeAt, gateAt}
+use Rattle.graph_gates.specs.Graph.{nodeSize, slots, graphSize, controllingOf, forcedOf, operationWord}
+use Rattle.graph_gates.specs.Graph.{operandPlace, kindAt, countAt, placeAt, gateAt}
 use Rattle.graph_gates.specs.Graph.{gatesIn, Node, Graph, Decoded}
 use Rattle.graph_gates.specs.Decoding.{WordsOf, wordPlace, headWord, absentPlace, nodeWords, Putting}
 use Rattle.graph_gates.proofs.Places.{place-input, place-zero, place-one, place-gate, operandAt-word}
@@ -34,11 +37,14 @@ use Rattle.graph_gates.proofs.Rules.{controlling-small, forced-small}
 -- ---- the words of a block
 
 -- the place of an operand word is one of the block's
-place-inside : (n m w : ℕ) → n ≤ maxInputs → m ≤ maxGates → OperandWord (n + m) w → placeOf (operandOf n w) < firstGate + m
+place-inside : (n m w : ℕ) → n ≤ maxInputs → m ≤ maxGates → OperandWord (n + m) w
+    → placeOf (operandOf n w) < firstGate + m
 place-inside n m w few fewer h = ⊎-elim node (⊎-elim zero one) h
   where
     node : w < n + m → placeOf (operandOf n w) < firstGate + m
-    node l = ⊎-elim (λ i. rw (place-input n w i) (omega arith)) (λ i. rw (place-gate n w i (omega arith)) (omega arith)) (lt-or-le w n)
+    node l =
+        ⊎-elim (λ i. rw (place-input n w i) (omega arith)) (λ i. rw (place-gate n w i (omega arith)) (omega arith))
+        (lt-or-le w n)
 
     zero : w ≡ 65534 → placeOf (operandOf n w) < firstGate + m
     zero e = rw (e, place-zero n few) (omega arith)
@@ -56,16 +62,20 @@ words-of ws h =
       long = omega (arith, whole-parts ws h .sized);
       kind = λ j l. whole-gate ws h j l .kind;
       count = λ j l. whole-gate ws h j l .count;
-      place = λ j i l k. place-inside (getD ws 0 0) (getD ws 1 0) _ (whole-parts ws h .fewInputs) (whole-parts ws h .fewGates) (whole-gate ws h j l .operands i k);
+      place =
+          λ j i l k. place-inside (getD ws 0 0) (getD ws 1 0) _ (whole-parts ws h .fewInputs)
+          (whole-parts ws h .fewGates) (whole-gate ws h j l .operands i k);
     }
 
 -- ---- gate after gate
 
 sets-before : (l : List ℕ) (i : ℕ) (xs : List ℕ) (q : ℕ) → q < i → getD (sets l i xs) q 0 ≡ getD l q 0
 sets-before l i [] q h = refl
-sets-before l i (x ∷ xs) q h = sets-before (set l i x) (suc i) xs q (omega arith) ∙ getD-set-other l i q x 0 (λ e. omega arith)
+sets-before l i (x ∷ xs) q h =
+    sets-before (set l i x) (suc i) xs q (omega arith) ∙ getD-set-other l i q x 0 (λ e. omega arith)
 
-sets-at : (l : List ℕ) (i : ℕ) (xs : List ℕ) (p : ℕ) → p < length xs → i + length xs ≤ length l → getD (sets l i xs) (i + p) 0 ≡ getD xs p 0
+sets-at : (l : List ℕ) (i : ℕ) (xs : List ℕ) (p : ℕ) → p < length xs → i + length xs ≤ length l
+    → getD (sets l i xs) (i + p) 0 ≡ getD xs p 0
 sets-at l i [] p h fits = absurd (not-suc-le-zero h)
 sets-at l i (x ∷ xs) zero h fits =
     rw (add-zero) (sets-before (set l i x) (suc i) xs i (omega arith) ∙ getD-set-same l i x 0 (omega arith))
@@ -79,14 +89,17 @@ module _ {ws : List ℕ} {nodes : Nodes} (w : WordsOf ws nodes) (j : ℕ) (l : j
   pub head-small : getD ws (nodes .start + gateSize * j) 0 ≤ 38
   head-small = omega (arith, w .kind j l, w .count j l)
 
-  pub place-small : (absent i : ℕ) → absent ≤ 1 → wordPlace ws (nodes .inputs) (nodes .start + gateSize * j) absent i < 65536
+  pub place-small : (absent i : ℕ) → absent ≤ 1
+      → wordPlace ws (nodes .inputs) (nodes .start + gateSize * j) absent i < 65536
   unfolding wordPlace
   place-small absent i small =
-      ⊎-elim (λ k. rw (lt-ltb i _ k) (omega (arith, w .place j i l k, w .fewGates))) (λ k. rw (le-ltb i _ k) (omega arith))
+      ⊎-elim (λ k. rw (lt-ltb i _ k) (omega (arith, w .place j i l k, w .fewGates)))
+      (λ k. rw (le-ltb i _ k) (omega arith))
       (lt-or-le i (getD ws (nodes .start + gateSize * j) 0 / 8))
 
 -- five stores are the gate's words
-pub node-put : (ws graph : List ℕ) (nodes : Nodes) (j at to h c f p q r s : ℕ) → to ≡ nodeSize * j → at ≡ nodes .start + gateSize * j
+pub node-put : (ws graph : List ℕ) (nodes : Nodes) (j at to h c f p q r s : ℕ) → to ≡ nodeSize * j
+    → at ≡ nodes .start + gateSize * j
     → h ≡ getD ws at 0 → c ≡ controllingOf (h % 8) → f ≡ forcedOf (h % 8)
     → p ≡ wordPlace ws (nodes .inputs) at (1 - c) 0 → q ≡ wordPlace ws (nodes .inputs) at (1 - c) 1
     → r ≡ wordPlace ws (nodes .inputs) at (1 - c) 2 → s ≡ wordPlace ws (nodes .inputs) at (1 - c) 3
@@ -108,7 +121,8 @@ unfolding nodeWords
 nodeWords-length ws nodes j = refl
 
 -- one gate more
-pub putting-more : {ws : List ℕ} {nodes : Nodes} {j : ℕ} {graph graph′ : List ℕ} → Putting ws nodes j graph → j < maxGates
+pub putting-more : {ws : List ℕ} {nodes : Nodes} {j : ℕ} {graph graph′ : List ℕ} → Putting ws nodes j graph
+    → j < maxGates
     → graph′ ≡ sets graph (nodeSize * j) (nodeWords ws nodes j) → Putting ws nodes (j + 1) graph′
 putting-more {ws} {nodes} {j} {graph} {graph′} p l e =
     rw e (record { long = length-sets graph (nodeSize * j) (nodeWords ws nodes j) ∙ p .long; put = put′ })
@@ -117,14 +131,18 @@ putting-more {ws} {nodes} {j} {graph} {graph′} p l e =
         → getD (sets graph (nodeSize * j) (nodeWords ws nodes j)) (nodeSize * k + i) 0 ≡ getD (nodeWords ws nodes k) i 0
     put′ k i kl il = ⊎-elim new (λ ne. old (omega (arith, ne))) (eq-or-ne k j)
       where
-        new : k ≡ j → getD (sets graph (nodeSize * j) (nodeWords ws nodes j)) (nodeSize * k + i) 0 ≡ getD (nodeWords ws nodes k) i 0
+        new : k ≡ j → getD (sets graph (nodeSize * j) (nodeWords ws nodes j)) (nodeSize * k + i) 0
+            ≡ getD (nodeWords ws nodes k) i 0
         new q =
             rw q
             (sets-at graph (nodeSize * j) (nodeWords ws nodes j) i (rw (nodeWords-length ws nodes j) il)
             (rw (nodeWords-length ws nodes j, p .long) (omega arith)))
 
-        old : k < j → getD (sets graph (nodeSize * j) (nodeWords ws nodes j)) (nodeSize * k + i) 0 ≡ getD (nodeWords ws nodes k) i 0
-        old less = sets-before graph (nodeSize * j) (nodeWords ws nodes j) (nodeSize * k + i) (omega arith) ∙ p .put k i less il
+        old : k < j → getD (sets graph (nodeSize * j) (nodeWords ws nodes j)) (nodeSize * k + i) 0
+            ≡ getD (nodeWords ws nodes k) i 0
+        old less =
+            sets-before graph (nodeSize * j) (nodeWords ws nodes j) (nodeSize * k + i) (omega arith)
+            ∙ p .put k i less il
 
 -- ---- the graph of all gates
 
@@ -135,7 +153,8 @@ head-kind h c f = omega arith
 head-count : (h c f : ℕ) → h / 8 ≤ 4 → (h + 64 * c + 128 * f) / 8 % 8 ≡ h / 8
 head-count h c f l = omega arith
 
-module _ (ws : List ℕ) (h : isMalformed ws ≡ false) (graph : List ℕ) (p : Putting ws (nodesOf ws) (getD ws 1 0) graph) (j : ℕ) (l : j < getD ws 1 0) where
+module _ (ws : List ℕ) (h : isMalformed ws ≡ false) (graph : List ℕ) (p : Putting ws (nodesOf ws) (getD ws 1 0) graph)
+    (j : ℕ) (l : j < getD ws 1 0) where
   -- where the gate's words start, and its head
   abbrev start : ℕ
   start = gatesAt (getD ws 0 0) (getD ws 3 0) + gateSize * j
@@ -153,7 +172,8 @@ module _ (ws : List ℕ) (h : isMalformed ws ≡ false) (graph : List ℕ) (p : 
   unfolding nodeWords nodesOf
   operation-is = let e : nodeSize * j + 0 ≡ nodeSize * j = omega arith in rw e at (p .put j 0 l (omega arith))
 
-  slot-is : (i : ℕ) → i < slots → getD (nodeWords ws (nodesOf ws) j) (1 + i) 0 ≡ wordPlace ws (getD ws 0 0) start (absentPlace ws start) i
+  slot-is : (i : ℕ) → i < slots → getD (nodeWords ws (nodesOf ws) j) (1 + i) 0
+      ≡ wordPlace ws (getD ws 0 0) start (absentPlace ws start) i
   unfolding nodeWords nodesOf
   slot-is zero l = refl
   slot-is (suc zero) l = refl
@@ -180,14 +200,17 @@ module _ (ws : List ℕ) (h : isMalformed ws ≡ false) (graph : List ℕ) (p : 
   unfolding gateAt storedGate wordPlace
   gate-is =
       let k = kind-is in
-      let o : tab (λ i. operandAt (placeAt graph j i)) (countAt graph j) ≡ tab (λ i. operandOf (getD ws 0 0) (getD ws (start + 1 + i) 0)) (head / 8) =
+      let o : tab (λ i. operandAt (placeAt graph j i)) (countAt graph j)
+      ≡ tab (λ i. operandOf (getD ws 0 0) (getD ws (start + 1 + i) 0)) (head / 8) =
       rw count-is (tab-ext _ _ (head / 8) same) in
       cc
     where
-      same : (i : ℕ) → i < head / 8 → operandAt (placeAt graph j i) ≡ operandOf (getD ws 0 0) (getD ws (start + 1 + i) 0)
+      same : (i : ℕ) → i < head / 8 → operandAt (placeAt graph j i)
+          ≡ operandOf (getD ws 0 0) (getD ws (start + 1 + i) 0)
       same i k =
           rw (place-is i (omega (arith, whole-head)), lt-ltb i (head / 8) k)
-          (operandAt-word (getD ws 0 0) (getD ws (start + 1 + i) 0) (whole-parts ws h .fewInputs) (whole-small ws h (start + 1 + i)))
+          (operandAt-word (getD ws 0 0) (getD ws (start + 1 + i) 0) (whole-parts ws h .fewInputs)
+          (whole-small ws h (start + 1 + i)))
 
   node-is : Node (getD ws 1 0) graph j
   unfolding operationWord operandPlace headWord wordPlace absentPlace storedGate nodesOf
@@ -204,16 +227,21 @@ module _ (ws : List ℕ) (h : isMalformed ws ≡ false) (graph : List ℕ) (p : 
       operand i = operandOf (getD ws 0 0) (getD ws (start + 1 + i) 0)
 
       slot : (i : ℕ) → cond (ltb i (head / 8)) (placeOf (operand i)) (1 - controllingOf (head % 8))
-          ≡ cond (ltb i (head / 8)) (placeOf (getD (tab operand (head / 8)) i (constant true))) (1 - controllingOf (head % 8))
+          ≡ cond (ltb i (head / 8)) (placeOf (getD (tab operand (head / 8)) i (constant true)))
+          (1 - controllingOf (head % 8))
       slot i =
-          ⊎-elim (λ k. rw (getD-tab operand (head / 8) i (constant true) k) refl) (λ k. rw (le-ltb i (head / 8) k) refl) (lt-or-le i (head / 8))
+          ⊎-elim (λ k. rw (getD-tab operand (head / 8) i (constant true) k) refl) (λ k. rw (le-ltb i (head / 8) k) refl)
+          (lt-or-le i (head / 8))
 
-      there : (i : ℕ) → cond (ltb i (head / 8)) (placeOf (operand i)) (1 - controllingOf (head % 8)) < firstGate + getD ws 1 0
+      there : (i : ℕ) → cond (ltb i (head / 8)) (placeOf (operand i))
+          (1 - controllingOf (head % 8)) < firstGate + getD ws 1 0
       there i =
-          ⊎-elim (λ k. rw (lt-ltb i (head / 8) k) (words-of ws h .place j i l k)) (λ k. rw (le-ltb i (head / 8) k) (omega arith)) (lt-or-le i (head / 8))
+          ⊎-elim (λ k. rw (lt-ltb i (head / 8) k) (words-of ws h .place j i l k))
+          (λ k. rw (le-ltb i (head / 8) k) (omega arith)) (lt-or-le i (head / 8))
 
 -- every gate is put
-pub graph-decoded : (ws : List ℕ) → isMalformed ws ≡ false → {graph : List ℕ} → Putting ws (nodesOf ws) (getD ws 1 0) graph
+pub graph-decoded : (ws : List ℕ) → isMalformed ws ≡ false → {graph : List ℕ}
+    → Putting ws (nodesOf ws) (getD ws 1 0) graph
     → Decoded (decode ws) (getD ws 1 0) graph
 unfolding gatesIn decode
 graph-decoded ws h {graph} p =

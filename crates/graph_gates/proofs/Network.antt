@@ -1,4 +1,5 @@
--- What rounds, single steps, reads and groups say of a block depends on its gates alone. So what is shown of a graph's network holds of every block whose
+-- What rounds, single steps, reads and groups say of a block depends on its gates alone. So what is shown of a graph's
+-- network holds of every block whose
 -- gates the graph has. Cited by whoever works on a graph and promises something of a block. Assumes nothing.
 --   network-gates, network-count      the network's gates are the block's
 --   ..-gates                          the same gates, the same answer
@@ -14,7 +15,8 @@ use Rattle.netlist.specs.Values.{Value, undefined, code}
 use Rattle.netlist.specs.Netlist.{Gate, Block, gateCount, gateOf}
 use Rattle.netlist.specs.Rounds.{evaluated, round, afterRounds, isStable, rounds, settled}
 use Rattle.netlist.specs.Steps.{stepAt, run}
-use Rattle.netlist.specs.Groups.{gateOperand, readBy, reads, has, grown, grownTimes, reach, reaches, sameGroup, groupOf, isReady, mayBeNext, groupsAfter}
+use Rattle.netlist.specs.Groups.{gateOperand, readBy, reads, has, grown, grownTimes, reach, reaches, sameGroup, groupOf}
+use Rattle.netlist.specs.Groups.{isReady, mayBeNext, groupsAfter}
 use Rattle.netlist.specs.Groups.{groups, groupNumber, groupNumbers}
 use Rattle.graph_gates.specs.Graph.{gatesIn, network, Decoded}
 
@@ -102,7 +104,12 @@ module _ (b c : Block) (e : b .gates ≡ c .gates) where
   unfolding groupsAfter
   groupsAfter-gates zero done = refl
   groupsAfter-gates (suc more) done =
-      rw (groupsAfter-gates more (done ++ groupOf b (least (mayBeNext b done) (gateCount b))), next-gates done, groupOf-gates, e) refl
+      rw (
+        groupsAfter-gates more (done ++ groupOf b (least (mayBeNext b done) (gateCount b))),
+        next-gates done,
+        groupOf-gates,
+        e,
+      ) refl
 
   pub groups-gates : groups b ≡ groups c
   unfolding groups

@@ -1,4 +1,5 @@
--- The place of what an operand word stands for, by what the word is; and a place and what stands there determine each other. Cited by whoever makes or
+-- The place of what an operand word stands for, by what the word is; and a place and what stands there determine each
+-- other. Cited by whoever makes or
 -- reads a graph. Assumes nothing.
 use mathlib.Core.Path.{_≡_, refl, sym, _∙_}
 use mathlib.Core.Bool.{Bool, true, false, cond}
@@ -38,13 +39,23 @@ pub operandAt-input : (i : ℕ) → i < maxInputs → operandAt (firstInput + i)
 unfolding operandAt
 operandAt-input i l =
     let e : firstInput + i - firstInput ≡ i = omega arith in
-    rw (ne-eqb (firstInput + i) 0 (λ e. omega arith), ne-eqb (firstInput + i) 1 (λ e. omega arith), lt-ltb (firstInput + i) firstGate (omega arith), e) refl
+    rw (
+      ne-eqb (firstInput + i) 0 (λ e. omega arith),
+      ne-eqb (firstInput + i) 1 (λ e. omega arith),
+      lt-ltb (firstInput + i) firstGate (omega arith),
+      e,
+    ) refl
 
 pub operandAt-gate : (j : ℕ) → operandAt (firstGate + j) ≡ gate j
 unfolding operandAt
 operandAt-gate j =
     let e : firstGate + j - firstGate ≡ j = omega arith in
-    rw (ne-eqb (firstGate + j) 0 (λ e. omega arith), ne-eqb (firstGate + j) 1 (λ e. omega arith), le-ltb (firstGate + j) firstGate (omega arith), e) refl
+    rw (
+      ne-eqb (firstGate + j) 0 (λ e. omega arith),
+      ne-eqb (firstGate + j) 1 (λ e. omega arith),
+      le-ltb (firstGate + j) firstGate (omega arith),
+      e,
+    ) refl
 
 pub operandAt-zero : operandAt 0 ≡ constant false
 unfolding operandAt
@@ -56,7 +67,9 @@ operandAt-one = refl
 
 -- of the operand that a word stands for
 pub operandAt-word : (n w : ℕ) → n ≤ maxInputs → w < 65536 → operandAt (placeOf (operandOf n w)) ≡ operandOf n w
-operandAt-word n w few small = ⊎-elim inputs (λ h. ⊎-elim zero (λ a. ⊎-elim one (λ b. gates h a b) (eq-or-ne w 65535)) (eq-or-ne w 65534)) (lt-or-le w n)
+operandAt-word n w few small =
+    ⊎-elim inputs (λ h. ⊎-elim zero (λ a. ⊎-elim one (λ b. gates h a b) (eq-or-ne w 65535)) (eq-or-ne w 65534))
+    (lt-or-le w n)
   where
     inputs : w < n → operandAt (placeOf (operandOf n w)) ≡ operandOf n w
     inputs l = rw (place-input n w l, operandOf-input n w l) (operandAt-input w (omega arith))

@@ -25,7 +25,8 @@ pub record WordsOf (ws : List ℕ) (nodes : Nodes) : Type 0 where
   pub kind : (j : ℕ) → j < nodes .gates → getD ws (nodes .start + gateSize * j) 0 % 8 ≤ 6
   pub count : (j : ℕ) → j < nodes .gates → getD ws (nodes .start + gateSize * j) 0 / 8 ≤ slots
   pub place : (j i : ℕ) → j < nodes .gates → i < getD ws (nodes .start + gateSize * j) 0 / 8
-      → placeOf (operandOf (nodes .inputs) (getD ws (nodes .start + gateSize * j + 1 + i) 0)) < 2 + maxInputs + nodes .gates
+      → placeOf (operandOf (nodes .inputs) (getD ws (nodes .start + gateSize * j + 1 + i) 0)) < 2 + maxInputs
+      + nodes .gates
 
 unfoldable pub wordPlace : List ℕ → ℕ → ℕ → ℕ → ℕ → ℕ
 wordPlace ws n at absent i = cond (ltb i (getD ws at 0 / 8)) (placeOf (operandOf n (getD ws (at + 1 + i) 0))) absent

@@ -38,7 +38,8 @@ pub record Fanout (m : ℕ) (graph fanout : List ℕ) : Type 0 where
   pub long : length fanout ≡ fanoutSize
   pub descends : Descends fanout
   pub starts : (k : ℕ) → k < maxGates → getD fanout k 0 ≤ slots * m
-  pub found : (e k : ℕ) → e < slots * m → k < maxGates → slotPlace graph e ≡ firstGate + k → Chain fanout (suc e) (getD fanout k 0)
+  pub found : (e k : ℕ) → e < slots * m → k < maxGates → slotPlace graph e ≡ firstGate + k
+      → Chain fanout (suc e) (getD fanout k 0)
   pub only : (e k : ℕ) → k < maxGates → Chain fanout (suc e) (getD fanout k 0) → slotPlace graph e ≡ firstGate + k
 
 -- a fan-out in which no slot is in a list yet: nothing but zeros
@@ -55,12 +56,14 @@ pub record LinkReady (graph : List ℕ) (e : ℕ) (fanout : List ℕ) : Type 0 w
 -- slot e, which reads this place, is put in front of a gate's list
 pub record Linked (place e : ℕ) (fanout fanout′ : List ℕ) : Type 0 where
   pub is : fanout′
-      ≡ cond (leb firstGate place) (set (set fanout (maxGates + e) (getD fanout (place - firstGate) 0)) (place - firstGate) (suc e)) fanout
+      ≡ cond (leb firstGate place) (set (set fanout (maxGates + e) (getD fanout (place - firstGate) 0))
+      (place - firstGate) (suc e)) fanout
 
 -- the slots with numbers below e are in their lists
 pub record Linking (graph fanout : List ℕ) (e : ℕ) : Type 0 where
   pub long : length fanout ≡ fanoutSize
   pub descends : Descends fanout
   pub starts : (k : ℕ) → k < maxGates → getD fanout k 0 ≤ e
-  pub found : (d k : ℕ) → d < e → k < maxGates → slotPlace graph d ≡ firstGate + k → Chain fanout (suc d) (getD fanout k 0)
+  pub found : (d k : ℕ) → d < e → k < maxGates → slotPlace graph d ≡ firstGate + k
+      → Chain fanout (suc d) (getD fanout k 0)
   pub only : (d k : ℕ) → k < maxGates → Chain fanout (suc d) (getD fanout k 0) → slotPlace graph d ≡ firstGate + k

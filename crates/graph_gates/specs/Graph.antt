@@ -39,7 +39,8 @@ unfoldable pub operationWord : Gate → ℕ
 operationWord g = g .kind + 8 * length (g .operands) + 64 * controllingOf (g .kind) + 128 * forcedOf (g .kind)
 
 unfoldable pub operandPlace : Gate → ℕ → ℕ
-operandPlace g i = cond (ltb i (length (g .operands))) (placeOf (getD (g .operands) i (constant true))) (1 - controllingOf (g .kind))
+operandPlace g i =
+    cond (ltb i (length (g .operands))) (placeOf (getD (g .operands) i (constant true))) (1 - controllingOf (g .kind))
 
 -- ---- what a graph holds
 

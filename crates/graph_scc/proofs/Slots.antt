@@ -1,4 +1,5 @@
--- Gate i of a graph reads gate k exactly where one of its four slots has gate k's place. Cited by whoever walks a graph's slots. Assumes nothing.
+-- Gate i of a graph reads gate k exactly where one of its four slots has gate k's place. Cited by whoever walks a
+-- graph's slots. Assumes nothing.
 --   by-slot      what holds of the four slots holds of each slot
 --   read-slot    a gate that is read has a slot
 --   read-inside  a gate that is read is one of the graph
@@ -22,7 +23,8 @@ use Rattle.netlist.specs.Groups.{gateOperand, readBy, reads}
 use Rattle.theory_reach.proofs.ListFacts.{joined-member, member-joined}
 use Rattle.theory_encoding.proofs.Gates.{by-kind}
 use Rattle.graph_gates.specs.Places.{firstGate, operandAt}
-use Rattle.graph_gates.specs.Graph.{slots, countAt, kindAt, placeAt, gateAt, gatesIn, network, controllingOf, operandPlace, Graph}
+use Rattle.graph_gates.specs.Graph.{slots, countAt, kindAt, placeAt, gateAt, gatesIn, network, controllingOf}
+use Rattle.graph_gates.specs.Graph.{operandPlace, Graph}
 use Rattle.graph_gates.proofs.Places.{operandAt-gate}
 
 pub by-slot : (P : ℕ → Type 0) → P 0 → P 1 → P 2 → P 3 → (s : ℕ) → s < slots → P s
@@ -42,7 +44,8 @@ most-four k count known fits =
   where
     go : (k : ℕ) → isKind k ≡ true → (count : ℕ) → count ≤ mostOperands k → count ≤ slots
     go = by-kind (λ k. (count : ℕ) → count ≤ mostOperands k → count ≤ slots)
-        (λ c l. omega arith) (λ c l. omega arith) (λ c l. omega arith) (λ c l. omega arith) (λ c l. omega arith) (λ c l. omega arith) (λ c l. omega arith)
+        (λ c l. omega arith) (λ c l. omega arith) (λ c l. omega arith) (λ c l. omega arith) (λ c l. omega arith)
+        (λ c l. omega arith) (λ c l. omega arith)
 
 -- an operand at a place that is a gate
 gate-place : (p k : ℕ) → member k (gateOperand (operandAt p)) ≡ true → p ≡ firstGate + k
@@ -50,7 +53,8 @@ unfolding gateOperand operandAt
 gate-place p k h = go (eqb p 0) (eqb p 1) (ltb p firstGate) refl h
   where
     go : (a b c : Bool) → ltb p firstGate ≡ c
-        → member k (gateOperand (cond a (constant false) (cond b (constant true) (cond c (input (p - 2)) (gate (p - firstGate)))))) ≡ true
+        → member k (gateOperand (cond a (constant false)
+        (cond b (constant true) (cond c (input (p - 2)) (gate (p - firstGate)))))) ≡ true
         → p ≡ firstGate + k
     go true b c e h = absurd (false≢true h)
     go false true c e h = absurd (false≢true h)
@@ -62,14 +66,17 @@ module _ {m : ℕ} {graph : List ℕ} (g : Graph m graph) (i : ℕ) (l : i < m) 
   unfolding network gatesIn
   gate-is = getD-tab (gateAt graph) m i _ l
 
-  read-is : readBy (network m graph) i ≡ joined (tab (λ s. gateOperand (operandAt (placeAt graph i s))) (countAt graph i))
+  read-is : readBy (network m graph) i
+      ≡ joined (tab (λ s. gateOperand (operandAt (placeAt graph i s))) (countAt graph i))
   unfolding readBy gateAt
   read-is = rw (gate-is, map-tab gateOperand (λ s. operandAt (placeAt graph i s)) (countAt graph i)) refl
 
-  pub read-slot : (k : ℕ) → reads (network m graph) i k ≡ true → (s : ℕ) × (s < slots) × (placeAt graph i s ≡ firstGate + k)
+  pub read-slot : (k : ℕ) → reads (network m graph) i k ≡ true
+      → (s : ℕ) × (s < slots) × (placeAt graph i s ≡ firstGate + k)
   unfolding reads
   read-slot k h =
-      let f = joined-member k (tab (λ s. gateOperand (operandAt (placeAt graph i s))) (countAt graph i)) (rw read-is at h) in
+      let f = joined-member k (tab (λ s. gateOperand (operandAt (placeAt graph i s))) (countAt graph i))
+      (rw read-is at h) in
       let few : f .0 < countAt graph i = rw length-tab at (f .1) in
       let four = most-four (kindAt graph i) (countAt graph i) (g .node i l .kind) (g .node i l .count) in
       (f .0, omega arith, gate-place (placeAt graph i (f .0)) k (rw getD-tab at (f .2)))
@@ -82,12 +89,17 @@ module _ {m : ℕ} {graph : List ℕ} (g : Graph m graph) (i : ℕ) (l : i < m) 
       there few =
           rw read-is
           (member-joined k (tab (λ s. gateOperand (operandAt (placeAt graph i s))) (countAt graph i)) s
-          (rw (getD-tab (λ s. gateOperand (operandAt (placeAt graph i s))) (countAt graph i) s [] few, e, operandAt-gate k) (member-head k [])))
+          (rw (
+            getD-tab (λ s. gateOperand (operandAt (placeAt graph i s))) (countAt graph i) s [] few,
+            e,
+            operandAt-gate k,
+          ) (member-head k [])))
 
       gone : countAt graph i ≤ s → ⊥
       gone past =
           let p = g .node i l .place s sl in
-          let q : placeAt graph i s ≡ 1 - controllingOf (kindAt graph i) = rw (length-tab, le-ltb s (countAt graph i) past) at p in
+          let q : placeAt graph i s ≡ 1 - controllingOf (kindAt graph i) =
+          rw (length-tab, le-ltb s (countAt graph i) past) at p in
           omega arith
 
   pub read-inside : (k : ℕ) → reads (network m graph) i k ≡ true → k < m

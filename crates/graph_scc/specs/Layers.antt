@@ -28,4 +28,5 @@ pub record Layers (m : ℕ) (graph order ends : List ℕ) : Type 0 where
   pub every : (j : ℕ) → j < m → (i : ℕ) × (i < m) × (getD order i 0 ≡ j)
   pub once : (i k : ℕ) → i < m → k < m → getD order i 0 ≡ getD order k 0 → i ≡ k
   pub end : (i : ℕ) → i < m → LayerEnd m ends i
-  pub reads : (i k : ℕ) → i < m → k < m → reads (network m graph) (getD order i 0) (getD order k 0) ≡ true → k < getD ends i 0
+  pub reads : (i k : ℕ) → i < m → k < m → reads (network m graph) (getD order i 0) (getD order k 0) ≡ true
+      → k < getD ends i 0

@@ -1,5 +1,3 @@
 -- What the contracts of this crate add to the definitions of `netlist` and of crates/graph_gates.
 pub mod Layers
 pub mod Search
-pub mod Leaders
-pub mod Closure

@@ -1,10 +1,11 @@
 -- The search's clock, and what the check of its answer finds position by position. Cited by the contracts of this crate
--- alone. Assumes nothing.
+-- and of crates/graph_leaders. Assumes nothing.
 --   clockEnd     the last time of a search
 --   StandingReady, LeftOne   the numbers of a search
 --   SameRooms    the lengths of its arrays
 --   OneLayer     all gates as one loop
 --   LayerStep    what the check finds of one position; `positions` says where each gate stands in the order
+--   Layered      what it finds of all
 use Prim.Native.Nat.{ℕ, _+_, _*_, _≤_, _<_}
 use mathlib.Core.Path.{_≡_}
 use mathlib.Core.Logic.{_⊎_}
@@ -12,7 +13,7 @@ use mathlib.Core.List.{List}
 use lib.ListN.{length, getD}
 use Rattle.netlist.specs.Limits.{maxGates}
 use Rattle.graph_gates.specs.Places.{firstGate}
-use Rattle.graph_gates.specs.Graph.{slots, placeAt}
+use Rattle.graph_gates.specs.Graph.{slots, placeAt, Graph}
 
 -- the code's notes::NOTES
 abbrev pub noteRoom : ℕ
@@ -63,6 +64,11 @@ pub record LayerStep (m : ℕ) (graph order ends positions : List ℕ) (i : ℕ)
   pub listed : Listed m order positions i
   pub end : EndStep m ends i
   pub before : Before graph positions (getD order i 0) (getD ends i 0)
+
+-- the layers are right at every position
+pub record Layered (m : ℕ) (graph order ends positions : List ℕ) : Type 0 where
+  pub legal : Graph m graph
+  pub steps : (i : ℕ) → i < m → LayerStep m graph order ends positions i
 
 -- the first i gates as they come, all in one loop of m gates
 pub record OneLayer (m i : ℕ) (order ends : List ℕ) : Type 0 where

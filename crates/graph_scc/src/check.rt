@@ -11,8 +11,7 @@ ghost use mathlib.Core.Bool.{true};
 ghost use Prim.Native.Nat.{_≤_, _<_};
 ghost use Rattle.netlist.specs.Limits.{maxGates};
 ghost use Rattle.graph_gates.specs.Graph.{slots, Graph};
-ghost use Rattle.graph_scc.specs.Leaders.{Layered};
-ghost use Rattle.graph_scc.specs.Search.{SlotBefore, Before, EndStep, Listed, LayerStep};
+ghost use Rattle.graph_scc.specs.Search.{SlotBefore, Before, EndStep, Listed, LayerStep, Layered};
 
 // Where each gate stands in the order.
 pub fn find_positions(m: usize, order: &[u16; MAX_GATES], positions: &mut [u16; MAX_GATES])

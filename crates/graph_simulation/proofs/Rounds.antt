@@ -22,7 +22,8 @@ use Rattle.netlist.specs.Netlist.{Operand, input, gate, constant, Gate, Block, 
 use Rattle.netlist.specs.GateTable.{gateTable}
 use Rattle.netlist.specs.Rounds.{operandValue, evaluated, round, afterRounds, isStable, rounds, settled}
 use Rattle.theory_fixpoint.proofs.Values.{code-injective}
-use Rattle.theory_fixpoint.proofs.Rounds.{length-round, stable-eq, eq-stable, rounds-more, rounds-end, afterRounds-settled}
+use Rattle.theory_fixpoint.proofs.Rounds.{length-round, stable-eq, eq-stable, rounds-more, rounds-end}
+use Rattle.theory_fixpoint.proofs.Rounds.{afterRounds-settled}
 use Rattle.graph_gates.specs.Places.{firstInput, firstGate}
 use Rattle.graph_gates.specs.Graph.{network, Graph, Decoded}
 use Rattle.graph_gates.proofs.Network.{network-gates, network-count, rounds-gates, settled-gates}
@@ -54,7 +55,8 @@ module _ (b : Block) (x y : List Value) (inputs : (i : ℕ) → getD x i undefin
   unfolding afterRounds round
   after-same zero = refl
   after-same (suc r) =
-      ap (λ (f : Gate → Value). map f (b .gates)) (evaluated-same x y inputs (afterRounds b x r) (afterRounds b x r) (λ j. refl))
+      ap (λ (f : Gate → Value). map f (b .gates))
+      (evaluated-same x y inputs (afterRounds b x r) (afterRounds b x r) (λ j. refl))
       ∙ ap (λ (s : List Value). map (evaluated y s) (b .gates)) (after-same r)
 
   rounds-same : rounds b x ≡ rounds b y
@@ -69,24 +71,31 @@ module _ (b : Block) (x y : List Value) (inputs : (i : ℕ) → getD x i undefin
   settled-same = after-same (rounds b x) ∙ ap (afterRounds b y) rounds-same
 
 -- the inputs of an array that starts with x
-pub starting-inputs : {x : List Value} {values : List ℕ} → Starting x values → (i : ℕ) → getD (inputsIn values) i undefined ≡ getD x i undefined
+pub starting-inputs : {x : List Value} {values : List ℕ} → Starting x values → (i : ℕ)
+    → getD (inputsIn values) i undefined ≡ getD x i undefined
 unfolding inputsIn
 starting-inputs {x} {values} s i =
     ⊎-elim
     (λ l. getD-tab (λ i. valueOf (getD values (firstInput + i) 0)) maxInputs i undefined l ∙ s .given i l)
-    (λ l. let long : length (inputsIn values) ≤ i = rw (length-tab (λ i. valueOf (getD values (firstInput + i) 0)) maxInputs) l in
+    (λ l. let long : length (inputsIn values) ≤
+    i = rw (length-tab (λ i. valueOf (getD values (firstInput + i) 0)) maxInputs) l in
     let few : length x ≤ i = omega (arith, s .few) in
     List·getD-eq-default (inputsIn values) undefined long ∙ sym (List·getD-eq-default x undefined few))
     (lt-or-le i maxInputs)
 
 -- ---- what settling a block's graph finds
 
-module _ {c : Block} {m : ℕ} {graph : List ℕ} (d : Decoded c m graph) {x : List Value} {values : List ℕ} (s : Starting x values) where
+module _ {c : Block} {m : ℕ} {graph : List ℕ} (d : Decoded c m graph) {x : List Value} {values : List ℕ}
+    (s : Starting x values) where
   pub settled-of : settled (network m graph) (inputsIn values) ≡ settled c x
-  settled-of = settled-gates (network m graph) c (network-gates c m graph d) (inputsIn values) ∙ settled-same c (inputsIn values) x (starting-inputs s)
+  settled-of =
+      settled-gates (network m graph) c (network-gates c m graph d) (inputsIn values)
+      ∙ settled-same c (inputsIn values) x (starting-inputs s)
 
   pub rounds-of : rounds (network m graph) (inputsIn values) ≡ rounds c x
-  rounds-of = rounds-gates (network m graph) c (network-gates c m graph d) (inputsIn values) ∙ rounds-same c (inputsIn values) x (starting-inputs s)
+  rounds-of =
+      rounds-gates (network m graph) c (network-gates c m graph d) (inputsIn values)
+      ∙ rounds-same c (inputsIn values) x (starting-inputs s)
 
 -- ---- the rounds
 
@@ -108,12 +117,15 @@ module _ {m : ℕ} {graph : List ℕ} (start : List ℕ) (g : Graph m graph) whe
   abbrev later : List ℕ → List Value
   later values = round b (inputsIn values) (stateIn m values)
 
-  pub rounding-none : {found queue : List ℕ} {tail : ℕ} → stateIn m start ≡ replicate m undefined → Round m graph start found queue 0 tail
+  pub rounding-none : {found queue : List ℕ} {tail : ℕ} → stateIn m start ≡ replicate m undefined
+      → Round m graph start found queue 0 tail
       → Rounding m graph start start found queue 0 tail 0
   unfolding afterRounds
-  rounding-none first r = record { reached = omega arith; made = r; inputs = refl; last = rw (network-count m graph) first }
+  rounding-none first r =
+      record { reached = omega arith; made = r; inputs = refl; last = rw (network-count m graph) first }
 
-  module _ {values found queue : List ℕ} {head tail count : ℕ} (r : Rounding m graph start values found queue head tail count) where
+  module _ {values found queue : List ℕ} {head tail count : ℕ}
+      (r : Rounding m graph start values found queue head tail count) where
     later-is : later values ≡ afterRounds b x (suc count)
     unfolding afterRounds
     later-is = rw (r .inputs, r .last) refl
@@ -134,7 +146,8 @@ module _ {m : ℕ} {graph : List ℕ} (start : List ℕ) (g : Graph m graph) whe
             omega (arith, r .made .before, r .made .counted)
 
     -- a round that changed something
-    pub rounding-more : {values′ found′ queue′ : List ℕ} {end : ℕ} → head < tail → Turned m graph values values′ found′ queue′ tail end
+    pub rounding-more : {values′ found′ queue′ : List ℕ} {end : ℕ} → head < tail
+        → Turned m graph values values′ found′ queue′ tail end
         → Rounding m graph start values′ found′ queue′ tail end (count + 1)
     rounding-more some t =
         rw add-one
@@ -162,17 +175,23 @@ module _ {m : ℕ} {graph : List ℕ} (start : List ℕ) (g : Graph m graph) whe
         stays : later values ≡ stateIn m values
         stays =
             ext-getD undefined (later values) (stateIn m values)
-            (length-round b (inputsIn values) (stateIn m values) ∙ network-count m graph ∙ sym (length-stateIn m values))
-            (λ j l. let below : j < m = rw (length-round b (inputsIn values) (stateIn m values), network-count m graph) at l in
+            (length-round b (inputsIn values) (stateIn m values) ∙ network-count m graph
+            ∙ sym (length-stateIn m values))
+            (λ j l. let below : j < m = rw (
+              length-round b (inputsIn values) (stateIn m values),
+              network-count m graph,
+            ) at l in
             code-injective (getD (later values) j undefined) (getD (stateIn m values) j undefined)
-            (sym (found-is g found (r .made .coded) j below (r .made .done j below)) ∙ unchanged j below ∙ sym (code-at m (r .made .coded) j below)))
+            (sym (found-is g found (r .made .coded) j below (r .made .done j below)) ∙ unchanged j below
+            ∙ sym (code-at m (r .made .coded) j below)))
 
         stable : isStable b x count ≡ true
         stable = eq-stable b x count (sym later-is ∙ stays ∙ r .last)
 
 -- ---- the codes of an array's gates
 
-pub state-codes : (m : ℕ) {values : List ℕ} → Coded values → tab (λ j. getD values (firstGate + j) 0) m ≡ map code (stateIn m values)
+pub state-codes : (m : ℕ) {values : List ℕ} → Coded values
+    → tab (λ j. getD values (firstGate + j) 0) m ≡ map code (stateIn m values)
 unfolding stateIn
 state-codes m {values} c =
     tab-ext (λ j. getD values (firstGate + j) 0) (λ j. code (valueOf (getD values (firstGate + j) 0))) m
@@ -181,6 +200,7 @@ state-codes m {values} c =
 
 -- ---- what is prepared for a block
 
-pub prepared-with : {ws table graph fanout : List ℕ} → PreparedFor ws graph fanout → table ≡ gateTable → (m : ℕ) → m ≡ getD ws 1 0
+pub prepared-with : {ws table graph fanout : List ℕ} → PreparedFor ws graph fanout → table ≡ gateTable → (m : ℕ)
+    → m ≡ getD ws 1 0
     → Prepared m table graph fanout
 prepared-with p t m e = record { tabled = t; legal = rw e (p .decoded .legal); linked = rw e (p .linked) }

@@ -6,7 +6,8 @@ use mathlib.Core.Logic.{⊎-elim}
 use mathlib.Core.List.{List, [], _∷_, _++_}
 use Prim.Native.Nat.{ℕ, zero, suc, _+_, _-_, _≤_, _<_}
 use native.Mathlib.Omega.{arith}
-use lib.ListN.{length, getD, set, replicate, length-set, length-append, length-replicate, getD-replicate, List·getD-append, List·getD-eq-default}
+use lib.ListN.{length, getD, set, replicate, length-set, length-append, length-replicate, getD-replicate}
+use lib.ListN.{List·getD-append, List·getD-eq-default}
 use lib.Seq.{getD-set-same, getD-set-other, getD-append-add}
 use Rattle.prelude.specs.Lists.{all}
 use Rattle.prelude.proofs.Tests.{lt-or-le, eq-or-ne}
@@ -45,21 +46,24 @@ module _ {values : List ℕ} (b : Blank values) where
   long = length-set (set values 0 0) 1 1 ∙ length-set values 0 0 ∙ b .long
 
   at-zero : getD started 0 0 ≡ 0
-  at-zero = getD-set-other (set values 0 0) 1 0 1 0 (λ e. omega arith) ∙ getD-set-same values 0 0 0 (omega (arith, b .long))
+  at-zero =
+      getD-set-other (set values 0 0) 1 0 1 0 (λ e. omega arith) ∙ getD-set-same values 0 0 0 (omega (arith, b .long))
 
   at-one : getD started 1 0 ≡ 1
   at-one = getD-set-same (set values 0 0) 1 1 0 (rw (length-set values 0 0) (omega (arith, b .long)))
 
   behind : (p : ℕ) → 2 ≤ p → p < placeCount → getD started p 0 ≡ 2
   behind p l h =
-      getD-set-other (set values 0 0) 1 p 1 0 (λ e. omega arith) ∙ getD-set-other values 0 p 0 0 (λ e. omega arith) ∙ b .all p h
+      getD-set-other (set values 0 0) 1 p 1 0 (λ e. omega arith) ∙ getD-set-other values 0 p 0 0 (λ e. omega arith)
+      ∙ b .all p h
 
   most : (p : ℕ) → getD started p 0 ≤ 2
   most p =
       ⊎-elim (λ e. let h : getD started p 0 ≡ 0 = ap (λ (q : ℕ). getD started q 0) e ∙ at-zero in omega arith)
       (λ ne. ⊎-elim (λ e. let h : getD started p 0 ≡ 1 = ap (λ (q : ℕ). getD started q 0) e ∙ at-one in omega arith)
       (λ nf. ⊎-elim (λ l. omega (arith, behind p (omega arith) l))
-      (λ l. let past : length started ≤ p = omega (arith, long) in let e : getD started p 0 ≡ 0 = List·getD-eq-default started 0 past in omega arith)
+      (λ l. let past : length started ≤ p = omega (arith, long) in let e : getD started p 0
+      ≡ 0 = List·getD-eq-default started 0 past in omega arith)
       (lt-or-le p placeCount))
       (eq-or-ne p 1))
       (eq-or-ne p 0)
@@ -78,7 +82,8 @@ module _ {values : List ℕ} (b : Blank values) where
       }
 
 -- one more has
-module _ {x : List Value} {values : List ℕ} (s : Starting x values) (i v : ℕ) (is : length x ≡ i) (il : i < maxInputs) (vl : v ≤ 2) where
+module _ {x : List Value} {values : List ℕ} (s : Starting x values) (i v : ℕ) (is : length x ≡ i) (il : i < maxInputs)
+    (vl : v ≤ 2) where
   abbrev after : List ℕ
   after = set values (firstInput + i) v
 
@@ -90,7 +95,8 @@ module _ {x : List Value} {values : List ℕ} (s : Starting x values) (i v : ℕ
 
   coded-most : (p : ℕ) → getD after p 0 ≤ 2
   coded-most p =
-      ⊎-elim (λ e. let h : getD after p 0 ≡ v = ap (λ (q : ℕ). getD after q 0) e ∙ here′ in omega arith) (λ ne. rw (other p ne)
+      ⊎-elim (λ e. let h : getD after p 0 ≡ v = ap (λ (q : ℕ). getD after q 0) e ∙ here′ in omega arith)
+      (λ ne. rw (other p ne)
       (s .unsettled .coded .most p)) (eq-or-ne p (firstInput + i))
 
   given′ : (k : ℕ) → k < maxInputs → valueOf (getD after (firstInput + k) 0) ≡ getD (x ++ (valueOf v ∷ [])) k undefined
@@ -104,7 +110,8 @@ module _ {x : List Value} {values : List ℕ} (s : Starting x values) (i v : ℕ
       at-it : k ≡ i → valueOf (getD after (firstInput + k) 0) ≡ getD (x ++ (valueOf v ∷ [])) k undefined
       at-it e =
           let z : length x + 0 ≡ k = omega arith in
-          let last : getD (x ++ (valueOf v ∷ [])) k undefined ≡ valueOf v = rw z at (getD-append-add x (valueOf v ∷ []) 0 undefined) in
+          let last : getD (x ++ (valueOf v ∷ [])) k undefined ≡ valueOf v =
+          rw z at (getD-append-add x (valueOf v ∷ []) 0 undefined) in
           ap valueOf (ap (λ (q : ℕ). getD after (firstInput + q) 0) e ∙ here′) ∙ sym last
 
       above : i ≤ k → (k ≡ i → ⊥) → valueOf (getD after (firstInput + k) 0) ≡ getD (x ++ (valueOf v ∷ [])) k undefined

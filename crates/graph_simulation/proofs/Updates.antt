@@ -1,4 +1,5 @@
--- Rounds that evaluate only what can change: gates one by one, and from one round to the next. Cited by this crate's functions.
+-- Rounds that evaluate only what can change: gates one by one, and from one round to the next. Cited by this crate's
+-- functions.
 --   updated-none, one-new, updated-then   no gate, one that changes, one after the other
 --   updated-done, updated-ready           what was found stays, and what is asked holds on
 --   copied-none, copied-next              the values that are copied
@@ -38,7 +39,8 @@ use Rattle.graph_ternary.specs.State.{Coded, inputsIn, stateIn, gateCode}
 use Rattle.graph_ternary.proofs.Codes.{code-most, code-same}
 use Rattle.graph_ternary.proofs.State.{evaluated-at}
 use Rattle.graph_simulation.specs.Rounded.{Unsettled}
-use Rattle.graph_simulation.specs.Changes.{definedFrom, QueuedIn, Done, Steady, UpdateReady, Updated, UpdatedOne, UpdatedList, UpdatedAll, Awake}
+use Rattle.graph_simulation.specs.Changes.{definedFrom, QueuedIn, Done, Steady, UpdateReady, Updated, UpdatedOne}
+use Rattle.graph_simulation.specs.Changes.{UpdatedList, UpdatedAll, Awake}
 use Rattle.graph_simulation.specs.Changes.{CopyReady, Copied, Round, Turned}
 
 -- ---- how many gates are 0 or 1
@@ -56,16 +58,19 @@ unfolding definedFrom
 defined-more codes m j v l fits was is =
     let z : 0 + j ≡ j = omega arith in
     let before : isDefinedAt 0 codes j ≡ false = rw (z, eq-eqb (getD codes j 0) 2 was) refl in
-    let after : isDefinedAt 0 (set codes j v) j ≡ true = rw (z, getD-set-same codes j v 0 (omega arith), ne-eqb v 2 is) refl in
+    let after : isDefinedAt 0 (set codes j v) j ≡ true =
+    rw (z, getD-set-same codes j v 0 (omega arith), ne-eqb v 2 is) refl in
     countBelow-one (isDefinedAt 0 codes) (isDefinedAt 0 (set codes j v)) m j l before after
     (λ k ne. rw (getD-set-other codes j (0 + k) v 0 (λ e. ne (omega arith))) refl)
 
-pub defined-same : (p : ℕ) (u : List ℕ) (q : ℕ) (w : List ℕ) (m : ℕ) → ((j : ℕ) → j < m → getD u (p + j) 0 ≡ getD w (q + j) 0)
+pub defined-same : (p : ℕ) (u : List ℕ) (q : ℕ) (w : List ℕ) (m : ℕ)
+    → ((j : ℕ) → j < m → getD u (p + j) 0 ≡ getD w (q + j) 0)
     → definedFrom p u m ≡ definedFrom q w m
 unfolding definedFrom
 defined-same p u q w m h = countBelow-ext (isDefinedAt p u) (isDefinedAt q w) m (λ j l. rw (h j l) refl)
 
-pub none-defined : (p : ℕ) (codes : List ℕ) (m : ℕ) → ((j : ℕ) → j < m → getD codes (p + j) 0 ≡ 2) → definedFrom p codes m ≡ 0
+pub none-defined : (p : ℕ) (codes : List ℕ) (m : ℕ) → ((j : ℕ) → j < m → getD codes (p + j) 0 ≡ 2)
+    → definedFrom p codes m ≡ 0
 unfolding definedFrom
 none-defined p codes zero h = refl
 none-defined p codes (suc m) h = rw (none-defined p codes m (λ j l. h j (omega arith)), h m (omega arith)) refl
@@ -89,10 +94,12 @@ module _ {m : ℕ} {graph values : List ℕ} where
   module _ {found queue : List ℕ} {end : ℕ} (r : UpdateReady m graph values found queue end) (j : ℕ) (l : j < m) where
     -- a gate that has its value already
     pub one-kept : (getD found j 0 ≡ 2 → ⊥) → UpdatedOne m graph values found queue end j found queue end
-    one-kept h = record { updated = updated-none found queue end; done = ⊎-elim (λ e. absurd (h e)) (λ d. d) (r .steady j l) }
+    one-kept h =
+        record { updated = updated-none found queue end; done = ⊎-elim (λ e. absurd (h e)) (λ d. d) (r .steady j l) }
 
     -- a gate that gets none
-    pub one-undefined : {v : ℕ} → getD found j 0 ≡ 2 → v ≡ gateCode graph values j → v ≡ 2 → UpdatedOne m graph values found queue end j found queue end
+    pub one-undefined : {v : ℕ} → getD found j 0 ≡ 2 → v ≡ gateCode graph values j → v ≡ 2
+        → UpdatedOne m graph values found queue end j found queue end
     one-undefined was is none = record { updated = updated-none found queue end; done = was ∙ sym none ∙ is }
 
     module _ (v : ℕ) (was : getD found j 0 ≡ 2) (some : v ≡ 2 → ⊥) where
@@ -104,7 +111,8 @@ module _ {m : ℕ} {graph values : List ℕ} where
       one-room = omega (arith, more, defined-le 0 (set found j v) m, r .counted)
 
       -- which is queued
-      pub one-new : v ≡ gateCode graph values j → UpdatedOne m graph values found queue end j (set found j v) (set queue end j) (end + 1)
+      pub one-new : v ≡ gateCode graph values j
+          → UpdatedOne m graph values found queue end j (set found j v) (set queue end j) (end + 1)
       one-new is =
           record {
             updated =
@@ -127,16 +135,19 @@ module _ {m : ℕ} {graph values : List ℕ} where
           there = getD-set-same queue end j 0 (omega (arith, one-room, r .queueRoom, r .legal .few))
 
           changed : (k : ℕ) → k ≡ j
-              → (getD (set found j v) k 0 ≡ getD found k 0) ⊎ (Done graph values (set found j v) k × QueuedIn (set queue end j) end (end + 1) k)
+              → (getD (set found j v) k 0 ≡ getD found k 0)
+              ⊎ (Done graph values (set found j v) k × QueuedIn (set queue end j) end (end + 1) k)
           changed k e = inr (rw e now, (end, omega arith, omega arith, rw e there))
 
   -- what has its value keeps it
-  pub updated-done : {found queue : List ℕ} {end : ℕ} {found′ queue′ : List ℕ} {end′ : ℕ} → Updated m graph values found queue end found′ queue′ end′
+  pub updated-done : {found queue : List ℕ} {end : ℕ} {found′ queue′ : List ℕ} {end′ : ℕ}
+      → Updated m graph values found queue end found′ queue′ end′
       → (j : ℕ) → j < m → Done graph values found j → Done graph values found′ j
   updated-done u j l d = ⊎-elim (λ e. e ∙ d) (λ n. n .0) (u .each j l)
 
   -- what is asked holds on
-  pub updated-ready : {found queue : List ℕ} {end : ℕ} {found′ queue′ : List ℕ} {end′ : ℕ} → UpdateReady m graph values found queue end
+  pub updated-ready : {found queue : List ℕ} {end : ℕ} {found′ queue′ : List ℕ} {end′ : ℕ}
+      → UpdateReady m graph values found queue end
       → Updated m graph values found queue end found′ queue′ end′ → UpdateReady m graph values found′ queue′ end′
   updated-ready {found} {queue} {end} {found′} r u =
       record {
@@ -149,11 +160,14 @@ module _ {m : ℕ} {graph values : List ℕ} where
       }
     where
       steady′ : Steady m graph values found′
-      steady′ j l = ⊎-elim (λ q. ⊎-elim (λ z. inl (q ∙ z)) (λ d. inr (q ∙ d)) (r .steady j l)) (λ d. inr (d .0)) (u .each j l)
+      steady′ j l =
+          ⊎-elim (λ q. ⊎-elim (λ z. inl (q ∙ z)) (λ d. inr (q ∙ d)) (r .steady j l)) (λ d. inr (d .0)) (u .each j l)
 
   -- one after the other
-  pub updated-then : {found queue : List ℕ} {end : ℕ} {found₁ queue₁ : List ℕ} {end₁ : ℕ} {found₂ queue₂ : List ℕ} {end₂ : ℕ}
-      → Updated m graph values found queue end found₁ queue₁ end₁ → Updated m graph values found₁ queue₁ end₁ found₂ queue₂ end₂
+  pub updated-then : {found queue : List ℕ} {end : ℕ} {found₁ queue₁ : List ℕ} {end₁ : ℕ} {found₂ queue₂ : List ℕ}
+      {end₂ : ℕ}
+      → Updated m graph values found queue end found₁ queue₁ end₁
+      → Updated m graph values found₁ queue₁ end₁ found₂ queue₂ end₂
       → Updated m graph values found queue end found₂ queue₂ end₂
   updated-then {found} {queue} {end} {found₁} {queue₁} {end₁} {found₂} {queue₂} {end₂} u w =
       record {
@@ -172,7 +186,8 @@ module _ {m : ℕ} {graph values : List ℕ} where
       keep : (j : ℕ) → QueuedIn queue₁ end end₁ j → QueuedIn queue₂ end end₂ j
       keep j q = (q .0, q .1, omega (arith, w .ordered, q .2), w .front (q .0) (q .2) ∙ q .3)
 
-      each′ : (j : ℕ) → j < m → (getD found₂ j 0 ≡ getD found j 0) ⊎ (Done graph values found₂ j × QueuedIn queue₂ end end₂ j)
+      each′ : (j : ℕ) → j < m → (getD found₂ j 0 ≡ getD found j 0)
+          ⊎ (Done graph values found₂ j × QueuedIn queue₂ end end₂ j)
       each′ j l =
           ⊎-elim
           (λ e. ⊎-elim (λ f. inl (e ∙ f)) (λ d. inr (e ∙ d .0, keep j (d .1))) (u .each j l))
@@ -190,22 +205,28 @@ DoneBelow graph values found j = (i : ℕ) → i < j → Done graph values found
 
 -- whoever is in the list that starts at `from` has its value, or is in the rest of it, which starts at p
 abbrev pub Awaiting : List ℕ → List ℕ → List ℕ → List ℕ → ℕ → ℕ → Type 0
-Awaiting graph fanout values found from p = (e : ℕ) → Chain fanout (suc e) from → Done graph values found (e / slots) ⊎ Chain fanout (suc e) p
+Awaiting graph fanout values found from p =
+    (e : ℕ) → Chain fanout (suc e) from → Done graph values found (e / slots) ⊎ Chain fanout (suc e) p
 
 module _ {m : ℕ} {graph values found queue : List ℕ} {end : ℕ} {found′ queue′ : List ℕ} {end′ : ℕ} where
   -- one gate more
-  pub below-next : {j : ℕ} → DoneBelow graph values found j → j < m → UpdatedOne m graph values found queue end j found′ queue′ end′
+  pub below-next : {j : ℕ} → DoneBelow graph values found j → j < m
+      → UpdatedOne m graph values found queue end j found′ queue′ end′
       → DoneBelow graph values found′ (j + 1)
-  below-next {j} h l u i il = ⊎-elim same (λ ne. updated-done (u .updated) i (omega arith) (h i (omega arith))) (eq-or-ne i j)
+  below-next {j} h l u i il =
+      ⊎-elim same (λ ne. updated-done (u .updated) i (omega arith) (h i (omega arith))) (eq-or-ne i j)
     where
       same : i ≡ j → Done graph values found′ i
       same e = rw e (u .done)
 
   -- one reader more
-  pub awaiting-next : {fanout : List ℕ} {from p p′ : ℕ} → Descends fanout → from ≤ slots * m → Awaiting graph fanout values found from p
-      → UpdatedOne m graph values found queue end ((p - 1) / slots) found′ queue′ end′ → p′ ≡ getD fanout (maxGates + (p - 1)) 0
+  pub awaiting-next : {fanout : List ℕ} {from p p′ : ℕ} → Descends fanout → from ≤ slots * m
+      → Awaiting graph fanout values found from p
+      → UpdatedOne m graph values found queue end ((p - 1) / slots) found′ queue′ end′
+      → p′ ≡ getD fanout (maxGates + (p - 1)) 0
       → Awaiting graph fanout values found′ from p′
-  awaiting-next {fanout} {from} {p} {p′} d few h u is e c = ⊎-elim (λ v. inl (updated-done (u .updated) (e / slots) there v)) step (h e c)
+  awaiting-next {fanout} {from} {p} {p′} d few h u is e c =
+      ⊎-elim (λ v. inl (updated-done (u .updated) (e / slots) there v)) step (h e c)
     where
       there : e / slots < m
       there = omega (arith, chain-le d c)
@@ -217,7 +238,8 @@ module _ {m : ℕ} {graph values found queue : List ℕ} {end : ℕ} {found′ q
       step r = ⊎-elim (λ q. inl (first q)) (λ s. inr (rw is s)) (chain-step r)
 
   -- one queued gate more
-  pub awake-next : {fanout : List ℕ} (front : List ℕ) {q tail : ℕ} → Graph m graph → Fanout m graph fanout → Awake m graph values found front q tail
+  pub awake-next : {fanout : List ℕ} (front : List ℕ) {q tail : ℕ} → Graph m graph → Fanout m graph fanout
+      → Awake m graph values found front q tail
       → UpdatedList m graph fanout values found queue end (getD fanout (getD front q 0) 0) found′ queue′ end′
       → Awake m graph values found′ front (q + 1) tail
   awake-next {fanout} front {q} {tail} g f h u j l = ⊎-elim (λ v. inl (updated-done (u .updated) j l v)) step (h j l)
@@ -229,7 +251,8 @@ module _ {m : ℕ} {graph values found queue : List ℕ} {end : ℕ} {found′ q
           rw (s .1) at done
 
       step : ((k : ℕ) × (reads (network m graph) j k ≡ true) × QueuedIn front q tail k)
-          → Done graph values found′ j ⊎ ((k : ℕ) × (reads (network m graph) j k ≡ true) × QueuedIn front (q + 1) tail k)
+          → Done graph values found′ j ⊎ ((k : ℕ) × (reads (network m graph) j k ≡ true)
+          × QueuedIn front (q + 1) tail k)
       step s =
           ⊎-elim
           (λ e. inl (now (s .0) (s .1) (rw e at (s .2 .3))))
@@ -241,9 +264,11 @@ pub awaiting-end : (graph fanout values found : List ℕ) (from p : ℕ) → Awa
     → (e : ℕ) → Chain fanout (suc e) from → Done graph values found (e / slots)
 awaiting-end graph fanout values found from p h z e c = ⊎-elim (λ v. v) (λ r. absurd (chain-end r z)) (h e c)
 
-pub awake-end : (m : ℕ) (graph values found front : List ℕ) (q tail : ℕ) → Awake m graph values found front q tail → tail ≤ q
+pub awake-end : (m : ℕ) (graph values found front : List ℕ) (q tail : ℕ) → Awake m graph values found front q tail
+    → tail ≤ q
     → (j : ℕ) → j < m → Done graph values found j
-awake-end m graph values found front q tail h z j l = ⊎-elim (λ v. v) (λ s. absurd (omega (arith, s .2 .1, s .2 .2))) (h j l)
+awake-end m graph values found front q tail h z j l =
+    ⊎-elim (λ v. v) (λ s. absurd (omega (arith, s .2 .1, s .2 .2))) (h j l)
 
 -- ---- values copied
 
@@ -251,7 +276,8 @@ pub copied-none : (found queue : List ℕ) (head : ℕ) (values : List ℕ) → 
 copied-none found queue head values =
     record { long = refl; low = λ p l. refl; each = λ j. inr (λ q. omega (arith, q .1, q .2), refl) }
 
-pub copied-next : {found queue : List ℕ} {head q : ℕ} {values values′ : List ℕ} → Copied found queue head q values values′ → head ≤ q
+pub copied-next : {found queue : List ℕ} {head q : ℕ} {values values′ : List ℕ}
+    → Copied found queue head q values values′ → head ≤ q
     → firstGate + getD queue q 0 < length values
     → Copied found queue head (q + 1) values (set values′ (firstGate + getD queue q 0) (getD found (getD queue q 0) 0))
 copied-next {found} {queue} {head} {q} {values} {values′} h lo l =
@@ -273,7 +299,12 @@ copied-next {found} {queue} {head} {q} {values} {values′} h lo l =
         ⊎ ((QueuedIn queue head (q + 1) j → ⊥) × (getD after (firstGate + j) 0 ≡ getD values (firstGate + j) 0))
 
     new : (j : ℕ) → j ≡ k → Each j
-    new j e = inl ((q, lo, omega arith, sym e), rw e (getD-set-same values′ (firstGate + k) (getD found k 0) 0 (omega (arith, h .long))))
+    new j e =
+        inl (
+          (q, lo, omega arith, sym e),
+          rw e
+              (getD-set-same values′ (firstGate + k) (getD found k 0) 0 (omega (arith, h .long))),
+        )
 
     other : (j : ℕ) → (j ≡ k → ⊥) → Each j
     other j ne =
@@ -320,13 +351,17 @@ module _ {m : ℕ} {graph : List ℕ} (g : Graph m graph) where
   -- what was found is a round
   pub found-is : {values : List ℕ} (found : List ℕ) → Coded values → (j : ℕ) → j < m → Done graph values found j
       → getD found j 0 ≡ code (getD (round b (inputsIn values) (stateIn m values)) j undefined)
-  found-is {values} found c j l d = d ∙ evaluated-at g c j l ∙ ap code (sym (getD-round b (inputsIn values) (stateIn m values) j))
+  found-is {values} found c j l d =
+      d ∙ evaluated-at g c j l ∙ ap code (sym (getD-round b (inputsIn values) (stateIn m values) j))
 
   -- what evaluating gates leaves, if all have their values and `values` has the codes from before
   pub round-from : {values found queue : List ℕ} {tail : ℕ} {found′ queue′ : List ℕ} {end : ℕ} → Coded values
-      → length found ≡ maxGates → length queue ≡ maxGates → ((j : ℕ) → j < m → getD found j 0 ≡ getD values (firstGate + j) 0)
-      → tail ≡ definedFrom 0 found m → ((q : ℕ) → q < tail → getD queue q 0 < m) → UpdatedAll m graph values found queue tail found′ queue′ end
-      → BelowAll (stateIn m values) (round b (inputsIn values) (stateIn m values)) → Round m graph values found′ queue′ tail end
+      → length found ≡ maxGates → length queue ≡ maxGates
+      → ((j : ℕ) → j < m → getD found j 0 ≡ getD values (firstGate + j) 0)
+      → tail ≡ definedFrom 0 found m → ((q : ℕ) → q < tail → getD queue q 0 < m)
+      → UpdatedAll m graph values found queue tail found′ queue′ end
+      → BelowAll (stateIn m values) (round b (inputsIn values) (stateIn m values))
+      → Round m graph values found′ queue′ tail end
   round-from {values} {found} {queue} {tail} {found′} {queue′} {end} c fl ql were many inside u grows =
       record {
         coded = c;
@@ -337,7 +372,8 @@ module _ {m : ℕ} {graph : List ℕ} (g : Graph m graph) where
         told = λ j l. ⊎-elim (λ e. inl (e ∙ were j l)) (λ d. inr (d .1)) (u .updated .each j l);
         inside = λ q l. ⊎-elim (earlier q) (λ lo. u .updated .inside q lo l) (lt-or-le q tail);
         ordered = u .updated .ordered;
-        before = many ∙ defined-same 0 found firstGate values m (λ j l. let z : 0 + j ≡ j = omega arith in rw z (were j l));
+        before =
+            many ∙ defined-same 0 found firstGate values m (λ j l. let z : 0 + j ≡ j = omega arith in rw z (were j l));
         counted = omega (arith, many, u .updated .counted);
       }
     where
@@ -346,7 +382,8 @@ module _ {m : ℕ} {graph : List ℕ} (g : Graph m graph) where
 
   -- ---- the first
 
-  module _ {values : List ℕ} (found : List ℕ) (n : Unsettled values) (none : (j : ℕ) → j < m → getD found j 0 ≡ 2) (fl : length found ≡ maxGates) where
+  module _ {values : List ℕ} (found : List ℕ) (n : Unsettled values) (none : (j : ℕ) → j < m → getD found j 0 ≡ 2)
+      (fl : length found ≡ maxGates) where
     nothing : definedFrom 0 found m ≡ 0
     nothing = none-defined 0 found m (λ j l. let z : 0 + j ≡ j = omega arith in rw z (none j l))
 
@@ -365,15 +402,19 @@ module _ {m : ℕ} {graph : List ℕ} (g : Graph m graph) where
     pub first-state : stateIn m values ≡ replicate m undefined
     unfolding stateIn valueOf
     first-state =
-        ext-getD undefined (stateIn m values) (replicate m undefined) (length-stateIn m values ∙ sym (length-replicate m undefined))
+        ext-getD undefined (stateIn m values) (replicate m undefined)
+        (length-stateIn m values ∙ sym (length-replicate m undefined))
         (λ j l. let below : j < m = rw (length-stateIn m values) at l in
-        state-at m (n .coded) j below ∙ ap valueOf (n .none j (omega (arith, g .few))) ∙ sym (getD-replicate m j undefined undefined below))
+        state-at m (n .coded) j below ∙ ap valueOf (n .none j (omega (arith, g .few)))
+        ∙ sym (getD-replicate m j undefined undefined below))
 
     -- and then a round is made
-    pub round-first : {queue found′ queue′ : List ℕ} {end : ℕ} → length queue ≡ maxGates → UpdatedAll m graph values found queue 0 found′ queue′ end
+    pub round-first : {queue found′ queue′ : List ℕ} {end : ℕ} → length queue ≡ maxGates
+        → UpdatedAll m graph values found queue 0 found′ queue′ end
         → Round m graph values found′ queue′ 0 end
     round-first ql u =
-        round-from (n .coded) fl ql (λ j l. none j l ∙ sym (n .none j (omega (arith, g .few)))) (sym nothing) (λ q l. absurd (omega arith)) u
+        round-from (n .coded) fl ql (λ j l. none j l ∙ sym (n .none j (omega (arith, g .few)))) (sym nothing)
+        (λ q l. absurd (omega arith)) u
         (rw first-state (start-below m (round b (inputsIn values) (replicate m undefined))))
 
   -- ---- a further one
@@ -412,7 +453,8 @@ module _ {m : ℕ} {graph : List ℕ} (g : Graph m graph) where
               let back : firstGate + (p - firstGate) ≡ p = omega arith in
               ⊎-elim
               (λ s. let there : p - firstGate < m = rw (s .0 .3) at (r .inside (s .0 .0) (s .0 .2)) in
-              let e : getD values′ p 0 ≡ gateCode graph values (p - firstGate) = rw back at (s .1) ∙ r .done (p - firstGate) there in
+              let e : getD values′ p 0 ≡ gateCode graph values (p - firstGate) =
+              rw back at (s .1) ∙ r .done (p - firstGate) there in
               rw (e, evaluated-at g (r .coded) (p - firstGate) there) (code-most _))
               (λ s. let e : getD values′ p 0 ≡ getD values p 0 = rw back at (s .1) in rw e (r .coded .most p))
               (c .each (p - firstGate))
@@ -428,12 +470,14 @@ module _ {m : ℕ} {graph : List ℕ} (g : Graph m graph) where
 
       -- the queued gates are still there
       pub copied-ready : CopyReady queue tail values′
-      copied-ready = record { long = copy-ready .long ∙ sym (c .long); queued = copy-ready .queued; inside = copy-ready .inside }
+      copied-ready =
+          record { long = copy-ready .long ∙ sym (c .long); queued = copy-ready .queued; inside = copy-ready .inside }
 
       -- the state is a round further
       pub copied-state : stateIn m values′ ≡ round b x v
       copied-state =
-          ext-getD undefined (stateIn m values′) (round b x v) (length-stateIn m values′ ∙ sym (length-round b x v ∙ network-count m graph))
+          ext-getD undefined (stateIn m values′) (round b x v)
+          (length-stateIn m values′ ∙ sym (length-round b x v ∙ network-count m graph))
           (λ j l. let below : j < m = rw (length-stateIn m values′) at l in
           state-at m copied-coded j below
           ∙ ap valueOf (copied-at j below ∙ found-is found (r .coded) j below (r .done j below))
@@ -458,7 +502,8 @@ module _ {m : ℕ} {graph : List ℕ} (g : Graph m graph) where
 
           go : (a : Value) → evaluated x v (gateOf b j) ≡ a → (getD found j 0 ≡ 2) ⊎ Done graph values′ found j
           go undefined e = inl (was ∙ ap code e)
-          go (val d) e = inr (was ∙ ap code (e ∙ sym (evaluated-mono-all x v v′ (gateOf b j) grown d e)) ∙ sym (code-from j l))
+          go (val d) e =
+              inr (was ∙ ap code (e ∙ sym (evaluated-mono-all x v v′ (gateOf b j) grown d e)) ∙ sym (code-from j l))
 
       -- a gate that reads no gate that changed keeps its value
       pub next-awake : Awake m graph values′ found queue head tail
@@ -467,15 +512,18 @@ module _ {m : ℕ} {graph : List ℕ} (g : Graph m graph) where
           changes : ℕ → Bool
           changes k = reads b j k && not (eqb (getD found k 0) (getD values (firstGate + k) 0))
 
-          reading : any changes (upTo m) ≡ true → Done graph values′ found j ⊎ ((k : ℕ) × (reads b j k ≡ true) × QueuedIn queue head tail k)
+          reading : any changes (upTo m) ≡ true
+              → Done graph values′ found j ⊎ ((k : ℕ) × (reads b j k ≡ true) × QueuedIn queue head tail k)
           reading h =
               let f = any-below changes m h in
               let k = f .0 in
-              let differs : eqb (getD found k 0) (getD values (firstGate + k) 0) ≡ false = not-true _ (and-right (reads b j k) _ (f .2)) in
+              let differs : eqb (getD found k 0) (getD values (firstGate + k) 0) ≡ false =
+              not-true _ (and-right (reads b j k) _ (f .2)) in
               inr (
                 k,
                 and-left (reads b j k) _ (f .2),
-                ⊎-elim (λ e. absurd (eqb-false (getD found k 0) (getD values (firstGate + k) 0) differs e)) (λ q. q) (r .told k (f .1)),
+                ⊎-elim (λ e. absurd (eqb-false (getD found k 0) (getD values (firstGate + k) 0) differs e)) (λ q. q)
+                    (r .told k (f .1)),
               )
 
           same-code : any changes (upTo m) ≡ false → (k : ℕ) → k < m → reads b j k ≡ true
@@ -489,7 +537,8 @@ module _ {m : ℕ} {graph : List ℕ} (g : Graph m graph) where
               (rw (ne-eqb (getD found k 0) (getD values (firstGate + k) 0) ne) refl)))
               h
 
-          resting : any changes (upTo m) ≡ false → Done graph values′ found j ⊎ ((k : ℕ) × (reads b j k ≡ true) × QueuedIn queue head tail k)
+          resting : any changes (upTo m) ≡ false
+              → Done graph values′ found j ⊎ ((k : ℕ) × (reads b j k ≡ true) × QueuedIn queue head tail k)
           resting h =
               inl
               (r .done j l ∙ evaluated-at g (r .coded) j l
@@ -514,12 +563,14 @@ module _ {m : ℕ} {graph : List ℕ} (g : Graph m graph) where
           }
 
       -- and then a round more is made
-      pub round-next : {found′ queue′ : List ℕ} {end : ℕ} → UpdatedAll m graph values′ found queue tail found′ queue′ end
+      pub round-next : {found′ queue′ : List ℕ} {end : ℕ}
+          → UpdatedAll m graph values′ found queue tail found′ queue′ end
           → Turned m graph values values′ found′ queue′ tail end
       round-next u =
           record {
             made =
-                round-from copied-coded (r .foundRoom) (r .queueRoom) (λ j l. sym (copied-at j l)) (r .counted) (r .inside) u
+                round-from copied-coded (r .foundRoom) (r .queueRoom) (λ j l. sym (copied-at j l)) (r .counted)
+                (r .inside) u
                 (rw (same-inputs, copied-state) (round-mono b x v (round b x v) (r .grows)));
             inputs = same-inputs;
             state = copied-state;

@@ -47,14 +47,16 @@ pub record UpdateReady (m : ℕ) (graph values found queue : List ℕ) (end : �
   pub counted : end ≡ definedFrom 0 found m
 
 -- some gates were evaluated: those that changed are queued, from `end` to `end′`
-pub record Updated (m : ℕ) (graph values found queue : List ℕ) (end : ℕ) (found′ queue′ : List ℕ) (end′ : ℕ) : Type 0 where
-  pub foundLong : length found′ ≡ length found
-  pub queueLong : length queue′ ≡ length queue
-  pub each : (j : ℕ) → j < m → (getD found′ j 0 ≡ getD found j 0) ⊎ (Done graph values found′ j × QueuedIn queue′ end end′ j)
-  pub front : (q : ℕ) → q < end → getD queue′ q 0 ≡ getD queue q 0
-  pub inside : (q : ℕ) → end ≤ q → q < end′ → getD queue′ q 0 < m
-  pub ordered : end ≤ end′
-  pub counted : end′ + definedFrom 0 found m ≡ end + definedFrom 0 found′ m
+pub record Updated (m : ℕ) (graph values found queue : List ℕ) (end : ℕ) (found′ queue′ : List ℕ) (end′ : ℕ) : Type 0
+  where
+    pub foundLong : length found′ ≡ length found
+    pub queueLong : length queue′ ≡ length queue
+    pub each : (j : ℕ) → j < m → (getD found′ j 0 ≡ getD found j 0)
+        ⊎ (Done graph values found′ j × QueuedIn queue′ end end′ j)
+    pub front : (q : ℕ) → q < end → getD queue′ q 0 ≡ getD queue q 0
+    pub inside : (q : ℕ) → end ≤ q → q < end′ → getD queue′ q 0 < m
+    pub ordered : end ≤ end′
+    pub counted : end′ + definedFrom 0 found m ≡ end + definedFrom 0 found′ m
 
 -- a list of the fan-out whose slots are those of gates of the graph
 pub record ListReady (m : ℕ) (fanout : List ℕ) (from : ℕ) : Type 0 where
@@ -62,24 +64,28 @@ pub record ListReady (m : ℕ) (fanout : List ℕ) (from : ℕ) : Type 0 where
   pub starts : from ≤ slots * m
 
 -- gate j was evaluated, and queued if it changed
-pub record UpdatedOne (m : ℕ) (graph values found queue : List ℕ) (end j : ℕ) (found′ queue′ : List ℕ) (end′ : ℕ) : Type 0 where
+pub record UpdatedOne (m : ℕ) (graph values found queue : List ℕ) (end j : ℕ) (found′ queue′ : List ℕ) (end′ : ℕ) : Type
+    0 where
   pub updated : Updated m graph values found queue end found′ queue′ end′
   pub done : Done graph values found′ j
 
 -- the gates in a list of the fan-out were evaluated, and queued where they changed
-pub record UpdatedList (m : ℕ) (graph fanout values found queue : List ℕ) (end from : ℕ) (found′ queue′ : List ℕ) (end′ : ℕ) : Type 0 where
+pub record UpdatedList (m : ℕ) (graph fanout values found queue : List ℕ) (end from : ℕ) (found′ queue′ : List ℕ)
+    (end′ : ℕ) : Type 0 where
   pub updated : Updated m graph values found queue end found′ queue′ end′
   pub done : (e : ℕ) → Chain fanout (suc e) from → Done graph values found′ (e / slots)
 
 -- all gates were evaluated, and queued where they changed
-pub record UpdatedAll (m : ℕ) (graph values found queue : List ℕ) (end : ℕ) (found′ queue′ : List ℕ) (end′ : ℕ) : Type 0 where
-  pub updated : Updated m graph values found queue end found′ queue′ end′
-  pub done : (j : ℕ) → j < m → Done graph values found′ j
+pub record UpdatedAll (m : ℕ) (graph values found queue : List ℕ) (end : ℕ) (found′ queue′ : List ℕ) (end′ : ℕ) : Type 0
+  where
+    pub updated : Updated m graph values found queue end found′ queue′ end′
+    pub done : (j : ℕ) → j < m → Done graph values found′ j
 
 -- gate j has the value that is evaluated from `values`, or reads a gate that is queued
 abbrev pub Awake : ℕ → List ℕ → List ℕ → List ℕ → List ℕ → ℕ → ℕ → Type 0
 Awake m graph values found queue head tail =
-    (j : ℕ) → j < m → Done graph values found j ⊎ ((k : ℕ) × (reads (network m graph) j k ≡ true) × QueuedIn queue head tail k)
+    (j : ℕ) → j < m → Done graph values found j
+    ⊎ ((k : ℕ) × (reads (network m graph) j k ≡ true) × QueuedIn queue head tail k)
 
 -- the queued gates are gates of the graph, and there is room for their values
 pub record CopyReady (queue : List ℕ) (tail : ℕ) (values : List ℕ) : Type 0 where

@@ -1,8 +1,10 @@
 -- The table of all gates: what stands at each index, and which entry a gate reads.
 --   table-is                an array that passes the test is the table
 --   table-at                what the table holds at an index
---   operand-code-le, operand-code-at, operand-code-past   the code of an operand: its bound, a present one's, an absent one's
---   gate-entry              the entry of a gate is its value by the three-valued rule, over the kind and the operand count
+-- operand-code-le, operand-code-at, operand-code-past   the code of an operand: its bound, a present one's, an absent
+-- one's
+-- gate-entry              the entry of a gate is its value by the three-valued rule, over the kind and the operand
+-- count
 --   row-entry, not-entry    the same by the row of `and`, `or`, `nand`, `nor`, and by the remainder for `not`
 -- Assumes nothing.
 use mathlib.Core.Path.{_≡_, refl, sym, ap, _∙_}
@@ -21,7 +23,8 @@ use Rattle.prelude.proofs.Tests.{and-left, and-right, eq-or-ne}
 use Rattle.prelude.proofs.Tab.{length-tab, getD-tab, map-tab}
 use Rattle.netlist.specs.Values.{Value, undefined, val, code}
 use Rattle.netlist.specs.Kinds.{rowOf, isNot, isXor, isXnor, fewestOperands, mostOperands, arityFits, ruled, gateValue}
-use Rattle.netlist.specs.GateTable.{absent, tableIndex, kindAt, codesAt, tableSize, isPresent, hasGap, presentValues, entryOf, tableEntry}
+use Rattle.netlist.specs.GateTable.{absent, tableIndex, kindAt, codesAt, tableSize, isPresent, hasGap, presentValues}
+use Rattle.netlist.specs.GateTable.{entryOf, tableEntry}
 use Rattle.netlist.specs.GateTable.{gateTable, operandCode, gateIndex}
 use Rattle.words_layout.proofs.KindLaws.{not-counts, other-counts}
 use Rattle.theory_fixpoint.proofs.Values.{values-codes}
@@ -70,7 +73,8 @@ module _ (f : ℕ → Value) (count p : ℕ) where
   pub operand-code-past : count ≤ p → operandCode (tab f count) p ≡ absent
   unfolding operandCode
   operand-code-past h =
-      rw (map-tab code f count) (List·getD-eq-default (tab (λ i. code (f i)) count) absent (rw (length-tab (λ i. code (f i)) count) h))
+      rw (map-tab code f count) (List·getD-eq-default (tab (λ i. code (f i)) count) absent
+      (rw (length-tab (λ i. code (f i)) count) h))
 
 -- ---- from a gate to its entry
 
@@ -80,7 +84,8 @@ padded zero cs = []
 padded (suc n) [] = absent ∷ padded n []
 padded (suc n) (c ∷ cs) = c ∷ padded n cs
 
-four-padded : (cs : List ℕ) → getD cs 0 absent ∷ getD cs 1 absent ∷ getD cs 2 absent ∷ getD cs 3 absent ∷ [] ≡ padded 4 cs
+four-padded : (cs : List ℕ) → getD cs 0 absent ∷ getD cs 1 absent ∷ getD cs 2 absent ∷ getD cs 3 absent ∷ []
+    ≡ padded 4 cs
 unfolding padded
 four-padded [] = refl
 four-padded (a ∷ []) = refl
@@ -160,9 +165,11 @@ module _ (k : ℕ) (vs : List Value) (l : k ≤ 6) (h : arityFits k (length vs) 
   gate-entry =
       let cs = map code vs in
       rw (
-        index-kind k (getD cs 0 absent) (getD cs 1 absent) (getD cs 2 absent) (getD cs 3 absent) (operand-code-le vs 0) (operand-code-le vs 1)
+        index-kind k (getD cs 0 absent) (getD cs 1 absent) (getD cs 2 absent) (getD cs 3 absent) (operand-code-le vs 0)
+            (operand-code-le vs 1)
             (operand-code-le vs 2) (operand-code-le vs 3),
-        index-codes k (getD cs 0 absent) (getD cs 1 absent) (getD cs 2 absent) (getD cs 3 absent) (operand-code-le vs 0) (operand-code-le vs 1)
+        index-codes k (getD cs 0 absent) (getD cs 1 absent) (getD cs 2 absent) (getD cs 3 absent) (operand-code-le vs 0)
+            (operand-code-le vs 1)
             (operand-code-le vs 2) (operand-code-le vs 3),
         four-padded cs,
       )

@@ -1,4 +1,5 @@
--- What an output of a block shows, from the values of what stands at each place. Cited by the sheet and the bench. Assumes nothing.
+-- What an output of a block shows, from the values of what stands at each place. Cited by the sheet and the bench.
+-- Assumes nothing.
 --   shown-ready   the word behind an output's port names a place
 --   shown-code    what stands there is what the output shows
 use mathlib.Core.Path.{_≡_, refl, sym, ap, _∙_}
@@ -11,7 +12,8 @@ use lib.ListN.{getD}
 use Rattle.prelude.proofs.Tests.{lt-or-le}
 use Rattle.netlist.specs.Values.{Value, code, valueOf}
 use Rattle.netlist.specs.Netlist.{Output}
-use Rattle.netlist.specs.StoredBlock.{nameSize, outputSize, neversAt, gatesAt, outputsAt, outputAt, operandOf, decode, isMalformed}
+use Rattle.netlist.specs.StoredBlock.{nameSize, outputSize, neversAt, gatesAt, outputsAt, outputAt, operandOf, decode}
+use Rattle.netlist.specs.StoredBlock.{isMalformed}
 use Rattle.netlist.specs.Rounds.{operandValue, outputValue}
 use Rattle.theory_encoding.proofs.Readers.{whole-parts, whole-node}
 use Rattle.theory_encoding.proofs.Decoded.{decode-output}
@@ -56,12 +58,14 @@ module _ (ws : List ℕ) (whole : isMalformed ws ≡ false) (o : ℕ) (l : o < g
       }
 
   pub shown-code : {values : List ℕ} (d : Output) → Coded values
-      → getD values (placeOf (operandOf n word)) 0 ≡ code (outputValue (inputsIn values) (stateIn m values) (getD (decode ws .outputs) o d))
+      → getD values (placeOf (operandOf n word)) 0
+      ≡ code (outputValue (inputsIn values) (stateIn m values) (getD (decode ws .outputs) o d))
   unfolding outputValue outputAt
   shown-code {values} d c =
       let parts = whole-parts ws whole in
       let p = placeOf (operandOf n word) in
       let there : operandValue (inputsIn values) (stateIn m values) (operandOf n word) ≡ valueOf (getD values p 0) =
-      rw (operandAt-word n word (parts .fewInputs) (omega (arith, whole-node ws whole o l, parts .fewInputs, parts .fewGates))) at
+      rw (operandAt-word n word (parts .fewInputs)
+      (omega (arith, whole-node ws whole o l, parts .fewInputs, parts .fewGates))) at
       (place-value m c p place-there) in
       sym (code-same (getD values p 0) (c .most p)) ∙ ap code (sym there) ∙ rw (decode-output ws o d l) refl

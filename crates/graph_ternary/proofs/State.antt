@@ -1,4 +1,5 @@
--- The values of what stands at each place, against the definitions' lists of inputs and gates. Cited by whoever evaluates a gate of a graph.
+-- The values of what stands at each place, against the definitions' lists of inputs and gates. Cited by whoever
+-- evaluates a gate of a graph.
 --   place-value    what stands at a place
 --   evaluated-at   a gate's value from the inputs and the state
 --   legal-gate     every gate of a graph can be evaluated
@@ -20,18 +21,21 @@ use Rattle.netlist.specs.Kinds.{gateValue}
 use Rattle.netlist.specs.Netlist.{Operand, input, gate, constant, gateOf}
 use Rattle.netlist.specs.Rounds.{operandValue, evaluated}
 use Rattle.graph_gates.specs.Places.{firstInput, firstGate, placeCount, operandAt}
-use Rattle.graph_gates.specs.Graph.{nodeSize, slots, operationWord, kindAt, countAt, placeAt, gateAt, gatesIn, network, Graph}
+use Rattle.graph_gates.specs.Graph.{nodeSize, slots, operationWord, kindAt, countAt, placeAt, gateAt, gatesIn, network}
+use Rattle.graph_gates.specs.Graph.{Graph}
 use Rattle.words_layout.proofs.KindLaws.{kind-last}
 use Rattle.graph_gates.proofs.Rules.{controlling-small, forced-small}
 use Rattle.graph_gates.proofs.Chains.{count-most}
 use Rattle.graph_ternary.specs.State.{Coded, inputsIn, stateIn, LegalGate, slotValue, gateCode}
 
 module _ (m : ℕ) {values : List ℕ} (c : Coded values) where
-  pub place-value : (p : ℕ) → p < firstGate + m → operandValue (inputsIn values) (stateIn m values) (operandAt p) ≡ valueOf (getD values p 0)
+  pub place-value : (p : ℕ) → p < firstGate + m
+      → operandValue (inputsIn values) (stateIn m values) (operandAt p) ≡ valueOf (getD values p 0)
   unfolding operandAt operandValue inputsIn stateIn valueOf
   place-value p l =
       ⊎-elim zero-place
-      (λ ne. ⊎-elim one-place (λ nf. ⊎-elim (input-place ne nf) (gate-place ne nf) (lt-or-le p firstGate)) (eq-or-ne p 1))
+      (λ ne. ⊎-elim one-place (λ nf. ⊎-elim (input-place ne nf) (gate-place ne nf) (lt-or-le p firstGate))
+      (eq-or-ne p 1))
       (eq-or-ne p 0)
     where
       zero-place : p ≡ 0 → operandValue (inputsIn values) (stateIn m values) (operandAt p) ≡ valueOf (getD values p 0)
@@ -40,17 +44,21 @@ module _ (m : ℕ) {values : List ℕ} (c : Coded values) where
       one-place : p ≡ 1 → operandValue (inputsIn values) (stateIn m values) (operandAt p) ≡ valueOf (getD values p 0)
       one-place e = rw (e, c .one) refl
 
-      input-place : (p ≡ 0 → ⊥) → (p ≡ 1 → ⊥) → p < firstGate → operandValue (inputsIn values) (stateIn m values) (operandAt p) ≡ valueOf (getD values p 0)
+      input-place : (p ≡ 0 → ⊥) → (p ≡ 1 → ⊥) → p < firstGate
+          → operandValue (inputsIn values) (stateIn m values) (operandAt p) ≡ valueOf (getD values p 0)
       input-place ne nf h =
           let back : firstInput + (p - firstInput) ≡ p = omega arith in
           rw (ne-eqb p 0 ne, ne-eqb p 1 nf, lt-ltb p firstGate h)
-          (getD-tab (λ i. valueOf (getD values (firstInput + i) 0)) maxInputs (p - firstInput) undefined (omega arith) ∙ rw back refl)
+          (getD-tab (λ i. valueOf (getD values (firstInput + i) 0)) maxInputs (p - firstInput) undefined (omega arith)
+          ∙ rw back refl)
 
-      gate-place : (p ≡ 0 → ⊥) → (p ≡ 1 → ⊥) → firstGate ≤ p → operandValue (inputsIn values) (stateIn m values) (operandAt p) ≡ valueOf (getD values p 0)
+      gate-place : (p ≡ 0 → ⊥) → (p ≡ 1 → ⊥) → firstGate ≤ p
+          → operandValue (inputsIn values) (stateIn m values) (operandAt p) ≡ valueOf (getD values p 0)
       gate-place ne nf h =
           let back : firstGate + (p - firstGate) ≡ p = omega arith in
           rw (ne-eqb p 0 ne, ne-eqb p 1 nf, le-ltb p firstGate h)
-          (getD-tab (λ j. valueOf (getD values (firstGate + j) 0)) m (p - firstGate) undefined (omega arith) ∙ rw back refl)
+          (getD-tab (λ j. valueOf (getD values (firstGate + j) 0)) m (p - firstGate) undefined (omega arith)
+          ∙ rw back refl)
 
 module _ {m : ℕ} {graph : List ℕ} (g : Graph m graph) where
   pub gate-of : (j : ℕ) → j < m → gateOf (network m graph) j ≡ gateAt graph j
@@ -62,7 +70,8 @@ module _ {m : ℕ} {graph : List ℕ} (g : Graph m graph) where
   operation-small j l =
       let n = g .node j l in
       let k = kindAt graph j in
-      let many : length (gateAt graph j .operands) ≡ countAt graph j = length-tab (λ i. operandAt (placeAt graph j i)) (countAt graph j) in
+      let many : length (gateAt graph j .operands) ≡ countAt graph j =
+      length-tab (λ i. operandAt (placeAt graph j i)) (countAt graph j) in
       omega (
         arith,
         n .operation,
@@ -92,8 +101,10 @@ module _ {m : ℕ} {graph : List ℕ} (g : Graph m graph) where
       let few = count-most (kindAt graph j) (countAt graph j) (n .kind) (n .count) in
       let same : tab (slotValue graph values j) (countAt graph j)
       ≡ tab (λ i. operandValue (inputsIn values) (stateIn m values) (operandAt (placeAt graph j i))) (countAt graph j) =
-      tab-ext (slotValue graph values j) (λ i. operandValue (inputsIn values) (stateIn m values) (operandAt (placeAt graph j i))) (countAt graph j)
+      tab-ext (slotValue graph values j) (λ i. operandValue (inputsIn values) (stateIn m values)
+      (operandAt (placeAt graph j i))) (countAt graph j)
       (λ i il. sym (place-value m c (placeAt graph j i) (n .inside i (omega arith)))) in
       rw (gate-of j l)
       (ap (λ (vs : List Value). code (gateValue (kindAt graph j) vs))
-      (same ∙ sym (map-tab (operandValue (inputsIn values) (stateIn m values)) (λ i. operandAt (placeAt graph j i)) (countAt graph j))))
+      (same ∙ sym (map-tab (operandValue (inputsIn values) (stateIn m values)) (λ i. operandAt (placeAt graph j i))
+      (countAt graph j))))

@@ -1,4 +1,5 @@
--- What is brought over is the block as it was, without never lines, and every answer on it is the one that was given before there were any.
+-- What is brought over is the block as it was, without never lines, and every answer on it is the one that was given
+-- before there were any.
 -- Assumes nothing.
 --   brought-back            the words of today hold the block whose old words they were, whole and without never lines
 --   verdict-before, lowest-before   Verdict's count and detail: over all settings, as before
@@ -17,13 +18,15 @@ use Rattle.prelude.specs.Lists.{all, upTo, countBelow, least}
 use Rattle.netlist.specs.Assignments.{Assignment, agrees}
 use Rattle.netlist.specs.Netlist.{Block, inputCount}
 use Rattle.netlist.specs.StoredBlock.{encode, decode, isMalformed}
-use Rattle.netlist.specs.Rounds.{isSettled, isExcluded, isCounted, isSoundAt, settingCount, settledSettings, lowestUnsettled}
+use Rattle.netlist.specs.Rounds.{isSettled, isExcluded, isCounted, isSoundAt, settingCount, settledSettings}
+use Rattle.netlist.specs.Rounds.{lowestUnsettled}
 use Rattle.netlist.specs.Cover.{isSoundUnder}
 use Rattle.netlist.specs.Rendering.{rendering}
 use Rattle.netlist.specs.Syntax.{Tree}
 use Rattle.netlist.specs.Bring.{maxInputsBefore, encodeBefore, brought, isMalformedBefore}
 use Rattle.theory_encoding.proofs.Decoded.{decode-inputCount}
-use Rattle.op_bring.proofs.Words.{brought-nevers, encode-brought, whole-before, whole-long, word-before, torn-brought, torn-inputs}
+use Rattle.op_bring.proofs.Words.{brought-nevers, encode-brought, whole-before, whole-long, word-before}
+use Rattle.op_bring.proofs.Words.{torn-brought, torn-inputs}
 
 pub record AsBefore (ws : List ℕ) : Type 0 where
   pub whole : isMalformed (brought ws) ≡ false
@@ -36,7 +39,9 @@ brought-back ws h =
     let long = whole-long ws h in
     let (few, words) = whole-before ws h in
     record {
-      whole = sym (torn-brought ws long (rw (decode-inputCount (brought ws) ∙ sym (word-before ws 0 long (omega arith))) at few)) ∙ h;
+      whole =
+          sym (torn-brought ws long (rw (decode-inputCount (brought ws)
+          ∙ sym (word-before ws 0 long (omega arith))) at few)) ∙ h;
       noLines = brought-nevers ws long;
       words = words;
     }
@@ -64,9 +69,12 @@ module _ (b : Block) (e : b .nevers ≡ []) where
   unfolding lowestUnsettled
   lowest-before = ap (λ (p : ℕ → Bool). least (λ s. not (p s)) (settingCount b)) (fun-ext all-sound)
 
-  pub sound-before : (a : Assignment) → isSoundUnder b a ≡ all (λ s. not (agrees (inputCount b) a s) || isSettled b s) (upTo (settingCount b))
+  pub sound-before : (a : Assignment) → isSoundUnder b a
+      ≡ all (λ s. not (agrees (inputCount b) a s) || isSettled b s) (upTo (settingCount b))
   unfolding isSoundUnder
-  sound-before a = ap (λ (p : ℕ → Bool). all (λ s. not (agrees (inputCount b) a s) || p s) (upTo (settingCount b))) (fun-ext all-sound)
+  sound-before a =
+      ap (λ (p : ℕ → Bool). all (λ s. not (agrees (inputCount b) a s) || p s) (upTo (settingCount b)))
+      (fun-ext all-sound)
 
   pub rendered-before : encode (rendering b) ≡ brought (encodeBefore (rendering b))
   unfolding rendering
@@ -80,5 +88,6 @@ unfolding encodeBefore
 torn-before b many = torn-inputs (encodeBefore b) (omega arith) many
 
 -- and the limit of before refuses its text: this is the first test of 3 with that limit
-pub crowded-before : (t : Tree) → maxInputsBefore < length (t .inputs) → leb (length (t .inputs)) maxInputsBefore ≡ false
+pub crowded-before : (t : Tree) → maxInputsBefore < length (t .inputs)
+    → leb (length (t .inputs)) maxInputsBefore ≡ false
 crowded-before t many = lt-leb (length (t .inputs)) maxInputsBefore many

@@ -55,7 +55,8 @@ word-four (a ∷ []) l = absurd (omega arith)
 word-four (a ∷ b ∷ []) l = absurd (omega arith)
 word-four (a ∷ b ∷ c ∷ ws) l = refl
 
-word-behind : (ws : List ℕ) (q : ℕ) → 3 ≤ length ws → getD ws (suc (suc (suc q))) 0 ≡ getD (brought ws) (suc (suc (suc (suc q)))) 0
+word-behind : (ws : List ℕ) (q : ℕ) → 3 ≤ length ws
+    → getD ws (suc (suc (suc q))) 0 ≡ getD (brought ws) (suc (suc (suc (suc q)))) 0
 unfolding brought
 word-behind [] q l = absurd (omega arith)
 word-behind (a ∷ []) q l = absurd (omega arith)
@@ -70,7 +71,8 @@ word-after ws (suc (suc (suc zero))) l k = absurd (omega arith)
 word-after ws (suc (suc (suc (suc q)))) l k =
     let e : suc (suc (suc (suc q))) - 1 ≡ suc (suc (suc q)) = omega arith in rw e (word-behind ws q l)
 
-pub brought-from : (ws : List ℕ) (count : ℕ) → 3 ≤ length ws → count ≡ length ws + 1 → tab (λ p. getD (brought ws) p 0) count ≡ brought ws
+pub brought-from : (ws : List ℕ) (count : ℕ) → 3 ≤ length ws → count ≡ length ws + 1
+    → tab (λ p. getD (brought ws) p 0) count ≡ brought ws
 brought-from ws count l e = tab-getD 0 (brought ws) count (length-brought ws l ∙ sym e)
 
 -- a longer list over a shorter one
@@ -124,18 +126,22 @@ unfolding encodeBefore
 long-before b = omega arith
 
 -- the words are the old words of their block exactly when those brought over are its words of today
-same-brought : (ws : List ℕ) → 3 ≤ length ws → same (encodeBefore (blockOf ws)) ws ≡ same (encode (blockOf ws)) (brought ws)
+same-brought : (ws : List ℕ) → 3 ≤ length ws
+    → same (encodeBefore (blockOf ws)) ws ≡ same (encode (blockOf ws)) (brought ws)
 same-brought ws l =
     same-test (same (encodeBefore (blockOf ws)) ws) (same (encode (blockOf ws)) (brought ws))
     (λ h. eq-same _ _ (encode-brought (blockOf ws) (brought-nevers ws l) ∙ ap brought (same-eq _ _ h)))
     (λ h. eq-same _ _
-    (brought-same (encodeBefore (blockOf ws)) ws (long-before (blockOf ws)) l (sym (encode-brought (blockOf ws) (brought-nevers ws l)) ∙ same-eq _ _ h)))
+    (brought-same (encodeBefore (blockOf ws)) ws (long-before (blockOf ws)) l
+    (sym (encode-brought (blockOf ws) (brought-nevers ws l)) ∙ same-eq _ _ h)))
 
 -- what is left of the old rules
-pub torn-brought : (ws : List ℕ) → 3 ≤ length ws → getD ws 0 0 ≤ maxInputsBefore → isMalformedBefore ws ≡ isMalformed (brought ws)
+pub torn-brought : (ws : List ℕ) → 3 ≤ length ws → getD ws 0 0 ≤ maxInputsBefore
+    → isMalformedBefore ws ≡ isMalformed (brought ws)
 unfolding isMalformedBefore isMalformed
 torn-brought ws l few =
-    let n : inputCount (blockOf ws) ≡ getD ws 0 0 = decode-inputCount (brought ws) ∙ sym (word-before ws 0 l (omega arith)) in
+    let n : inputCount (blockOf ws) ≡ getD ws 0 0 =
+    decode-inputCount (brought ws) ∙ sym (word-before ws 0 l (omega arith)) in
     rw (n, le-leb (getD ws 0 0) maxInputsBefore few, same-brought ws l) refl
 
 -- ---- what they refuse at once
@@ -148,27 +154,38 @@ torn-when ws = go (isMalformedBefore ws)
     go false h = absurd (h refl)
 
 -- the parts of the old rules
-pub whole-before : (ws : List ℕ) → isMalformedBefore ws ≡ false → (inputCount (blockOf ws) ≤ maxInputsBefore) × (encodeBefore (blockOf ws) ≡ ws)
+pub whole-before : (ws : List ℕ) → isMalformedBefore ws ≡ false
+    → (inputCount (blockOf ws) ≤ maxInputsBefore) × (encodeBefore (blockOf ws) ≡ ws)
 unfolding isMalformedBefore
 whole-before ws h =
-    let all = not-false (leb (inputCount (blockOf ws)) maxInputsBefore && isWellFormed (blockOf ws) && same (encodeBefore (blockOf ws)) ws) h in (
+    let all = not-false (leb (inputCount (blockOf ws)) maxInputsBefore && isWellFormed (blockOf ws)
+    && same (encodeBefore (blockOf ws)) ws) h in (
       leb-true _ _ (and-left (leb (inputCount (blockOf ws)) maxInputsBefore) (isWellFormed (blockOf ws))
-          (and-left (leb (inputCount (blockOf ws)) maxInputsBefore && isWellFormed (blockOf ws)) (same (encodeBefore (blockOf ws)) ws) all)),
-      same-eq _ _ (and-right (leb (inputCount (blockOf ws)) maxInputsBefore && isWellFormed (blockOf ws)) (same (encodeBefore (blockOf ws)) ws) all),
+          (and-left (leb (inputCount (blockOf ws)) maxInputsBefore && isWellFormed (blockOf ws))
+          (same (encodeBefore (blockOf ws)) ws) all)),
+      same-eq _ _ (and-right (leb (inputCount (blockOf ws)) maxInputsBefore && isWellFormed (blockOf ws))
+          (same (encodeBefore (blockOf ws)) ws) all),
     )
 
 pub torn-short : (ws : List ℕ) → length ws < 3 → isMalformedBefore ws ≡ true
 torn-short ws l =
-    torn-when ws (λ h. let long : 3 ≤ length ws = subst (λ (v : List ℕ). 3 ≤ length v) (whole-before ws h .1) (long-before (blockOf ws)) in omega arith)
+    torn-when ws (λ h. let long : 3 ≤ length ws = subst (λ (v : List ℕ). 3 ≤ length v) (whole-before ws h .1)
+    (long-before (blockOf ws)) in omega arith)
 
 pub torn-inputs : (ws : List ℕ) → 3 ≤ length ws → maxInputsBefore < getD ws 0 0 → isMalformedBefore ws ≡ true
 torn-inputs ws l many =
-    torn-when ws (λ h. omega (arith, whole-before ws h .0, decode-inputCount (brought ws), word-before ws 0 l (omega arith)))
+    torn-when ws (λ h. omega (
+      arith,
+      whole-before ws h .0,
+      decode-inputCount (brought ws),
+      word-before ws 0 l (omega arith),
+    ))
 
 pub torn-long : (ws : List ℕ) → 3 ≤ length ws → maxBlock ≤ length ws → isMalformedBefore ws ≡ true
 torn-long ws l many =
     torn-when ws
-    (λ h. let few = rw (decode-inputCount (brought ws) ∙ sym (word-before ws 0 l (omega arith))) at (whole-before ws h .0) in
+    (λ h. let few = rw (decode-inputCount (brought ws)
+    ∙ sym (word-before ws 0 l (omega arith))) at (whole-before ws h .0) in
     omega (arith, whole-longest (brought ws) (sym (torn-brought ws l few) ∙ h), length-brought ws l))
 
 -- words that the old rules let through are at least three
@@ -177,7 +194,8 @@ whole-long ws h = subst (λ (v : List ℕ). 3 ≤ length v) (whole-before ws h .
 
 -- ---- the chain of conditions: from 6 on, and from 11 on
 
-pub bring-start : (ws : List ℕ) (room : ℕ) → bring ws room ≡ inRoom room (refuseIf (isMalformedBefore ws) MalformedBlock (counted (brought ws)))
+pub bring-start : (ws : List ℕ) (room : ℕ)
+    → bring ws room ≡ inRoom room (refuseIf (isMalformedBefore ws) MalformedBlock (counted (brought ws)))
 unfolding bring bringWords
 bring-start ws room = refl
 

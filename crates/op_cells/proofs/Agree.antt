@@ -43,7 +43,8 @@ module _ (setting found : List ℕ) (bits : Bits setting) (more : Bits found) wh
   operand-most (constant true) = omega arith
 
   -- the bit of an operand that is there stands for its value
-  operand-agrees : (b : Block) → length setting ≡ inputCount b → (o : Operand) → isOperand b o ≡ true → isEarlier (length found) o ≡ true
+  operand-agrees : (b : Block) → length setting ≡ inputCount b → (o : Operand) → isOperand b o ≡ true
+      → isEarlier (length found) o ≡ true
       → val (eqb (operandBit setting found o) 1) ≡ operandValue (map valueOf setting) (map valueOf found) o
   unfolding operandBit operandValue isOperand isNode isEarlier
   operand-agrees b e (input i) t u = value-read setting bits i (rw e (ltb-true i (inputCount b) t))
@@ -83,15 +84,18 @@ module _ (b : Block) (setting : List ℕ) (long : length setting ≡ inputCount 
         tab-ext (λ i. val (eqb (bit place i) 1)) (λ i. value (operandFor g i)) count
         (λ i l.
         let few : i < 4 = omega (arith, arity-four (g .kind) count (fits-arity b g (ready .fits))) in
-        ap (λ (v : ℕ). val (eqb v 1)) (place-bit _ _ _ _ (most 0) (most 1) (most 2) (most 3) i few ∙ getD-tab operand 4 i 0 few)
-        ∙ operand-agrees setting found bits more b long (operandFor g i) (operand-there b g (ready .fits) i) (ready .earlier i))
+        ap (λ (v : ℕ). val (eqb v 1)) (place-bit _ _ _ _ (most 0) (most 1) (most 2) (most 3) i few
+        ∙ getD-tab operand 4 i 0 few)
+        ∙ operand-agrees setting found bits more b long (operandFor g i) (operand-there b g (ready .fits) i)
+        (ready .earlier i))
         ∙ sym (map-tab value (operandFor g) count)
         ∙ ap (map value) (tab-getD (constant false) (g .operands) count refl)
 
     pub gate-agrees : cellValue setting found (cellFor g) ≡ code (evaluated x (map valueOf found) g)
     unfolding cellValue cellFor truthBit evaluated
     gate-agrees =
-        truth-bit (g .kind) count place (fits-kind b g (ready .fits)) (fits-arity b g (ready .fits)) (place-low _ _ _ _ (most 0) (most 1) (most 2) (most 3))
+        truth-bit (g .kind) count place (fits-kind b g (ready .fits)) (fits-arity b g (ready .fits))
+        (place-low _ _ _ _ (most 0) (most 1) (most 2) (most 3))
         ∙ ap (λ (vs : List Value). code (gateValue (g .kind) vs)) values-chosen
 
   gate-bits : (found : List ℕ) → Bits found → (g : Gate) → Bits (found ++ (cellValue setting found (cellFor g) ∷ []))
@@ -100,7 +104,8 @@ module _ (b : Block) (setting : List ℕ) (long : length setting ≡ inputCount 
 
   -- ---- all cells
 
-  run-sweep : (gs : List Gate) (found : List ℕ) → Bits found → ((i : ℕ) → i < length gs → ReadyAt b (length found + i) (getD gs i noGate))
+  run-sweep : (gs : List Gate) (found : List ℕ) → Bits found
+      → ((i : ℕ) → i < length gs → ReadyAt b (length found + i) (getD gs i noGate))
       → runFrom setting found (map cellFor gs) ≡ map code (sweepFrom x (map valueOf found) gs)
   unfolding runFrom sweepFrom
   run-sweep [] found more ready = codes-of found more
@@ -109,19 +114,24 @@ module _ (b : Block) (setting : List ℕ) (long : length setting ≡ inputCount 
       let v = cellValue setting found (cellFor g) in
       let agrees : v ≡ code (evaluated x (map valueOf found) g) = gate-agrees found more g here in
       let next : map valueOf (found ++ (v ∷ [])) ≡ map valueOf found ++ (evaluated x (map valueOf found) g ∷ []) =
-      map-append valueOf found (v ∷ []) ∙ ap (λ (w : Value). map valueOf found ++ (w ∷ [])) (ap valueOf agrees ∙ valueOf-code _) in
+      map-append valueOf found (v ∷ []) ∙ ap (λ (w : Value). map valueOf found ++ (w ∷ []))
+      (ap valueOf agrees ∙ valueOf-code _) in
       rw (← next)
       (run-sweep gs (found ++ (v ∷ [])) (gate-bits found more g)
-      (λ i l. let place : length (found ++ (v ∷ [])) + i ≡ length found + suc i = simp length-append (omega arith) in rw place (ready (suc i) (omega arith))))
+      (λ i l. let place : length (found ++ (v ∷ [])) + i
+      ≡ length found + suc i = simp length-append (omega arith) in rw place (ready (suc i) (omega arith))))
 
 -- ---- a straight block
 
 -- the gates of a straight block are ready in their order
-straight-ready : (b : Block) → isWellFormed b ≡ true → isStraight b ≡ true → (j : ℕ) → j < gateCount b → ReadyAt b j (gateOf b j)
-straight-ready b h straight j l = record { fits = wellFormed-gate b h j l; earlier = λ i. operand-earlier b straight j i l }
+straight-ready : (b : Block) → isWellFormed b ≡ true → isStraight b ≡ true → (j : ℕ) → j < gateCount b
+    → ReadyAt b j (gateOf b j)
+straight-ready b h straight j l =
+    record { fits = wellFormed-gate b h j l; earlier = λ i. operand-earlier b straight j i l }
 
 -- the value of each gate
-swept : (b : Block) → isWellFormed b ≡ true → isStraight b ≡ true → (setting : List ℕ) → length setting ≡ inputCount b → isTwoValued setting ≡ true
+swept : (b : Block) → isWellFormed b ≡ true → isStraight b ≡ true → (setting : List ℕ) → length setting ≡ inputCount b
+    → isTwoValued setting ≡ true
     → cellValues (inputCount b) (cellsOf b) setting ≡ map code (sweep b (map valueOf setting))
 unfolding cellValues sweep isTwoValued
 swept b h straight setting e t =
@@ -136,5 +146,7 @@ cells-pass b h straight =
       legal = made-legal b straight h;
       oneEach = cellsOf-count b;
       swept = swept b h straight;
-      settles = λ setting e t. swept b h straight setting e t ∙ ap (map code) (sweep-settled b (map valueOf setting) straight);
+      settles =
+          λ setting e t. swept b h straight setting e t
+          ∙ ap (map code) (sweep-settled b (map valueOf setting) straight);
     }

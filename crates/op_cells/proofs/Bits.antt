@@ -36,7 +36,8 @@ bits-more (w ∷ vs) v h l (suc i) = bits-more vs v (λ i. h (suc i)) l i
 -- bytes that are all at most 1 are bits
 pub bits-of : (vs : List ℕ) → all (λ v. leb v 1) vs ≡ true → Bits vs
 bits-of vs h i =
-    ⊎-elim (λ l. leb-true (getD vs i 0) 1 (all-at (λ v. leb v 1) vs i 0 h l)) (λ l. let e : getD vs i 0 ≡ 0 = List·getD-eq-default vs 0 l in omega arith)
+    ⊎-elim (λ l. leb-true (getD vs i 0) 1 (all-at (λ v. leb v 1) vs i 0 h l))
+    (λ l. let e : getD vs i 0 ≡ 0 = List·getD-eq-default vs 0 l in omega arith)
     (lt-or-le i (length vs))
 
 -- ---- bits and values
@@ -48,7 +49,8 @@ low-value (suc zero) h = refl
 low-value (suc (suc v)) h = absurd (omega arith)
 
 -- what is read of bits that are there
-pub value-read : (vs : List ℕ) → Bits vs → (i : ℕ) → i < length vs → val (eqb (getD vs i 0) 1) ≡ getD (map valueOf vs) i undefined
+pub value-read : (vs : List ℕ) → Bits vs → (i : ℕ) → i < length vs
+    → val (eqb (getD vs i 0) 1) ≡ getD (map valueOf vs) i undefined
 value-read vs h i l = low-value (getD vs i 0) (h i) ∙ sym (getD-map valueOf vs i 0 undefined l)
 
 -- bits are the codes of their values

@@ -26,7 +26,7 @@ use Rattle.netlist.specs.Cells.{cellSize, cellsOf, cellCount, cellAt, Cell, isE
 use Rattle.theory_encoding.specs.Rules.{operandRule}
 use Rattle.theory_encoding.proofs.ListFacts.{all-tab, all-map}
 use Rattle.theory_encoding.proofs.WellFormed.{wellFormed-parts}
-use Rattle.words_block.proofs.StraightLaws.{lower, lower-operand}
+use Rattle.words_gates.proofs.StraightLaws.{lower, lower-operand}
 use Rattle.op_cells.proofs.Made.{operandFor, cellFor, cell-made, length-cellsOf, cellsOf-count}
 
 -- an operand that is there reads no gate but a lower one
@@ -43,7 +43,8 @@ earlier-rule n j w = earlier-lower j (operandOf n w) ∙ lower-operand n j w
 unfoldable pub wordRule : ℕ → List ℕ → ℕ → ℕ → Bool
 wordRule n ws j i = operandRule (n + j) (getD ws (cellSize * j + i) 0)
 
-pub word-told : (n : ℕ) (ws : List ℕ) (j i : ℕ) {w : ℕ} {r : Bool} → w ≡ getD ws (cellSize * j + i) 0 → r ≡ operandRule (n + j) w → r ≡ wordRule n ws j i
+pub word-told : (n : ℕ) (ws : List ℕ) (j i : ℕ) {w : ℕ} {r : Bool} → w ≡ getD ws (cellSize * j + i) 0
+    → r ≡ operandRule (n + j) w → r ≡ wordRule n ws j i
 unfolding wordRule
 word-told n ws j i e t = rw (← e) t
 
@@ -52,7 +53,8 @@ unfolding readsEarlier cellAt wordRule
 reads-rule n ws j =
     let operand : ℕ → Operand = λ i. operandOf n (getD ws (cellSize * j + i) 0) in
     all-tab (isEarlier j) operand operandWords
-    ∙ all-ext (λ i. isEarlier j (operand i)) (wordRule n ws j) operandWords (λ i l. earlier-rule n j (getD ws (cellSize * j + i) 0))
+    ∙ all-ext (λ i. isEarlier j (operand i)) (wordRule n ws j) operandWords
+    (λ i l. earlier-rule n j (getD ws (cellSize * j + i) 0))
 
 -- ---- the tests of a run, one by one
 
@@ -69,11 +71,13 @@ module _ (n : ℕ) (ws : List ℕ) where
     module _ (short : length ws ≤ cellSize * maxGates) where
       pub cut-off : (length ws % cellSize ≡ 0 → ⊥) → areLegalCells n ws ≡ false
       unfolding areLegalCells
-      cut-off h = rw (le-leb n maxInputs few, le-leb (length ws) (cellSize * maxGates) short, ne-eqb (length ws % cellSize) 0 h)
+      cut-off h =
+          rw (le-leb n maxInputs few, le-leb (length ws) (cellSize * maxGates) short, ne-eqb (length ws % cellSize) 0 h)
 
       pub all-earlier : length ws % cellSize ≡ 0 → areLegalCells n ws ≡ all (readsEarlier n ws) (upTo (cellCount ws))
       unfolding areLegalCells
-      all-earlier h = rw (le-leb n maxInputs few, le-leb (length ws) (cellSize * maxGates) short, eq-eqb (length ws % cellSize) 0 h)
+      all-earlier h =
+          rw (le-leb n maxInputs few, le-leb (length ws) (cellSize * maxGates) short, eq-eqb (length ws % cellSize) 0 h)
 
 -- ---- a straight block
 
@@ -82,11 +86,13 @@ module _ (b : Block) (straight : isStraight b ≡ true) where
   unfolding isStraight readBy lower
   straight-earlier j l =
       let os = gateOf b j .operands in
-      let reads : all (lower j) (joined (map gateOperand os)) ≡ true = all-below (λ j. all (lower j) (readBy b j)) (gateCount b) j straight l in
+      let reads : all (lower j) (joined (map gateOperand os)) ≡ true =
+      all-below (λ j. all (lower j) (readBy b j)) (gateCount b) j straight l in
       let each : all (λ o. all (lower j) (gateOperand o)) os ≡ true =
       sym (all-joined (lower j) (map gateOperand os) ∙ all-map (all (lower j)) gateOperand os) ∙ reads in
       all-from (isEarlier j) os (constant false)
-      (λ i k. earlier-lower j (getD os i (constant false)) ∙ all-at (λ o. all (lower j) (gateOperand o)) os i (constant false) each k)
+      (λ i k. earlier-lower j (getD os i (constant false))
+      ∙ all-at (λ o. all (lower j) (gateOperand o)) os i (constant false) each k)
 
   -- also where an operand is absent
   pub operand-earlier : (j i : ℕ) → j < gateCount b → isEarlier j (operandFor (gateOf b j) i) ≡ true
@@ -94,7 +100,8 @@ module _ (b : Block) (straight : isStraight b ≡ true) where
   operand-earlier j i l =
       let g = gateOf b j in
       ⊎-elim (λ k. all-at (isEarlier j) (g .operands) i (constant false) (straight-earlier j l) k)
-      (λ k. let none : operandFor g i ≡ constant false = List·getD-eq-default (g .operands) (constant false) k in rw none)
+      (λ k. let none : operandFor g i ≡ constant false = List·getD-eq-default (g .operands) (constant false)
+      k in rw none)
       (lt-or-le i (length (g .operands)))
 
   module _ (h : isWellFormed b ≡ true) where

@@ -16,12 +16,14 @@ use Rattle.prelude.proofs.Tests.{lt-or-le}
 use Rattle.prelude.proofs.Tab.{getD-tab, tab-ext, tab-getD, map-tab}
 use Rattle.prelude.proofs.Quantifiers.{all-at}
 use Rattle.netlist.specs.Netlist.{Operand, constant, Gate, Block, inputCount, gateCount, gateOf}
-use Rattle.netlist.specs.StoredBlock.{gateSize, operandWords, gatesAt, nodeWord, operandOf, gateAt, isOperand, gateFits, decode, isWellFormed}
+use Rattle.netlist.specs.StoredBlock.{gateSize, operandWords, gatesAt, nodeWord, operandOf, gateAt, isOperand, gateFits}
+use Rattle.netlist.specs.StoredBlock.{decode, isWellFormed}
 use Rattle.netlist.specs.Cells.{cellSize, truthWord, cellWords, cellsOf, Cell, cellCount, cellAt, cellsIn}
 use Rattle.theory_encoding.proofs.ListFacts.{length-joined, getD-joined}
 use Rattle.theory_encoding.proofs.Nodes.{nodeWord-operandOf, operandOf-nodeWord}
 use Rattle.theory_encoding.proofs.Gates.{fits-operands}
-use Rattle.theory_encoding.proofs.Decoded.{decode-inputCount, decode-gateCount, decode-gate, gateAt-kind, gateAt-count, gateAt-operand}
+use Rattle.theory_encoding.proofs.Decoded.{decode-inputCount, decode-gateCount, decode-gate, gateAt-kind, gateAt-count}
+use Rattle.theory_encoding.proofs.Decoded.{gateAt-operand}
 use Rattle.theory_encoding.proofs.WellFormed.{noGate, wellFormed-parts, few-nodes}
 use Rattle.theory_encoding.proofs.Readers.{wellFormed-gate}
 use Rattle.op_cells.specs.Made.{cellWordAt}
@@ -41,7 +43,8 @@ module _ (n : ℕ) (g : Gate) where
   unfolding cellWords
   word-operand i l =
       let words : ℕ → ℕ = λ i. nodeWord n (operandFor g i) in
-      List·getD-append (tab words operandWords) (truthWord (g .kind) (length (g .operands)) ∷ []) 0 i l ∙ getD-tab words operandWords i 0 l
+      List·getD-append (tab words operandWords) (truthWord (g .kind) (length (g .operands)) ∷ []) 0 i l
+      ∙ getD-tab words operandWords i 0 l
 
   word-truth : getD (cellWords n g) operandWords 0 ≡ truthWord (g .kind) (length (g .operands))
   unfolding cellWords
@@ -61,7 +64,8 @@ module _ (ws : List ℕ) (at : ℕ) where
   pub at-operand : (i : ℕ) → i < operandWords → i < head / 8 → cellWordAt ws at i ≡ getD ws (at + 1 + i) 0
   unfolding cellWordAt
   at-operand i l k =
-      word-operand n₀ (gateAt n₀ ws at) i l ∙ ap (nodeWord n₀) (gateAt-operand n₀ ws at i (constant false) k) ∙ nodeWord-operandOf n₀ (getD ws (at + 1 + i) 0)
+      word-operand n₀ (gateAt n₀ ws at) i l ∙ ap (nodeWord n₀) (gateAt-operand n₀ ws at i (constant false) k)
+      ∙ nodeWord-operandOf n₀ (getD ws (at + 1 + i) 0)
 
   pub at-absent : (i : ℕ) → i < operandWords → head / 8 ≤ i → cellWordAt ws at i ≡ 65534
   unfolding cellWordAt nodeWord
@@ -85,20 +89,23 @@ module _ (b : Block) where
   cellsOf-count = rw length-cellsOf (omega arith)
 
   -- word i of cell j
-  cellsOf-word : (j i : ℕ) → j < gateCount b → i < cellSize → getD (cellsOf b) (cellSize * j + i) 0 ≡ getD (cellWords n (gateOf b j)) i 0
+  cellsOf-word : (j i : ℕ) → j < gateCount b → i < cellSize
+      → getD (cellsOf b) (cellSize * j + i) 0 ≡ getD (cellWords n (gateOf b j)) i 0
   unfolding cellsOf
   cellsOf-word j i l k = getD-joined (cellWords n) cellSize (length-cellWords n) (b .gates) j i noGate 0 l k
 
 -- word p, from the words of the block
 pub made-word : (ws : List ℕ) (p : ℕ) → p < cellSize * getD ws 1 0
-    → cellWordAt ws (gatesAt (getD ws 0 0) (getD ws 3 0) + gateSize * (p / cellSize)) (p % cellSize) ≡ getD (cellsOf (decode ws)) p 0
+    → cellWordAt ws (gatesAt (getD ws 0 0) (getD ws 3 0) + gateSize * (p / cellSize)) (p % cellSize)
+    ≡ getD (cellsOf (decode ws)) p 0
 unfolding cellWordAt
 made-word ws p l =
     let j = p / cellSize in
     let i = p % cellSize in
     let place : cellSize * j + i ≡ p = omega arith in
     let below : j < getD ws 1 0 = omega arith in
-    let word : getD (cellsOf (decode ws)) (cellSize * j + i) 0 ≡ getD (cellWords (inputCount (decode ws)) (gateOf (decode ws) j)) i 0 =
+    let word : getD (cellsOf (decode ws)) (cellSize * j + i) 0
+    ≡ getD (cellWords (inputCount (decode ws)) (gateOf (decode ws) j)) i 0 =
     cellsOf-word (decode ws) j i (rw (decode-gateCount ws) below) (omega arith) in
     sym (rw (place, decode-inputCount ws, decode-gate ws j below) at word)
 
@@ -132,9 +139,11 @@ module _ (b : Block) (h : isWellFormed b ≡ true) where
       operand-is : (i : ℕ) → i < operandWords → operandOf nodes (word i) ≡ operandFor g i
       operand-is i k =
           ap (operandOf nodes) (cellsOf-word b j i l (omega arith) ∙ word-operand nodes g i k)
-          ∙ operandOf-nodeWord b (operandFor g i) (few-nodes b (wellFormed-parts b h)) (operand-there b g (wellFormed-gate b h j l) i)
+          ∙ operandOf-nodeWord b (operandFor g i) (few-nodes b (wellFormed-parts b h))
+          (operand-there b g (wellFormed-gate b h j l) i)
 
-      operands-are : tab (λ i. operandOf nodes (getD (cellsOf b) (cellSize * j + i) 0)) operandWords ≡ tab (operandFor g) operandWords
+      operands-are : tab (λ i. operandOf nodes (getD (cellsOf b) (cellSize * j + i) 0)) operandWords
+          ≡ tab (operandFor g) operandWords
       operands-are = tab-ext (λ i. operandOf nodes (word i)) (operandFor g) operandWords operand-is
 
       truth-is : getD (cellsOf b) (cellSize * j + operandWords) 0 ≡ truthWord (g .kind) (length (g .operands))

@@ -25,9 +25,11 @@ use Rattle.netlist.specs.Values.{code, valueOf}
 use Rattle.netlist.specs.Netlist.{Block, inputCount, gateCount}
 use Rattle.netlist.specs.StoredBlock.{decode, isMalformed}
 use Rattle.netlist.specs.Rendering.{isStraight, sweep}
-use Rattle.netlist.specs.Answers.{refusalNumber, numberOf, countOf, Outcome, done, refuseIf, inRoom, answerOf, leftIn, Promise}
+use Rattle.netlist.specs.Answers.{refusalNumber, numberOf, countOf, Outcome, done, refuseIf, inRoom, answerOf, leftIn}
+use Rattle.netlist.specs.Answers.{Promise}
 use Rattle.netlist.specs.Operations.{counted, isBadSetting, passBlock, pass}
-use Rattle.netlist.specs.Cells.{cellSize, cellsOf, makeWords, makeCells, cellCount, readsEarlier, areLegalCells, isBadRun, cellValues, runCells}
+use Rattle.netlist.specs.Cells.{cellSize, cellsOf, makeWords, makeCells, cellCount, readsEarlier, areLegalCells}
+use Rattle.netlist.specs.Cells.{isBadRun, cellValues, runCells}
 use Rattle.theory_encoding.proofs.Decoded.{decode-gateCount}
 use Rattle.theory_encoding.proofs.RoundTrip.{whole-wellFormed}
 use Rattle.op_settle.specs.Tests.{atMost, isBadBytes}
@@ -43,7 +45,8 @@ use Rattle.op_cells.proofs.Agree.{cells-pass}
 -- the room comes last
 make-last : (room : ℕ) (cells : List ℕ) (torn straight : Bool)
     → inRoom room (refuseIf torn MalformedBlock (refuseIf (not straight) NotStraight (counted cells)))
-    ≡ refuseIf torn MalformedBlock (refuseIf (not straight) NotStraight (refuseIf (ltb room (length cells)) NoRoom (done cells (length cells) 0)))
+    ≡ refuseIf torn MalformedBlock (refuseIf (not straight) NotStraight
+    (refuseIf (ltb room (length cells)) NoRoom (done cells (length cells) 0)))
 unfolding refuseIf inRoom counted
 make-last room cells true straight = refl
 make-last room cells false true = refl
@@ -76,16 +79,19 @@ module _ (n : ℕ) (cells setting : List ℕ) (room : ℕ) where
   pub run-chain : runCells n cells setting room
       ≡ refuseIf (not (areLegalCells n cells)) MalformedBlock
       (refuseIf (isBadBytes n 1 setting) BadSetting
-      (refuseIf (ltb room (length cells / cellSize)) NoRoom (done (cellValues n cells setting) (length cells / cellSize) 0)))
+      (refuseIf (ltb room (length cells / cellSize)) NoRoom
+      (done (cellValues n cells setting) (length cells / cellSize) 0)))
   unfolding runCells isBadRun isBadBytes cellCount
   run-chain =
-      run-last room (cellValues n cells setting) (cellCount cells) (not (areLegalCells n cells)) (isBadBytes n 1 setting) (length-values n cells setting)
+      run-last room (cellValues n cells setting) (cellCount cells) (not (areLegalCells n cells))
+      (isBadBytes n 1 setting) (length-values n cells setting)
 
 -- a setting that passed its test has bits,
 pub good-bits : (n : ℕ) (setting : List ℕ) → isBadBytes n 1 setting ≡ false → Bits setting
 unfolding isBadBytes
 good-bits n setting h =
-    bits-of setting (not-false (all (atMost 1) setting) (or-neither (not (eqb (length setting) n)) (not (all (atMost 1) setting)) h .1))
+    bits-of setting (not-false (all (atMost 1) setting)
+    (or-neither (not (eqb (length setting) n)) (not (all (atMost 1) setting)) h .1))
 
 -- and cells that passed theirs are few
 pub legal-short : (n : ℕ) (cells : List ℕ) → areLegalCells n cells ≡ true → length cells ≤ cellSize * maxGates
@@ -95,10 +101,12 @@ legal-short n cells h =
     let short = leb (length cells) (cellSize * maxGates) in
     let whole = eqb (length cells % cellSize) 0 in
     leb-true (length cells) (cellSize * maxGates)
-    (and-right few short (and-left (few && short) whole (and-left (few && short && whole) (all (readsEarlier n cells) (upTo (cellCount cells))) h)))
+    (and-right few short (and-left (few && short) whole
+    (and-left (few && short && whole) (all (readsEarlier n cells) (upTo (cellCount cells))) h)))
 
 -- a run that nothing refuses
-pub run-done : (n : ℕ) (cells setting : List ℕ) (room : ℕ) → areLegalCells n cells ≡ true → length setting ≡ n → isTwoValued setting ≡ true
+pub run-done : (n : ℕ) (cells setting : List ℕ) (room : ℕ) → areLegalCells n cells ≡ true → length setting ≡ n
+    → isTwoValued setting ≡ true
     → cellCount cells ≤ room → runCells n cells setting room ≡ done (cellValues n cells setting) (cellCount cells) 0
 unfolding refuseIf isBadBytes isTwoValued cellCount
 run-done n cells setting room legal long low fits =
@@ -133,13 +141,17 @@ runs-as ws whole straight = record { agrees = agree; runs = runs }
     agree : AgreesWith b cells
     agree = cells-pass b (whole-wellFormed ws whole) straight
 
-    runs : (setting : List ℕ) (room : ℕ) → isTwoValued setting ≡ true → runCells (inputCount b) cells setting room ≡ pass ws setting room
+    runs : (setting : List ℕ) (room : ℕ) → isTwoValued setting ≡ true
+        → runCells (inputCount b) cells setting room ≡ pass ws setting room
     runs setting room t =
-        rw (agree .legal, whole, straight, bad-run setting t (inputCount b), bad-setting setting t b) (go (eqb (length setting) (inputCount b)) refl)
+        rw (agree .legal, whole, straight, bad-run setting t (inputCount b), bad-setting setting t b)
+        (go (eqb (length setting) (inputCount b)) refl)
       where
         go : (e : Bool) → eqb (length setting) (inputCount b) ≡ e
-            → inRoom room (refuseIf (not e) BadSetting (done (cellValues (inputCount b) cells setting) (cellCount cells) 0))
-            ≡ inRoom room (refuseIf (not e) BadSetting (done (map code (sweep b (map valueOf setting))) (gateCount b) 0))
+            → inRoom room (refuseIf (not e) BadSetting
+            (done (cellValues (inputCount b) cells setting) (cellCount cells) 0))
+            ≡ inRoom room (refuseIf (not e) BadSetting
+            (done (map code (sweep b (map valueOf setting))) (gateCount b) 0))
         go false e = refl
         go true e = rw (agree .swept setting (eqb-true (length setting) (inputCount b) e) t, agree .oneEach)
 
@@ -155,9 +167,11 @@ done-of false true true made cells long count detail o e d = let z : _≡_ {A = 
 done-of false true false made cells long count detail o e d = (refl, refl, (cc))
 
 -- wherever making is done with the cells, a run of them answers what Pass answers
-pub done-cells : (ws cells : List ℕ) (room : ℕ) {count detail : ℕ} → makeCells ws room ≡ done cells count detail → RunsAs ws cells
+pub done-cells : (ws cells : List ℕ) (room : ℕ) {count detail : ℕ} → makeCells ws room ≡ done cells count detail
+    → RunsAs ws cells
 done-cells ws cells room {count} {detail} e =
-    let m = done-of (isMalformed ws) (isStraight (decode ws)) (ltb room (cellSize * getD ws 1 0)) (cellsOf (decode ws)) cells (cellSize * getD ws 1 0) count detail
+    let m = done-of (isMalformed ws) (isStraight (decode ws)) (ltb room (cellSize * getD ws 1 0)) (cellsOf (decode ws))
+    cells (cellSize * getD ws 1 0) count detail
     (makeCells ws room) (make-chain ws room) e in
     rw (m .2) (runs-as ws (m .0) (m .1))
 
@@ -170,15 +184,18 @@ record Made (torn straight : Bool) (cells : List ℕ) (o : Outcome) (entry : Lis
   front : take (countOf (answerOf o)) (leftIn o entry) ≡ cells
 
 made : (torn straight short : Bool) (cells entry : List ℕ) (count : ℕ) (o : Outcome) → length cells ≡ count
-    → o ≡ refuseIf torn MalformedBlock (refuseIf (not straight) NotStraight (refuseIf short NoRoom (done cells count 0)))
+    → o ≡ refuseIf torn MalformedBlock (refuseIf (not straight) NotStraight
+    (refuseIf short NoRoom (done cells count 0)))
     → numberOf (answerOf o) ≡ 0 → Made torn straight cells o entry
 unfolding refuseIf answerOf numberOf countOf refusalNumber leftIn
 made true straight short cells entry count o l e z = let n : _≡_ {A = ℕ} 6 0 = rw e at z in absurd (omega arith)
 made false false short cells entry count o l e z = let n : _≡_ {A = ℕ} 10 0 = rw e at z in absurd (omega arith)
 made false true true cells entry count o l e z = let n : _≡_ {A = ℕ} 11 0 = rw e at z in absurd (omega arith)
-made false true false cells entry count o l e z = record { wholly = refl; straightly = refl; front = rw e (take-placed cells entry count l) }
+made false true false cells entry count o l e z =
+    record { wholly = refl; straightly = refl; front = rw e (take-placed cells entry count l) }
 
-pub make-promise : {ws entry exit : List ℕ} {r : Answer} → Promise (makeCells ws (length entry)) entry r exit → CellsPromise ws entry r exit
+pub make-promise : {ws entry exit : List ℕ} {r : Answer} → Promise (makeCells ws (length entry)) entry r exit
+    → CellsPromise ws entry r exit
 make-promise {ws} {entry} {exit} {r} p = record { promise = p; runs = runs }
   where
     b : Block
@@ -190,6 +207,7 @@ make-promise {ws} {entry} {exit} {r} p = record { promise = p; runs = runs }
     runs : numberOf r ≡ 0 → RunsAs ws (take (countOf r) exit)
     runs z =
         let m : Made (isMalformed ws) (isStraight b) (cellsOf b) o entry =
-        made (isMalformed ws) (isStraight b) (ltb (length entry) (cellSize * getD ws 1 0)) (cellsOf b) entry (cellSize * getD ws 1 0) o
+        made (isMalformed ws) (isStraight b) (ltb (length entry) (cellSize * getD ws 1 0)) (cellsOf b) entry
+        (cellSize * getD ws 1 0) o
         (length-cellsOf b ∙ rw (decode-gateCount ws)) (make-chain ws (length entry)) (sym (p .told .number) ∙ z) in
         rw (p .told .count, p .leaves, m .front) (runs-as ws (m .wholly) (m .straightly))

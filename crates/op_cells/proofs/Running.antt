@@ -17,7 +17,8 @@ use Rattle.prelude.proofs.Tab.{length-tab}
 use Rattle.prelude.proofs.Filling.{Filling}
 use Rattle.netlist.specs.Assignments.{bit}
 use Rattle.netlist.specs.StoredBlock.{operandWords, operandOf}
-use Rattle.netlist.specs.Cells.{cellSize, Cell, cellCount, cellAt, cellsIn, operandBit, numberOfBits, cellValue, runFrom, cellValues}
+use Rattle.netlist.specs.Cells.{cellSize, Cell, cellCount, cellAt, cellsIn, operandBit, numberOfBits, cellValue}
+use Rattle.netlist.specs.Cells.{runFrom, cellValues}
 use Rattle.op_cells.specs.Runs.{Bits}
 use Rattle.op_cells.proofs.Bits.{bit-most, bits-more}
 
@@ -36,7 +37,8 @@ module _ (n : ℕ) (setting found : List ℕ) (word : ℕ) where
   unfolding operandBit operandOf
   one-bit h e = rw (le-ltb word n h, e)
 
-  pub cell-bit : n ≤ word → (word ≡ 65534 → ⊥) → (word ≡ 65535 → ⊥) → operandBit setting found (operandOf n word) ≡ getD found (word - n) 0
+  pub cell-bit : n ≤ word → (word ≡ 65534 → ⊥) → (word ≡ 65535 → ⊥)
+      → operandBit setting found (operandOf n word) ≡ getD found (word - n) 0
   unfolding operandBit operandOf
   cell-bit h p q = rw (le-ltb word n h, ne-eqb word 65534 p, ne-eqb word 65535 q)
 
@@ -51,7 +53,8 @@ module _ (n : ℕ) (cells : List ℕ) (at : ℕ) (setting found : List ℕ) wher
   abbrev pub bitOf : ℕ → ℕ
   bitOf i = operandBit setting found (operandOf n (getD cells (at + i) 0))
 
-  pub cell-value-is : {a b c d truth : ℕ} → a ≡ bitOf 0 → b ≡ bitOf 1 → c ≡ bitOf 2 → d ≡ bitOf 3 → truth ≡ getD cells (at + operandWords) 0
+  pub cell-value-is : {a b c d truth : ℕ} → a ≡ bitOf 0 → b ≡ bitOf 1 → c ≡ bitOf 2 → d ≡ bitOf 3
+      → truth ≡ getD cells (at + operandWords) 0
       → truth / 2 ^ (a + 2 * b + 4 * c + 8 * d) % 2 ≡ cellValue setting found (cellAt n cells at)
   unfolding cellValue cellAt bit
   cell-value-is {a} {b} {c} {d} {truth} ea eb ec ed et = rw (place-is a b c d, ea, eb, ec, ed, et)
@@ -59,7 +62,8 @@ module _ (n : ℕ) (cells : List ℕ) (at : ℕ) (setting found : List ℕ) wher
 -- ---- the cells in order
 
 run-append : (setting found : List ℕ) (cs : List Cell) (c : Cell)
-    → runFrom setting found (cs ++ (c ∷ [])) ≡ runFrom setting found cs ++ (cellValue setting (runFrom setting found cs) c ∷ [])
+    → runFrom setting found (cs ++ (c ∷ []))
+    ≡ runFrom setting found cs ++ (cellValue setting (runFrom setting found cs) c ∷ [])
 unfolding runFrom
 run-append setting found [] c = refl
 run-append setting found (d ∷ cs) c = run-append setting (found ++ (cellValue setting found d ∷ [])) cs c
@@ -67,12 +71,14 @@ run-append setting found (d ∷ cs) c = run-append setting (found ++ (cellValue 
 length-run : (setting found : List ℕ) (cs : List Cell) → length (runFrom setting found cs) ≡ length found + length cs
 unfolding runFrom
 length-run setting found [] = sym (add-zero (length found))
-length-run setting found (c ∷ cs) = length-run setting (found ++ (cellValue setting found c ∷ [])) cs ∙ simp length-append (omega arith)
+length-run setting found (c ∷ cs) =
+    length-run setting (found ++ (cellValue setting found c ∷ [])) cs ∙ simp length-append (omega arith)
 
 run-bits : (setting found : List ℕ) (cs : List Cell) → Bits found → Bits (runFrom setting found cs)
 unfolding runFrom cellValue
 run-bits setting found [] h = h
-run-bits setting found (c ∷ cs) h = run-bits setting (found ++ (cellValue setting found c ∷ [])) cs (bits-more found _ h (bit-most _ _))
+run-bits setting found (c ∷ cs) h =
+    run-bits setting (found ++ (cellValue setting found c ∷ [])) cs (bits-more found _ h (bit-most _ _))
 
 module _ (n : ℕ) (cells setting : List ℕ) where
   abbrev cell : ℕ → Cell
@@ -91,7 +97,8 @@ module _ (n : ℕ) (cells setting : List ℕ) where
   ran-bits j = run-bits setting [] (tab cell j) (λ i. omega arith)
 
   -- cell j is evaluated from those before it
-  pub ran-more : (entry values : List ℕ) (j r : ℕ) → Filling entry values (ran j) j → r ≡ cellValue setting (take j values) (cell j)
+  pub ran-more : (entry values : List ℕ) (j r : ℕ) → Filling entry values (ran j) j
+      → r ≡ cellValue setting (take j values) (cell j)
       → ran (j + 1) ≡ ran j ++ (r ∷ [])
   unfolding ran
   ran-more entry values j r f e =

@@ -16,7 +16,8 @@ use Rattle.prelude.proofs.Same.{same-eq}
 use Rattle.prelude.proofs.Tab.{getD-tab}
 use Rattle.prelude.proofs.Quantifiers.{all-below}
 use Rattle.netlist.specs.Values.{code, valueOf, invert, isDefined}
-use Rattle.netlist.specs.Kinds.{row, rows, rowOf, isNot, isXor, isXnor, isKind, signature, signatureIn, signatures, signatureOf, fewestOperands, mostOperands}
+use Rattle.netlist.specs.Kinds.{row, rows, rowOf, isNot, isXor, isXnor, isKind, signature, signatureIn, signatures}
+use Rattle.netlist.specs.Kinds.{signatureOf, fewestOperands, mostOperands}
 use Rattle.netlist.specs.Kinds.{arityFits, ruled, ones, parity, gateValue}
 use Rattle.netlist.specs.Assignments.{bit}
 use Rattle.netlist.specs.Rounds.{settingOf}
@@ -45,7 +46,8 @@ isTrue : ℕ → ℕ → ℕ → Bool
 isTrue k count b = not (arityFits k count) || eqb (bit (truthWord k count) b) (truthBit k count b)
 
 all-true : all (λ k. all (λ count. all (isTrue k count) (upTo 16)) (upTo 5)) (upTo 7) ≡ true
-unfolding isTrue row rows rowOf isNot isXor isXnor signature signatureIn signatures signatureOf fewestOperands mostOperands arityFits ruled ones parity
+unfolding isTrue row rows rowOf isNot isXor isXnor signature signatureIn signatures signatureOf fewestOperands
+    mostOperands arityFits ruled ones parity
     gateValue code valueOf invert isDefined bit settingOf truthBit truthWord
 all-true = refl
 
@@ -53,7 +55,9 @@ module _ (k count b : ℕ) (known : isKind k ≡ true) (fits : arityFits k count
   pub truth-bit : bit (truthWord k count) b ≡ truthBit k count b
   unfolding isTrue
   truth-bit =
-      let kinds = all-below (λ k. all (λ count. all (isTrue k count) (upTo 16)) (upTo 5)) 7 k all-true (omega (arith, kind-small k known)) in
-      let counts = all-below (λ count. all (isTrue k count) (upTo 16)) 5 count kinds (omega (arith, arity-four k count fits)) in
+      let kinds = all-below (λ k. all (λ count. all (isTrue k count) (upTo 16)) (upTo 5)) 7 k all-true
+      (omega (arith, kind-small k known)) in
+      let counts = all-below (λ count. all (isTrue k count) (upTo 16)) 5 count kinds
+      (omega (arith, arity-four k count fits)) in
       let here : isTrue k count b ≡ true = all-below (isTrue k count) 16 b counts low in
       eqb-true (bit (truthWord k count) b) (truthBit k count b) (rw fits at here)

@@ -37,7 +37,8 @@ pub record AgreesWith (b : Block) (cells : List ℕ) : Type 0 where
 -- Pass answers.
 pub record RunsAs (ws cells : List ℕ) : Type 0 where
   pub agrees : AgreesWith (decode ws) cells
-  pub runs : (setting : List ℕ) (room : ℕ) → isTwoValued setting ≡ true → runCells (inputCount (decode ws)) cells setting room ≡ pass ws setting room
+  pub runs : (setting : List ℕ) (room : ℕ) → isTwoValued setting ≡ true
+      → runCells (inputCount (decode ws)) cells setting room ≡ pass ws setting room
 
 -- What making cells promises: the answer r and what the slice holds at exit, from the words and the slice at entry.
 pub record CellsPromise (ws entry : List ℕ) (r : Answer) (exit : List ℕ) : Type 0 where

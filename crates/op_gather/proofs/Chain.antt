@@ -19,32 +19,38 @@ use Rattle.theory_permutation.proofs.Words.{gathered-length, gathered-listed, s
 module _ (ws : List ℕ) (room listRoom : ℕ) (result : Block → List ℕ) where
   pub gather-chain : gatherWith ws room listRoom result
       ≡ refuseIf (isMalformed ws) MalformedBlock
-      (refuseIf (lacksRoom (decode ws) room listRoom) NoRoom (done (result (decode ws)) (length (encode (gathered (decode ws)))) 0))
+      (refuseIf (lacksRoom (decode ws) room listRoom) NoRoom
+      (done (result (decode ws)) (length (encode (gathered (decode ws)))) 0))
   unfolding gatherWith
   gather-chain = refl
 
   -- as many words go out as came in, and the list has one for each gate
   pub gather-room : isMalformed ws ≡ false → {m : ℕ} → m ≡ getD ws 1 0
-      → gatherWith ws room listRoom result ≡ refuseIf (ltb room (length ws) || ltb listRoom m) NoRoom (done (result (decode ws)) (length ws) 0)
+      → gatherWith ws room listRoom result
+      ≡ refuseIf (ltb room (length ws) || ltb listRoom m) NoRoom (done (result (decode ws)) (length ws) 0)
   unfolding gatherWith lacksRoom refuseIf gatheredWords
-  gather-room whole gatesAre = rw (whole, gathered-length ws whole, gathered-listed ws whole, decode-gateCount ws, gatesAre) refl
+  gather-room whole gatesAre =
+      rw (whole, gathered-length ws whole, gathered-listed ws whole, decode-gateCount ws, gatesAre) refl
 
 module _ (ws order : List ℕ) (room : ℕ) where
   pub scatter-chain : scatter ws order room
       ≡ inRoom room
       (refuseIf (isMalformed ws) MalformedBlock
-      (refuseIf (not (isPermutation (gateCount (decode ws)) order)) NotAPermutation (counted (encode (scattered order (decode ws))))))
+      (refuseIf (not (isPermutation (gateCount (decode ws)) order)) NotAPermutation
+      (counted (encode (scattered order (decode ws))))))
   unfolding scatter
   scatter-chain = refl
 
   module _ (whole : isMalformed ws ≡ false) {m : ℕ} (gatesAre : m ≡ getD ws 1 0) where
     pub scatter-order : scatter ws order room
-        ≡ inRoom room (refuseIf (not (isPermutation m order)) NotAPermutation (counted (encode (scattered order (decode ws)))))
+        ≡ inRoom room (refuseIf (not (isPermutation m order)) NotAPermutation
+        (counted (encode (scattered order (decode ws)))))
     unfolding scatter refuseIf
     scatter-order = rw (whole, decode-gateCount ws, gatesAre) refl
 
     pub scatter-room : isPermutation m order ≡ true
-        → scatter ws order room ≡ refuseIf (ltb room (length ws)) NoRoom (done (encode (scattered order (decode ws))) (length ws) 0)
+        → scatter ws order room ≡ refuseIf (ltb room (length ws)) NoRoom
+        (done (encode (scattered order (decode ws))) (length ws) 0)
     unfolding refuseIf inRoom counted
     scatter-room passes =
         scatter-order ∙ rw (passes, scattered-length ws whole order (rw (decode-gateCount ws, ← gatesAre) passes)) refl

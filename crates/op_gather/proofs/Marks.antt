@@ -1,6 +1,8 @@
--- The place of each number, marked one after the other: a turn, the two ways out, and the end. Cited by `places`. Assumes nothing.
+-- The place of each number, marked one after the other: a turn, the two ways out, and the end. Cited by `places`.
+-- Assumes nothing.
 --   marked-none, marked-next                    nothing is marked; one number more
---   places-high, places-again, places-length    a number that isn't below m, one that is marked already, a list of another length: not each once
+-- places-high, places-again, places-length    a number that isn't below m, one that is marked already, a list of
+-- another length: not each once
 --   places-all                                  all are marked
 use Prim.Native.Nat.{ℕ, _+_, _≤_, _<_}
 use mathlib.Core.Path.{_≡_, refl, sym, ap, _∙_}
@@ -32,14 +34,17 @@ module _ (m : ℕ) (order : List ℕ) where
         long = placed-room (replicate m m) entry (length-replicate m m);
         listed = λ u l. absurd (omega arith);
         marks = λ u l. absurd (omega arith);
-        others = λ j l. inl (List·getD-append (replicate m m) _ 0 j (rw (length-replicate {A = ℕ} m m) l) ∙ getD-replicate {A = ℕ} m j m 0 l);
+        others =
+            λ j l. inl (List·getD-append (replicate m m) _ 0 j (rw (length-replicate {A = ℕ} m m) l)
+            ∙ getD-replicate {A = ℕ} m j m 0 l);
       }
 
   module _ (t : ℕ) (places : List ℕ) (k : PlacesMarked m order t places) (in-list : t < m) where
     -- the next number isn't below m
     pub places-high : m ≤ getD order t 0 → Places m order false places
     unfolding numberAt
-    places-high h = not-each (λ e. let l : getD order t 0 < m = permutation-each m order e .below t in-list in omega arith)
+    places-high h =
+        not-each (λ e. let l : getD order t 0 < m = permutation-each m order e .below t in-list in omega arith)
 
     -- it is marked already
     pub places-again : getD order t 0 < m → getD places (getD order t 0) 0 < m → Places m order false places
@@ -47,18 +52,21 @@ module _ (m : ℕ) (order : List ℕ) where
     places-again l h =
         not-each (λ e.
         ⊎-elim (λ none. omega arith)
-        (λ (u, is). let same : getD places (getD order t 0) 0 ≡ t = permutation-each m order e .apart _ t h in-list is in omega arith)
+        (λ (u, is). let same : getD places (getD order t 0) 0
+        ≡ t = permutation-each m order e .apart _ t h in-list is in omega arith)
         (k .others (getD order t 0) l))
 
     -- it is marked now
-    pub marked-next : getD order t 0 < m → m ≤ getD places (getD order t 0) 0 → PlacesMarked m order (t + 1) (set places (getD order t 0) t)
+    pub marked-next : getD order t 0 < m → m ≤ getD places (getD order t 0) 0
+        → PlacesMarked m order (t + 1) (set places (getD order t 0) t)
     marked-next l new =
         record {
           long = rw (length-set places (getD order t 0) t) (k .long);
           listed = λ u h. ⊎-elim (λ e. rw e l) (λ ne. k .listed u (omega arith)) (eq-or-ne u t);
           marks = λ u h. ⊎-elim (λ e. rw e here′) (λ ne. before u (omega arith)) (eq-or-ne u t);
           others = λ j h.
-              ⊎-elim (λ e. rw e (inr (rw here′ (omega arith, refl)))) (λ ne. rw (getD-set-other places (getD order t 0) j t 0 ne) (other j h))
+              ⊎-elim (λ e. rw e (inr (rw here′ (omega arith, refl))))
+              (λ ne. rw (getD-set-other places (getD order t 0) j t 0 ne) (other j h))
               (eq-or-ne j (getD order t 0));
         }
       where
@@ -67,12 +75,15 @@ module _ (m : ℕ) (order : List ℕ) where
 
         -- an earlier number is another one
         apart : (u : ℕ) → u < t → getD order u 0 ≡ getD order t 0 → ⊥
-        apart u h e = let z : getD places (getD order t 0) 0 ≡ u = ap (λ (j : ℕ). getD places j 0) (sym e) ∙ k .marks u h in omega arith
+        apart u h e =
+            let z : getD places (getD order t 0) 0 ≡ u = ap (λ (j : ℕ). getD places j 0) (sym e) ∙ k .marks u h in
+            omega arith
 
         before : (u : ℕ) → u < t → getD (set places (getD order t 0) t) (getD order u 0) 0 ≡ u
         before u h = getD-set-other places (getD order t 0) (getD order u 0) t 0 (apart u h) ∙ k .marks u h
 
-        other : (j : ℕ) → j < m → (getD places j 0 ≡ m) ⊎ ((getD places j 0 < t + 1) × (getD order (getD places j 0) 0 ≡ j))
+        other : (j : ℕ) → j < m → (getD places j 0 ≡ m)
+            ⊎ ((getD places j 0 < t + 1) × (getD order (getD places j 0) 0 ≡ j))
         other j h = ⊎-elim inl (λ (u, is). inr (omega arith, is)) (k .others j h)
 
   -- all are marked
@@ -89,5 +100,7 @@ module _ (m : ℕ) (order : List ℕ) where
       let r : Renumbers m order (placeIn order) = place-renumbers m order passes in
       record {
         told = sym passes;
-        stand = λ e j l. ap (λ (i : ℕ). getD places i 0) (sym (r .oldOfNew j l)) ∙ k .marks (placeIn order j) (r .newBelow j l);
+        stand =
+            λ e j l. ap (λ (i : ℕ). getD places i 0) (sym (r .oldOfNew j l))
+            ∙ k .marks (placeIn order j) (r .newBelow j l);
       }

@@ -1,7 +1,9 @@
--- What is written is the definition's block: with the list by groups and the places in it Gather's, with the places in a list and the list Scatter's.
+-- What is written is the definition's block: with the list by groups and the places in it Gather's, with the places in
+-- a list and the list Scatter's.
 -- Cited by `steps`. Assumes nothing.
 --   listed-by-group                       what `list_groups` leaves is the list by groups
---   gathered-orders, gathered-written     that list and its places are in order, and what is written by them is the gathered block
+-- gathered-orders, gathered-written     that list and its places are in order, and what is written by them is the
+-- gathered block
 --   scattered-orders, scattered-written   the same of the places in a list that is each number once, and the list
 use Prim.Native.Nat.{ℕ, _≤_, _<_}
 use mathlib.Core.Path.{_≡_, sym, ap, _∙_}
@@ -14,7 +16,8 @@ use Rattle.prelude.specs.Lists.{placed}
 use Rattle.prelude.proofs.Slices.{take-placed, placed-room}
 use Rattle.netlist.specs.Netlist.{gateCount}
 use Rattle.netlist.specs.StoredBlock.{encode, decode, isMalformed, isWellFormed}
-use Rattle.netlist.specs.Gather.{arranged, numberAt, placeIn, gatheredOrder, gathered, gatheredWords, isPermutation, inverse, scattered}
+use Rattle.netlist.specs.Gather.{arranged, numberAt, placeIn, gatheredOrder, gathered, gatheredWords, isPermutation}
+use Rattle.netlist.specs.Gather.{inverse, scattered}
 use Rattle.theory_encoding.proofs.Decoded.{decode-gateCount}
 use Rattle.theory_encoding.proofs.RoundTrip.{whole-wellFormed}
 use Rattle.unroll_order.specs.Listing.{membersOf, Numbers, GatesAppended}
@@ -42,15 +45,18 @@ module _ (ws : List ℕ) (whole : isMalformed ws ≡ false) (m : ℕ) (gatesAre 
   pub listed-length : length (gatheredOrder (decode ws)) ≡ m
   listed-length = gathered-listed ws whole ∙ counted
 
-  members-are : {count : ℕ} {numbers : List ℕ} → Numbers (decode ws) m count numbers → membersOf numbers m count ≡ gatheredOrder (decode ws)
+  members-are : {count : ℕ} {numbers : List ℕ} → Numbers (decode ws) m count numbers
+      → membersOf numbers m count ≡ gatheredOrder (decode ws)
   unfolding gatheredOrder
   members-are s = members-groups s
 
-  pub members-room : {count : ℕ} {numbers : List ℕ} → Numbers (decode ws) m count numbers → length (membersOf numbers m count) ≡ m
+  pub members-room : {count : ℕ} {numbers : List ℕ} → Numbers (decode ws) m count numbers
+      → length (membersOf numbers m count) ≡ m
   members-room s = rw (members-are s) listed-length
 
   pub listed-by-group : {count : ℕ} {numbers entry order : List ℕ} {at : ℕ} → Numbers (decode ws) m count numbers
-      → GatesAppended (membersOf numbers m count) entry 0 order at → m ≤ length entry → order ≡ placed (gatheredOrder (decode ws)) entry
+      → GatesAppended (membersOf numbers m count) entry 0 order at → m ≤ length entry
+      → order ≡ placed (gatheredOrder (decode ws)) entry
   listed-by-group s a room = rw (← members-are s) (front a (rw (members-room s) room))
 
   by-group : Renumbers m (gatheredOrder (decode ws)) (placeIn (gatheredOrder (decode ws)))
@@ -79,7 +85,8 @@ module _ (ws : List ℕ) (whole : isMalformed ws ≡ false) (m : ℕ) (gatesAre 
     unfolding arrangement gathered numberAt
     gathered-arrangement =
         rw (← gatesAre, taken)
-        (arranged-ext (decode ws) fits (gatheredOrder (decode ws)) (numberAt places) (placeIn (gatheredOrder (decode ws)))
+        (arranged-ext (decode ws) fits (gatheredOrder (decode ws)) (numberAt places)
+        (placeIn (gatheredOrder (decode ws)))
         (λ t l. rw counted (by-group .oldBelow t (rw (← listed-length) l))) agree)
       where
         agree : (j : ℕ) → j < gateCount (decode ws) → numberAt places j ≡ placeIn (gatheredOrder (decode ws)) j
@@ -101,7 +108,11 @@ module _ (ws : List ℕ) (whole : isMalformed ws ≡ false) (m : ℕ) (gatesAre 
     unfolding numberAt
     scattered-orders =
         let out = place-renumbers m order passes in (
-          ordered-as (sym gatesAre) (record { listed = room; inside = λ j l. rw (found .stand passes j l) (out .newBelow j l) }),
+          ordered-as (sym gatesAre) (record {
+            listed = room;
+            inside = λ j l. rw (found .stand passes j l)
+                (out .newBelow j l);
+          }),
           ordered-as (sym gatesAre) (record { listed = omega (arith, out .lengthIs); inside = out .oldBelow }),
         )
 

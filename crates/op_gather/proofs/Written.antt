@@ -2,7 +2,8 @@
 --   moved-next         a gate more is written
 --   ordered-as         numbers below a count
 --   table-stands       the table has the word of each gate's new number
---   arranged-written   the front as it was, the gates in the order listed, the outputs: the encoding of the arranged block
+-- arranged-written   the front as it was, the gates in the order listed, the outputs: the encoding of the arranged
+-- block
 use Prim.Native.Nat.{ℕ, _+_, _*_, _≤_, _<_}
 use mathlib.Core.Path.{_≡_, refl, sym, ap, _∙_}
 use mathlib.Core.Bool.{true, false}
@@ -48,7 +49,8 @@ ordered-as e o = rw e o
 
 -- ---- a gate more
 
-length-movedAt : (ws : List ℕ) (nodes : Nodes) (order table : List ℕ) (t : ℕ) → length (movedAt ws nodes order table t) ≡ 5
+length-movedAt : (ws : List ℕ) (nodes : Nodes) (order table : List ℕ) (t : ℕ)
+    → length (movedAt ws nodes order table t) ≡ 5
 unfolding movedAt
 length-movedAt ws nodes order table t = length-copy ws nodes (getD order t 0) table
 
@@ -58,7 +60,8 @@ pub moved-next : (ws : List ℕ) (nodes : Nodes) (order table entry out out′ :
     → out′ ≡ sets entry (nodes .start) (joined (tab (movedAt ws nodes order table) (t + 1)))
 unfolding movedAt
 moved-next ws nodes order table entry out out′ t e h =
-    sets-joined-next (movedAt ws nodes order table) 5 (length-movedAt ws nodes order table) entry out out′ (nodes .start) t e h
+    sets-joined-next (movedAt ws nodes order table) 5 (length-movedAt ws nodes order table) entry out out′
+    (nodes .start) t e h
 
 -- ---- new numbers stand for the gates as newest copies do
 
@@ -66,7 +69,8 @@ moved-next ws nodes order table entry out out′ t e h =
 newest : List ℕ → ℕ → List Operand
 newest numbers m = tab (λ j. gate (numberAt numbers j)) m
 
-table-stands : (nodes : Nodes) (numbers entry table : List ℕ) → table ≡ placed (tab (newWord (nodes .inputs) numbers) (nodes .gates)) entry
+table-stands : (nodes : Nodes) (numbers entry table : List ℕ)
+    → table ≡ placed (tab (newWord (nodes .inputs) numbers) (nodes .gates)) entry
     → Stands nodes table (newest numbers (nodes .gates))
 unfolding newest newWord nodeWord numberAt
 table-stands nodes numbers entry table is j l =
@@ -74,21 +78,27 @@ table-stands nodes numbers entry table is j l =
     (placed-tab (newWord (nodes .inputs) numbers) (nodes .gates) entry j 0 l)
 
 module _ (b : Block) (numbers : List ℕ) where
-  operand-renumbered : (o : Operand) → isOperand b o ≡ true → copiedOperand (newest numbers (gateCount b)) o ≡ renumbered (numberAt numbers) o
+  operand-renumbered : (o : Operand) → isOperand b o ≡ true
+      → copiedOperand (newest numbers (gateCount b)) o ≡ renumbered (numberAt numbers) o
   unfolding copiedOperand renumbered newest isOperand isNode
   operand-renumbered (input i) h = refl
-  operand-renumbered (gate j) h = getD-tab (λ j. gate (numberAt numbers j)) (gateCount b) j (constant false) (ltb-true j (gateCount b) h)
+  operand-renumbered (gate j) h =
+      getD-tab (λ j. gate (numberAt numbers j)) (gateCount b) j (constant false) (ltb-true j (gateCount b) h)
   operand-renumbered (constant c) h = refl
 
-  gate-renumbered : (g : Gate) → gateFits b g ≡ true → copied (newest numbers (gateCount b)) g ≡ renumberedGate (numberAt numbers) g
+  gate-renumbered : (g : Gate) → gateFits b g ≡ true
+      → copied (newest numbers (gateCount b)) g ≡ renumberedGate (numberAt numbers) g
   unfolding copied renumberedGate
   gate-renumbered g h =
       ap (λ (os : List Operand). record { kind = g .kind; operands = os })
-      (map-same (copiedOperand (newest numbers (gateCount b))) (renumbered (numberAt numbers)) (g .operands) (constant false)
-      (λ i l. operand-renumbered (getD (g .operands) i (constant false)) (all-at (isOperand b) (g .operands) i (constant false) (fits-operands b g h) l)))
+      (map-same (copiedOperand (newest numbers (gateCount b))) (renumbered (numberAt numbers)) (g .operands)
+      (constant false)
+      (λ i l. operand-renumbered (getD (g .operands) i (constant false))
+      (all-at (isOperand b) (g .operands) i (constant false) (fits-operands b g h) l)))
 
   output-renumbered : (o : Output) → isNode b (o .node) ≡ true
-      → record { port = o .port; node = copiedOperand (newest numbers (gateCount b)) (o .node) } ≡ renumberedOutput (numberAt numbers) o
+      → record { port = o .port; node = copiedOperand (newest numbers (gateCount b)) (o .node) }
+      ≡ renumberedOutput (numberAt numbers) o
   unfolding renumberedOutput
   output-renumbered o h = rw (operand-renumbered (o .node) (isNode-isOperand b (o .node) h)) refl
 
@@ -97,7 +107,8 @@ module _ (b : Block) (numbers : List ℕ) where
 -- the counts, the names and the never lines
 front-words : (ws : List ℕ)
     → tab (wordFrom ws 0) (nodesOf ws .start)
-    ≡ (getD ws 0 0 ∷ getD ws 1 0 ∷ getD ws 2 0 ∷ getD ws 3 0 ∷ []) ++ tab (wordFrom ws 4) (4 * getD ws 0 0 + 2 * getD ws 3 0)
+    ≡ (getD ws 0 0 ∷ getD ws 1 0 ∷ getD ws 2 0 ∷ getD ws 3 0 ∷ [])
+    ++ tab (wordFrom ws 4) (4 * getD ws 0 0 + 2 * getD ws 3 0)
 unfolding wordFrom gatesAt neversAt nodesOf
 front-words ws =
     let split : nodesOf ws .start ≡ 4 + (4 * getD ws 0 0 + 2 * getD ws 3 0) = omega arith in
@@ -107,7 +118,8 @@ front-words ws =
     (tab-ext (λ i. wordFrom ws 0 (4 + i)) (wordFrom ws 4) (4 * getD ws 0 0 + 2 * getD ws 3 0)
     (λ i l. ap (λ (p : ℕ). getD ws p 0) (zero-add (4 + i)))))
 
-module _ (ws order numbers : List ℕ) (whole : isMalformed ws ≡ false) (listed : Order (getD ws 1 0) (getD ws 1 0) order) (table : List ℕ)
+module _ (ws order numbers : List ℕ) (whole : isMalformed ws ≡ false) (listed : Order (getD ws 1 0) (getD ws 1 0) order)
+    (table : List ℕ)
     (stands : Stands (nodesOf ws) table (newest numbers (getD ws 1 0))) where
   abbrev n : ℕ
   n = getD ws 0 0
@@ -132,7 +144,8 @@ module _ (ws order numbers : List ℕ) (whole : isMalformed ws ≡ false) (liste
       copy-written ws whole table (newest numbers m) stands (getD order t 0) below
       ∙ ap (gateWords n)
       (rw (← count)
-      (gate-renumbered (decode ws) numbers (gateOf (decode ws) (getD order t 0)) (wellFormed-gate (decode ws) fits (getD order t 0) (rw count below))))
+      (gate-renumbered (decode ws) numbers (gateOf (decode ws) (getD order t 0))
+      (wellFormed-gate (decode ws) fits (getD order t 0) (rw count below))))
 
   listed-gates : arrangement ws order numbers .gates ≡ tab placedGate m
   unfolding arrangement arranged
@@ -142,16 +155,21 @@ module _ (ws order numbers : List ℕ) (whole : isMalformed ws ≡ false) (liste
       ∙ tab-getD 0 (take m order) m (length-take-le m order (listed .listed))) in
       rw all (map-tab (λ j. renumberedGate (numberAt numbers) (gateOf (decode ws) j)) (λ t. getD order t 0) m)
 
-  gates-words : joined (tab (movedAt ws (nodesOf ws) order table) m) ≡ joined (map (gateWords n) (arrangement ws order numbers .gates))
-  gates-words = rw listed-gates (ap joined (tab-ext _ (λ t. gateWords n (placedGate t)) m gate-words ∙ sym (map-tab (gateWords n) placedGate m)))
+  gates-words : joined (tab (movedAt ws (nodesOf ws) order table) m)
+      ≡ joined (map (gateWords n) (arrangement ws order numbers .gates))
+  gates-words =
+      rw listed-gates (ap joined (tab-ext _ (λ t. gateWords n (placedGate t)) m gate-words
+      ∙ sym (map-tab (gateWords n) placedGate m)))
 
-  outputs-words : joined (tab (shownAt ws (nodesOf ws) table) (getD ws 2 0)) ≡ joined (map (outputWords n) (arrangement ws order numbers .outputs))
+  outputs-words : joined (tab (shownAt ws (nodesOf ws) table) (getD ws 2 0))
+      ≡ joined (map (outputWords n) (arrangement ws order numbers .outputs))
   unfolding arrangement arranged
   outputs-words =
       outputs-written ws whole table (newest numbers m) stands
       ∙ ap (λ (os : List Output). joined (map (outputWords n) os))
       (map-same _ (renumberedOutput (numberAt numbers)) (decode ws .outputs) noOutput
-      (λ o l. rw (← count) (output-renumbered (decode ws) numbers (getD (decode ws .outputs) o noOutput) (wellFormed-output (decode ws) fits o noOutput l))))
+      (λ o l. rw (← count) (output-renumbered (decode ws) numbers (getD (decode ws .outputs) o noOutput)
+      (wellFormed-output (decode ws) fits o noOutput l))))
 
 -- ---- all of it
 
@@ -167,9 +185,16 @@ pub sizes : (ws : List ℕ) {nodes : Nodes} → isMalformed ws ≡ false → nod
 unfolding outputsAt nodesOf
 sizes ws whole are =
     let p = whole-parts ws whole in
-    rw are (record { fewInputs = p .fewInputs; fewGates = p .fewGates; gatesAre = refl; fewOutputs = p .fewOutputs; words = p .sized })
+    rw are (record {
+      fewInputs = p .fewInputs;
+      fewGates = p .fewGates;
+      gatesAre = refl;
+      fewOutputs = p .fewOutputs;
+      words = p .sized;
+    })
 
-module _ (ws : List ℕ) (whole : isMalformed ws ≡ false) (order numbers entry table out : List ℕ) (listed : Order (getD ws 1 0) (getD ws 1 0) order)
+module _ (ws : List ℕ) (whole : isMalformed ws ≡ false) (order numbers entry table out : List ℕ)
+    (listed : Order (getD ws 1 0) (getD ws 1 0) order)
     (room : length ws ≤ length out) where
   -- the parts, stored one after the other
   stored : table ≡ placed (tab (newWord (nodesOf ws .inputs) numbers) (nodesOf ws .gates)) entry
@@ -179,7 +204,8 @@ module _ (ws : List ℕ) (whole : isMalformed ws ≡ false) (order numbers entry
       ≡ placed (encode (arrangement ws order numbers)) out
   unfolding arrangement arranged nodesOf
   stored et =
-      ap (λ (l : List ℕ). sets l (at + 5 * m) outputs) (sets-append front out 0 at gates (rw (length-tab (wordFrom ws 0) at) (omega arith)))
+      ap (λ (l : List ℕ). sets l (at + 5 * m) outputs)
+      (sets-append front out 0 at gates (rw (length-tab (wordFrom ws 0) at) (omega arith)))
       ∙ sets-append (front ++ gates) out 0 (at + 5 * m) outputs
       (rw (
         length-append front gates,
@@ -216,15 +242,18 @@ module _ (ws : List ℕ) (whole : isMalformed ws ≡ false) (order numbers entry
 
       long : length (encode c) ≡ length ws
       long =
-          arranged-length (take m order) (numberAt numbers) (decode ws) (taken ∙ sym (decode-gateCount ws)) ∙ ap {B = ℕ} length (whole-encode ws whole)
+          arranged-length (take m order) (numberAt numbers) (decode ws) (taken ∙ sym (decode-gateCount ws))
+          ∙ ap {B = ℕ} length (whole-encode ws whole)
 
       encoded : encode c ≡ front ++ gates ++ outputs
       encoded =
-          encode-of c (getD ws 0 0) m (getD ws 2 0) (getD ws 3 0) (tab (wordFrom ws 4) (4 * getD ws 0 0 + 2 * getD ws 3 0)) gates outputs
+          encode-of c (getD ws 0 0) m (getD ws 2 0) (getD ws 3 0)
+          (tab (wordFrom ws 4) (4 * getD ws 0 0 + 2 * getD ws 3 0)) gates outputs
           (decode-inputCount ws) (arranged-count (take m order) (numberAt numbers) (decode ws) ∙ taken)
           (arranged-outputCount (take m order) (numberAt numbers) (decode ws) ∙ decode-outputCount ws)
           (decode-neverCount ws) (front-written ws)
-          (gates-words ws order numbers whole listed table stands) (outputs-words ws order numbers whole listed table stands)
+          (gates-words ws order numbers whole listed table stands)
+          (outputs-words ws order numbers whole listed table stands)
           ∙ ap (λ (r : List ℕ). r ++ gates ++ outputs) (sym (front-words ws))
 
   pub arranged-written : (nodes : Nodes) (k : ℕ) (out₁ out₂ out₃ : List ℕ) → nodes ≡ nodesOf ws → k ≡ getD ws 2 0

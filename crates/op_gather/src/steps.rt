@@ -5,6 +5,7 @@ use netlist::Answer;
 use netlist::Refusal;
 use op_groups::assign::assign;
 use unroll_order::list_members;
+use words_layout::limits::MAX_GATES;
 use words_layout::offsets::gates_of;
 use words_refusals::Test;
 use words_refusals::refusal;
@@ -35,9 +36,9 @@ pub fn check_rooms(room: usize, needed: usize, list: usize, gates: usize) -> Tes
 // Lists the gates by group, and writes the block in that order.
 pub fn write_gathered(
     words: &[u16],
-    numbers: &mut [u16],
-    places: &mut [u16],
-    table: &mut [u16],
+    numbers: &mut [u16; MAX_GATES],
+    places: &mut [u16; MAX_GATES],
+    table: &mut [u16; MAX_GATES],
     gathered: &mut [u16],
     order: &mut [u16],
 )
@@ -56,8 +57,8 @@ pub fn write_gathered(
 pub fn scatter_with(
     words: &[u16],
     order: &[u16],
-    places: &mut [u16],
-    table: &mut [u16],
+    places: &mut [u16; MAX_GATES],
+    table: &mut [u16; MAX_GATES],
     original: &mut [u16],
 ) -> Answer
     requires { ⌜ ScatterReady (now words) (now places) (now table) ⌝ }

@@ -1,4 +1,5 @@
--- Groups' outcome as a chain of conditions, and the numbers of a block from those of its graph. Cited by `assign_with` and `groups`. Assumes nothing.
+-- Groups' outcome as a chain of conditions, and the numbers of a block from those of its graph. Cited by `assign_with`
+-- and `groups`. Assumes nothing.
 use mathlib.Core.Path.{_≡_, refl, sym, _∙_}
 use mathlib.Core.List.{List}
 use Prim.Native.Nat.{ℕ, _≤_, _<_}
@@ -29,11 +30,16 @@ module _ (ws : List ℕ) (room : ℕ) where
   groups-room = rw (length-tab (groupNumber (decode ws)) (gateCount (decode ws)), decode-gateCount ws) refl
 
 -- a block has its graph's groups
-pub block-numbered : {b : Block} {m : ℕ} {graph numbers entry exit : List ℕ} {count : ℕ} → Decoded b m graph → NumbersOf (network m graph) m numbers count
+pub block-numbered : {b : Block} {m : ℕ} {graph numbers entry exit : List ℕ} {count : ℕ} → Decoded b m graph
+    → NumbersOf (network m graph) m numbers count
     → exit ≡ placed (tab (numberAt numbers) m) entry → GroupsNumbered b entry exit count
 unfolding groupNumbers
 block-numbered {b} {m} {graph} {numbers} d n is =
     let same : tab (numberAt numbers) m ≡ groupNumbers b =
     rw (← groupNumbers-gates (network m graph) b (network-gates b m graph d), network-count m graph)
     (tab-ext (numberAt numbers) (groupNumber (network m graph)) m (λ j l. n .each j l)) in
-    record { numbersAre = is ∙ rw same refl; countIs = n .countIs ∙ rw (groups-gates (network m graph) b (network-gates b m graph d)) refl }
+    record {
+      numbersAre = is ∙ rw same refl;
+      countIs = n .countIs
+          ∙ rw (groups-gates (network m graph) b (network-gates b m graph d)) refl;
+    }

@@ -20,18 +20,20 @@ use Rattle.theory_reach.proofs.Next.{ready-reads, ready-intro, mayBeNext-intro,
 use Rattle.graph_gates.specs.Graph.{network}
 use Rattle.graph_gates.proofs.Network.{network-count}
 use Rattle.graph_scc.proofs.Slots.{read-inside}
-use Rattle.graph_scc.proofs.Leader.{leaders-same, leader-le, leader-same}
+use Rattle.graph_leaders.proofs.Leader.{leaders-same, leader-le, leader-same}
 use Rattle.op_groups.specs.Numbering.{unnumbered, numberedGates, NumberReady}
 
 -- the numbered gates are those that are not unnumbered
-pub done-member : (m : ℕ) (numbers : List ℕ) (k : ℕ) → k < m → member k (numberedGates m numbers) ≡ not (unnumbered numbers k)
+pub done-member : (m : ℕ) (numbers : List ℕ) (k : ℕ) → k < m
+    → member k (numberedGates m numbers) ≡ not (unnumbered numbers k)
 unfolding numberedGates
 done-member m numbers k l = rw (member-keep (λ j. not (unnumbered numbers j)) (upTo m) k, member-upTo k m l) refl
 
 pub done-below : (m : ℕ) (numbers : List ℕ) (k : ℕ) → member k (numberedGates m numbers) ≡ true → k < m
 unfolding numberedGates
 done-below m numbers k h =
-    upTo-below k m (and-left (member k (upTo m)) (not (unnumbered numbers k)) (sym (member-keep (λ j. not (unnumbered numbers j)) (upTo m) k) ∙ h))
+    upTo-below k m (and-left (member k (upTo m)) (not (unnumbered numbers k))
+    (sym (member-keep (λ j. not (unnumbered numbers j)) (upTo m) k) ∙ h))
 
 -- ---- leaders
 
@@ -46,8 +48,10 @@ module _ {m : ℕ} {graph : List ℕ} {leaders : List ℕ} (r : NumberReady m gr
   pub inside : Inside (network m graph)
   inside i k h = in-block (read-inside (r .legal) i (from-block (reads-below (network m graph) i k h)) k h)
 
-  pub lead-same : (i j : ℕ) → i < m → j < m → eqb (getD leaders i 0) (getD leaders j 0) ≡ sameGroup (network m graph) i j
-  lead-same i j il jl = rw (r .leads .each i il, r .leads .each j jl) (leaders-same (network m graph) i j (in-block il) (in-block jl))
+  pub lead-same : (i j : ℕ) → i < m → j < m
+      → eqb (getD leaders i 0) (getD leaders j 0) ≡ sameGroup (network m graph) i j
+  lead-same i j il jl =
+      rw (r .leads .each i il, r .leads .each j jl) (leaders-same (network m graph) i j (in-block il) (in-block jl))
 
   pub lead-le : (j : ℕ) → j < m → getD leaders j 0 ≤ j
   lead-le j l = rw (r .leads .each j l) (leader-le (network m graph) j (in-block l))
@@ -59,7 +63,8 @@ module _ {m : ℕ} {graph : List ℕ} {leaders : List ℕ} (r : NumberReady m gr
   pub lead-self : (j : ℕ) → j < m → getD leaders (getD leaders j 0) 0 ≡ getD leaders j 0
   lead-self j l =
       let le : getD leaders j 0 ≤ j = lead-le j l in
-      sym (eqb-true (getD leaders j 0) (getD leaders (getD leaders j 0) 0) (lead-same j (getD leaders j 0) l (omega arith) ∙ lead-group j l))
+      sym (eqb-true (getD leaders j 0) (getD leaders (getD leaders j 0) 0)
+      (lead-same j (getD leaders j 0) l (omega arith) ∙ lead-group j l))
 
   -- a leader is its group's lowest gate
   pub lowest : (leader : ℕ) → leader < m → (i : ℕ) → i < leader → getD leaders i 0 ≡ leader → ⊥
@@ -76,11 +81,14 @@ module _ {m : ℕ} {graph : List ℕ} {leaders : List ℕ} (r : NumberReady m gr
     led i il =
         let both : eqb (getD leaders j 0) (getD leaders i 0) ≡ sameGroup (network m graph) j i = lead-same j i l il in
         same-test (eqb (getD leaders i 0) j) (member i (groupOf (network m graph) j))
-        (λ e. groupOf-member (network m graph) j i (sym both ∙ eq-eqb (getD leaders j 0) (getD leaders i 0) (leads ∙ sym (eqb-true (getD leaders i 0) j e))))
-        (λ e. eq-eqb (getD leaders i 0) j (sym (eqb-true (getD leaders j 0) (getD leaders i 0) (both ∙ groupOf-same (network m graph) j i e)) ∙ leads))
+        (λ e. groupOf-member (network m graph) j i
+        (sym both ∙ eq-eqb (getD leaders j 0) (getD leaders i 0) (leads ∙ sym (eqb-true (getD leaders i 0) j e))))
+        (λ e. eq-eqb (getD leaders i 0) j (sym
+        (eqb-true (getD leaders j 0) (getD leaders i 0) (both ∙ groupOf-same (network m graph) j i e)) ∙ leads))
 
     -- a gate of the group reads a gate without a number outside it
-    pub waits : (i k : ℕ) → i < m → getD leaders i 0 ≡ j → reads (network m graph) i k ≡ true → unnumbered numbers k ≡ true → (getD leaders k 0 ≡ j → ⊥)
+    pub waits : (i k : ℕ) → i < m → getD leaders i 0 ≡ j → reads (network m graph) i k ≡ true
+        → unnumbered numbers k ≡ true → (getD leaders k 0 ≡ j → ⊥)
         → mayBeNext (network m graph) done j ≡ false
     waits i k il e read u apart =
         let kl : k < m = from-block (inside i k read) in
@@ -88,12 +96,14 @@ module _ {m : ℕ} {graph : List ℕ} {leaders : List ℕ} (r : NumberReady m gr
         ⊎-elim
         (λ g. apart (eqb-true (getD leaders k 0) j (led k kl ∙ g)))
         (λ d. not-both d (done-member m numbers k kl ∙ ap not u))
-        (ready-reads (network m graph) done (groupOf (network m graph) j) (mayBeNext-ready (network m graph) done j t) i k
+        (ready-reads (network m graph) done (groupOf (network m graph) j) (mayBeNext-ready (network m graph) done j t) i
+        k
         (sym (led i il) ∙ eq-eqb (getD leaders i 0) j e) read))
 
     -- none does
     pub free : unnumbered numbers j ≡ true
-        → ((i k : ℕ) → i < m → getD leaders i 0 ≡ j → reads (network m graph) i k ≡ true → unnumbered numbers k ≡ true → getD leaders k 0 ≡ j)
+        → ((i k : ℕ) → i < m → getD leaders i 0 ≡ j → reads (network m graph) i k ≡ true → unnumbered numbers k ≡ true
+        → getD leaders k 0 ≡ j)
         → mayBeNext (network m graph) done j ≡ true
     free u none =
         mayBeNext-intro (network m graph) done j (done-member m numbers j l ∙ ap not u)
@@ -103,5 +113,6 @@ module _ {m : ℕ} {graph : List ℕ} {leaders : List ℕ} (r : NumberReady m gr
         ⊎-elim inr
         (λ d. inl (sym (led k kl)
         ∙ eq-eqb (getD leaders k 0) j
-        (none i k il (eqb-true (getD leaders i 0) j (led i il ∙ im)) read (not-false (unnumbered numbers k) (sym (done-member m numbers k kl) ∙ d)))))
+        (none i k il (eqb-true (getD leaders i 0) j (led i il ∙ im)) read
+        (not-false (unnumbered numbers k) (sym (done-member m numbers k kl) ∙ d)))))
         (bool-cases (member k done))))

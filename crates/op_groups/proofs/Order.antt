@@ -24,7 +24,8 @@ use Rattle.theory_reach.proofs.Order.{length-groups, groups-numbered, nextGate-
 use Rattle.theory_reach.proofs.GroupNumber.{groupNumber-is, groupNumber-below, groupNumber-member}
 use Rattle.graph_gates.specs.Graph.{network}
 use Rattle.graph_gates.proofs.Network.{network-count}
-use Rattle.op_groups.specs.Numbering.{noNumber, unnumbered, numberedGates, leadsNext, numberUpTo, NumberReady, NumberedUpTo}
+use Rattle.op_groups.specs.Numbering.{noNumber, unnumbered, numberedGates, leadsNext, numberUpTo, NumberReady}
+use Rattle.op_groups.specs.Numbering.{NumberedUpTo}
 use Rattle.op_groups.proofs.Leading.{done-member, done-below, in-block, from-block, inside, lead-le, lead-group}
 
 module _ (b : Block) (inside : Inside b) where
@@ -34,7 +35,8 @@ module _ (b : Block) (inside : Inside b) where
     where
       forth : member j (joined (take g (groups b))) ≡ true → ltb (groupNumber b j) g ≡ true
       forth h =
-          let r : (h : ℕ) × (h < length (take g (groups b))) × (member j (getD (take g (groups b)) h []) ≡ true) = joined-member j (take g (groups b)) h in
+          let r : (h : ℕ) × (h < length (take g (groups b))) × (member j (getD (take g (groups b)) h []) ≡ true) =
+          joined-member j (take g (groups b)) h in
           let lt : r .0 < g = omega (arith, r .1, rw (length-take g (groups b)) at (r .1)) in
           let m : member j (getD (groups b) (r .0) []) ≡ true = rw (getD-take g (groups b) (r .0) [] lt) at (r .2) in
           lt-ltb (groupNumber b j) g (rw (groupNumber-is b j (r .0) m) lt)
@@ -42,10 +44,12 @@ module _ (b : Block) (inside : Inside b) where
       back : ltb (groupNumber b j) g ≡ true → member j (joined (take g (groups b))) ≡ true
       back h =
           let lt : groupNumber b j < g = ltb-true (groupNumber b j) g h in
-          member-joined j (take g (groups b)) (groupNumber b j) (rw (getD-take g (groups b) (groupNumber b j) [] lt) (groupNumber-member b inside j l))
+          member-joined j (take g (groups b)) (groupNumber b j)
+          (rw (getD-take g (groups b) (groupNumber b j) [] lt) (groupNumber-member b inside j l))
 
   -- the state of the numbers tells which gates are done
-  open-is : (g : ℕ) (numbers : List ℕ) → gateCount b ≤ 1024 → ((j : ℕ) → j < gateCount b → getD numbers j 0 ≡ numberUpTo b g j) → (j : ℕ) → j < gateCount b
+  open-is : (g : ℕ) (numbers : List ℕ) → gateCount b ≤ 1024
+      → ((j : ℕ) → j < gateCount b → getD numbers j 0 ≡ numberUpTo b g j) → (j : ℕ) → j < gateCount b
       → unnumbered numbers j ≡ not (member j (joined (take g (groups b))))
   unfolding unnumbered numberUpTo
   open-is g numbers few are j l = rw (are j l, numbered-below g j l) (go (ltb (groupNumber b j) g) refl)
@@ -87,7 +91,8 @@ module _ {m : ℕ} {graph : List ℕ} {g : ℕ} {leaders numbers : List ℕ} (s 
 
       outside-done : m ≤ k → member k done ≡ false
       outside-done ge =
-          not-true-false (member k done) (λ t. let lt : k < m = from-block (s .prepared) (groups-numbered b g .below k t) in omega arith)
+          not-true-false (member k done) (λ t. let lt : k < m = from-block (s .prepared)
+          (groups-numbered b g .below k t) in omega arith)
 
   next-same : mayBeNext b (numberedGates m numbers) ≡ mayBeNext b done
   next-same = mayBeNext-same b (numberedGates m numbers) done same-done
@@ -105,7 +110,8 @@ module _ {m : ℕ} {graph : List ℕ} {g : ℕ} {leaders numbers : List ℕ} (s 
       lower : getD leaders j 0 < j → getD leaders j 0 ≡ j
       lower lt =
           let new : member (getD leaders j 0) done ≡ false = not-true-false (member (getD leaders j 0) done)
-          (λ t. not-both (groups-numbered b g .whole (getD leaders j 0) j t (sameGroup-sym b j (getD leaders j 0) group)) (mayBeNext-left b done j may)) in
+          (λ t. not-both (groups-numbered b g .whole (getD leaders j 0) j t
+          (sameGroup-sym b j (getD leaders j 0) group)) (mayBeNext-left b done j may)) in
           let also : mayBeNext b done (getD leaders j 0) ≡ true = mayBeNext-intro b done (getD leaders j 0) new
           (rw (← groupOf-equal b j (getD leaders j 0) group) (mayBeNext-ready b done j may)) in
           not-both also (least-below (mayBeNext b done) (gateCount b) (getD leaders j 0) (rw (← e) lt))
@@ -117,6 +123,7 @@ module _ {m : ℕ} {graph : List ℕ} {g : ℕ} {leaders numbers : List ℕ} (s 
       least-is (leadsNext b m numbers leaders) m (nextGate b done)
       (omega (arith, least-le (mayBeNext b done) (gateCount b), network-count m graph))
       (λ i il. rw (next-same, least-below (mayBeNext b done) (gateCount b) i il) (and-false (eqb (getD leaders i 0) i)))
-      (λ l. and-intro (eqb (getD leaders (nextGate b done) 0) (nextGate b done)) (mayBeNext b (numberedGates m numbers) (nextGate b done))
+      (λ l. and-intro (eqb (getD leaders (nextGate b done) 0) (nextGate b done))
+      (mayBeNext b (numberedGates m numbers) (nextGate b done))
       (eq-eqb (getD leaders (nextGate b done) 0) (nextGate b done) (next-leads (nextGate b done) l refl))
       (rw next-same (nextGate-passes b done (in-block (s .prepared) l))))

@@ -1,4 +1,5 @@
--- A set of gates as bits: one is added, one is taken out, and the lowest is found. Cited by `add`, `remove` and `lowest`. Assumes nothing.
+-- A set of gates as bits: one is added, one is taken out, and the lowest is found. Cited by `add`, `remove` and
+-- `lowest`. Assumes nothing.
 use mathlib.Core.Path.{_≡_, refl, sym, ap, _∙_}
 use mathlib.Core.Logic.{⊎-elim}
 use mathlib.Core.Bool.{Bool, true, false, cond, not, _&&_, _||_, or-false, and-true}
@@ -34,11 +35,14 @@ bit-other j i ne = ⊎-elim below above (lt-or-le i j)
     below : i < j → 1 * 2 ^ j / 2 ^ i % 2 ≡ 0
     below l =
         let e : j ≡ suc (j - i - 1) + i = omega arith in
-        let f : 1 * 2 ^ j ≡ 2 ^ suc (j - i - 1) * 2 ^ i = one-mul (2 ^ j) ∙ ap (λ (k : ℕ). 2 ^ k) e ∙ pow-add 2 (suc (j - i - 1)) i in
+        let f : 1 * 2 ^ j ≡ 2 ^ suc (j - i - 1) * 2 ^ i =
+        one-mul (2 ^ j) ∙ ap (λ (k : ℕ). 2 ^ k) e ∙ pow-add 2 (suc (j - i - 1)) i in
         rw (f, shl-shr (2 ^ suc (j - i - 1)) i) (omega (arith, pow-suc 2 (j - i - 1)))
 
     above : j ≤ i → 1 * 2 ^ j / 2 ^ i % 2 ≡ 0
-    above l = bit-high (1 * 2 ^ j) (suc j) i (rw (one-mul (2 ^ j)) (pow-lt {i = j} {j = suc j} (omega arith))) (omega (arith, ne))
+    above l =
+        bit-high (1 * 2 ^ j) (suc j) i (rw (one-mul (2 ^ j)) (pow-lt {i = j} {j = suc j} (omega arith)))
+        (omega (arith, ne))
 
 bit-single : (j i : ℕ) → bit (1 * 2 ^ j) i ≡ cond (eqb i j) 1 0
 bit-single j i =
@@ -68,7 +72,8 @@ module _ (w j s : ℕ) (l : j < 64) where
   unfolding hasLane
   with-bit = rw (shifted j l, bit-or w (1 * 2 ^ j) s, bit-single j s) (or-lane (bit w s) (eqb s j) (bit-low w s))
 
-  without-bit : hasLane w j ≡ true → hasLane (bitXor w (1 * 2 ^ j % 18446744073709551616)) s ≡ hasLane w s && not (eqb s j)
+  without-bit : hasLane w j ≡ true → hasLane (bitXor w (1 * 2 ^ j % 18446744073709551616)) s
+      ≡ hasLane w s && not (eqb s j)
   unfolding hasLane
   without-bit h =
       rw (shifted j l, bit-xor w (1 * 2 ^ j) s, bit-single j s)
@@ -82,36 +87,45 @@ module _ (l : ℕ) (ready : List ℕ) (fits : l / 64 < length ready) where
       ⊎-elim (λ q. rw q (eq-eqb (l % 64) (l % 64) refl ∙ sym (eq-eqb l l refl)))
       (λ ne. ne-eqb (i % 64) (l % 64) (λ q. ne (omega arith)) ∙ sym (ne-eqb i l ne)) (eq-or-ne i l)
 
-  pub set-added : Added l ready (set ready (l / 64) (bitOr (getD ready (l / 64) 0) (1 * 2 ^ (l % 64) % 18446744073709551616)))
+  pub set-added : Added l ready (set ready (l / 64)
+      (bitOr (getD ready (l / 64) 0) (1 * 2 ^ (l % 64) % 18446744073709551616)))
   unfolding inSet
   set-added i = ⊎-elim same apart (eq-or-ne (i / 64) (l / 64))
     where
       v : ℕ
       v = bitOr (getD ready (l / 64) 0) (1 * 2 ^ (l % 64) % 18446744073709551616)
 
-      same : i / 64 ≡ l / 64 → hasLane (getD (set ready (l / 64) v) (i / 64) 0) (i % 64) ≡ hasLane (getD ready (i / 64) 0) (i % 64) || eqb i l
+      same : i / 64 ≡ l / 64 → hasLane (getD (set ready (l / 64) v) (i / 64) 0) (i % 64)
+          ≡ hasLane (getD ready (i / 64) 0) (i % 64) || eqb i l
       same e =
-          rw (e, getD-set-same ready (l / 64) v 0 fits, ← same-word i e) (with-bit (getD ready (l / 64) 0) (l % 64) (i % 64) (omega arith))
+          rw (e, getD-set-same ready (l / 64) v 0 fits, ← same-word i e)
+          (with-bit (getD ready (l / 64) 0) (l % 64) (i % 64) (omega arith))
 
-      apart : (i / 64 ≡ l / 64 → ⊥) → hasLane (getD (set ready (l / 64) v) (i / 64) 0) (i % 64) ≡ hasLane (getD ready (i / 64) 0) (i % 64) || eqb i l
+      apart : (i / 64 ≡ l / 64 → ⊥) → hasLane (getD (set ready (l / 64) v) (i / 64) 0) (i % 64)
+          ≡ hasLane (getD ready (i / 64) 0) (i % 64) || eqb i l
       apart ne =
-          rw (getD-set-other ready (l / 64) (i / 64) v 0 ne, ne-eqb i l (λ q. ne (rw q refl))) (sym (or-false (hasLane (getD ready (i / 64) 0) (i % 64))))
+          rw (getD-set-other ready (l / 64) (i / 64) v 0 ne, ne-eqb i l (λ q. ne (rw q refl)))
+          (sym (or-false (hasLane (getD ready (i / 64) 0) (i % 64))))
 
-  pub set-removed : inSet ready l ≡ true → Removed l ready (set ready (l / 64) (bitXor (getD ready (l / 64) 0) (1 * 2 ^ (l % 64) % 18446744073709551616)))
+  pub set-removed : inSet ready l ≡ true
+      → Removed l ready (set ready (l / 64) (bitXor (getD ready (l / 64) 0) (1 * 2 ^ (l % 64) % 18446744073709551616)))
   unfolding inSet
   set-removed h i = ⊎-elim same apart (eq-or-ne (i / 64) (l / 64))
     where
       v : ℕ
       v = bitXor (getD ready (l / 64) 0) (1 * 2 ^ (l % 64) % 18446744073709551616)
 
-      same : i / 64 ≡ l / 64 → hasLane (getD (set ready (l / 64) v) (i / 64) 0) (i % 64) ≡ hasLane (getD ready (i / 64) 0) (i % 64) && not (eqb i l)
+      same : i / 64 ≡ l / 64 → hasLane (getD (set ready (l / 64) v) (i / 64) 0) (i % 64)
+          ≡ hasLane (getD ready (i / 64) 0) (i % 64) && not (eqb i l)
       same e =
           rw (e, getD-set-same ready (l / 64) v 0 fits, ← same-word i e)
           (without-bit (getD ready (l / 64) 0) (l % 64) (i % 64) (omega arith) h)
 
-      apart : (i / 64 ≡ l / 64 → ⊥) → hasLane (getD (set ready (l / 64) v) (i / 64) 0) (i % 64) ≡ hasLane (getD ready (i / 64) 0) (i % 64) && not (eqb i l)
+      apart : (i / 64 ≡ l / 64 → ⊥) → hasLane (getD (set ready (l / 64) v) (i / 64) 0) (i % 64)
+          ≡ hasLane (getD ready (i / 64) 0) (i % 64) && not (eqb i l)
       apart ne =
-          rw (getD-set-other ready (l / 64) (i / 64) v 0 ne, ne-eqb i l (λ q. ne (rw q refl))) (sym (and-true (hasLane (getD ready (i / 64) 0) (i % 64))))
+          rw (getD-set-other ready (l / 64) (i / 64) v 0 ne, ne-eqb i l (λ q. ne (rw q refl)))
+          (sym (and-true (hasLane (getD ready (i / 64) 0) (i % 64))))
 
 -- ---- no gate
 
@@ -146,7 +160,8 @@ module _ (ready : List ℕ) (at : ℕ) (none : NoneBelow ready at) where
 
   pub word-lowest : getD ready at 0 < 18446744073709551616 → (getD ready at 0 ≡ 0 → ⊥) → at < length ready
       → 64 * at + least (hasLane (getD ready at 0)) 64 ≡ least (inSet ready) (64 * length ready)
-  word-lowest fits ne l = sym (least-is (inSet ready) (64 * length ready) (64 * at + r) (omega (arith, within)) below at-it)
+  word-lowest fits ne l =
+      sym (least-is (inSet ready) (64 * length ready) (64 * at + r) (omega (arith, within)) below at-it)
     where
       r : ℕ
       r = least (hasLane (getD ready at 0)) 64
@@ -156,18 +171,22 @@ module _ (ready : List ℕ) (at : ℕ) (none : NoneBelow ready at) where
           let s : (s : ℕ) × (s < 64) × (hasLane (getD ready at 0) (0 + s) ≡ true) =
           tells-some {lanes = 64} {base = 0} {p = hasLane (getD ready at 0)} {w = getD ready at 0}
           (record { within = fits; each = λ s l. rw zero-add refl }) ne in
-          ⊎-elim (λ h. h) (λ h. not-both (s .2) (rw (zero-add (s .0)) (least-below (hasLane (getD ready at 0)) 64 (s .0) (omega (arith, s .1)))))
+          ⊎-elim (λ h. h) (λ h. not-both (s .2)
+          (rw (zero-add (s .0)) (least-below (hasLane (getD ready at 0)) 64 (s .0) (omega (arith, s .1)))))
           (lt-or-le r 64)
 
       below : (i : ℕ) → i < 64 * at + r → inSet ready i ≡ false
       below i h =
-          ⊎-elim (none i) (λ a. in-word i a (omega (arith, within)) ∙ least-below (hasLane (getD ready at 0)) 64 (i - 64 * at) (omega arith))
+          ⊎-elim (none i) (λ a. in-word i a (omega (arith, within))
+          ∙ least-below (hasLane (getD ready at 0)) 64 (i - 64 * at) (omega arith))
           (lt-or-le i (64 * at))
 
       at-it : 64 * at + r < 64 * length ready → inSet ready (64 * at + r) ≡ true
       at-it h =
           let e : 64 * at + r - 64 * at ≡ r = omega arith in
-          in-word (64 * at + r) (omega arith) (omega (arith, within)) ∙ rw e (least-at (hasLane (getD ready at 0)) 64 within)
+          in-word (64 * at + r) (omega arith) (omega (arith, within))
+          ∙ rw e (least-at (hasLane (getD ready at 0)) 64 within)
 
   pub none-lowest : at ≡ length ready → 64 * at ≡ least (inSet ready) (64 * length ready)
-  none-lowest e = rw (← e) (sym (least-is (inSet ready) (64 * at) (64 * at) (omega arith) none (λ h. absurd (omega arith))))
+  none-lowest e =
+      rw (← e) (sym (least-is (inSet ready) (64 * at) (64 * at) (omega arith) none (λ h. absurd (omega arith))))

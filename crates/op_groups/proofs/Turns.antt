@@ -7,7 +7,8 @@ use Prim.Native.Nat.{ℕ, zero, suc, _+_, _*_, _≤_, _<_}
 use native.Mathlib.Nat.{le-antisymm}
 use native.Mathlib.Numerals.{add-one}
 use native.Mathlib.Omega.{arith}
-use lib.ListN.{length, getD, take, drop, replicate, length-replicate, getD-replicate, replicate-append-replicate, List·getD-append}
+use lib.ListN.{length, getD, take, drop, replicate, length-replicate, getD-replicate, replicate-append-replicate}
+use lib.ListN.{List·getD-append}
 use lib.Seq.{take-all, drop-at}
 use lib.Dec.{eqb, ltb}
 use borrow.Author.Tests.{eq-eqb, lt-ltb, le-ltb}
@@ -28,23 +29,27 @@ use Rattle.theory_reach.proofs.GroupNumber.{groupNumber-is, groupNumber-below, 
 use Rattle.theory_reach.proofs.Build.{groups-at}
 use Rattle.graph_gates.specs.Graph.{network}
 use Rattle.graph_gates.proofs.Network.{network-count}
-use Rattle.op_groups.specs.Numbering.{noNumber, unnumbered, leadsNext, numberUpTo, NumberReady, NumberedUpTo, NumbersOf}
+use Rattle.op_groups.specs.Numbering.{noNumber, unnumbered, leadsNext, numberUpTo, NumberReady, NumberedUpTo}
+use Rattle.op_groups.specs.Numbering.{NumbersOf}
 use Rattle.op_groups.specs.Waiting.{NextsAre}
 use Rattle.op_groups.proofs.Leading.{in-block, inside, lead-le, lead-same}
 use Rattle.op_groups.proofs.Order.{State, next-leads, next-found}
 
 -- no group has a number yet
-pub numbers-none : {m : ℕ} {graph numbers : List ℕ} → length numbers ≡ maxGates → ((j : ℕ) → j < m → getD numbers j 0 ≡ noNumber)
+pub numbers-none : {m : ℕ} {graph numbers : List ℕ} → length numbers ≡ maxGates
+    → ((j : ℕ) → j < m → getD numbers j 0 ≡ noNumber)
     → NumberedUpTo m graph 0 numbers
 unfolding numberUpTo
 numbers-none {m} {graph} room none =
     record { room = room; each = λ j l. none j l ∙ rw (le-ltb (groupNumber (network m graph) j) 0 (omega arith)) refl }
 
-pub bare-all : {m : ℕ} (numbers : List ℕ) → ((j : ℕ) → j < m → getD numbers j 0 ≡ noNumber) → (j : ℕ) → j < m → unnumbered numbers j ≡ true
+pub bare-all : {m : ℕ} (numbers : List ℕ) → ((j : ℕ) → j < m → getD numbers j 0 ≡ noNumber) → (j : ℕ) → j < m
+    → unnumbered numbers j ≡ true
 unfolding unnumbered
 bare-all numbers none j l = eq-eqb (getD numbers j 0) noNumber (none j l)
 
-pub nexts-are : {m : ℕ} {graph leaders firsts nexts : List ℕ} → NumberReady m graph leaders → Linked leaders m m 0 firsts nexts → NextsAre leaders m nexts
+pub nexts-are : {m : ℕ} {graph leaders firsts nexts : List ℕ} → NumberReady m graph leaders
+    → Linked leaders m m 0 firsts nexts → NextsAre leaders m nexts
 nexts-are r s j l = s .nextIs j (omega arith) l (omega (arith, lead-le r j l))
 
 module _ (b : Block) (inside : Inside b) where
@@ -53,14 +58,21 @@ module _ (b : Block) (inside : Inside b) where
   next-within g h =
       ⊎-elim (λ l. l)
       (λ ge. not-both (all-done ge)
-      (mayBeNext-left b (joined (take g (groups b))) (nextGate b (joined (take g (groups b)))) (nextGate-passes b (joined (take g (groups b))) h)))
+      (mayBeNext-left b (joined (take g (groups b))) (nextGate b (joined (take g (groups b))))
+      (nextGate-passes b (joined (take g (groups b))) h)))
       (lt-or-le g (length (groups b)))
     where
-      all-done : length (groups b) ≤ g → member (nextGate b (joined (take g (groups b)))) (joined (take g (groups b))) ≡ true
-      all-done ge = rw (take-all g (groups b) ge) (groups-all b inside (nextGate b (joined (groups b))) (rw (take-all g (groups b) ge) at h))
+      all-done : length (groups b) ≤ g → member (nextGate b (joined (take g (groups b)))) (joined (take g (groups b)))
+          ≡ true
+      all-done ge =
+          rw (take-all g (groups b) ge) (groups-all b inside (nextGate b (joined (groups b)))
+          (rw (take-all g (groups b) ge) at h))
 
-  none-next : (g : ℕ) → g ≤ length (groups b) → gateCount b ≤ nextGate b (joined (take g (groups b))) → g ≡ length (groups b)
-  none-next g le h = ⊎-elim (λ l. absurd (omega (arith, groups-at b g l .0))) (λ ge. le-antisymm le ge) (lt-or-le g (length (groups b)))
+  none-next : (g : ℕ) → g ≤ length (groups b) → gateCount b ≤ nextGate b (joined (take g (groups b)))
+      → g ≡ length (groups b)
+  none-next g le h =
+      ⊎-elim (λ l. absurd (omega (arith, groups-at b g l .0))) (λ ge. le-antisymm le ge)
+      (lt-or-le g (length (groups b)))
 
   -- one group more has its number
   number-more : (g i j : ℕ) → nextGate b (joined (take g (groups b))) ≡ j → i < gateCount b → j < gateCount b
@@ -74,7 +86,8 @@ module _ (b : Block) (inside : Inside b) where
       group : getD (groups b) g [] ≡ groupOf b j
       group = rw is at (groups-at b g lt .1)
 
-      go : (t : Bool) → sameGroup b i j ≡ t → cond t g (cond (ltb (groupNumber b i) g) (groupNumber b i) noNumber) ≡ cond (ltb (groupNumber b i) (g + 1))
+      go : (t : Bool) → sameGroup b i j ≡ t
+          → cond t g (cond (ltb (groupNumber b i) g) (groupNumber b i) noNumber) ≡ cond (ltb (groupNumber b i) (g + 1))
           (groupNumber b i) noNumber
       go true e =
           let m : member i (getD (groups b) g []) ≡ true = rw (group, member-groupOf b j i) (sameGroup-sym b i j e) in
@@ -84,10 +97,12 @@ module _ (b : Block) (inside : Inside b) where
           let ne : groupNumber b i ≡ g → ⊥ = λ q. not-both
           (sameGroup-sym b j i (sym (member-groupOf b j i) ∙ rw (← group, ← q) (groupNumber-member b inside i il))) e in
           ⊎-elim (λ l. rw (lt-ltb (groupNumber b i) g l, lt-ltb (groupNumber b i) (g + 1) (omega arith)) refl)
-          (λ l. rw (le-ltb (groupNumber b i) g l, le-ltb (groupNumber b i) (g + 1) (omega arith)) refl) (lt-or-le (groupNumber b i) g)
+          (λ l. rw (le-ltb (groupNumber b i) g l, le-ltb (groupNumber b i) (g + 1) (omega arith)) refl)
+          (lt-or-le (groupNumber b i) g)
 
 -- a turn of the loop: gate j leads the next group
-module _ {m : ℕ} {graph leaders : List ℕ} (r : NumberReady m graph leaders) (g : ℕ) {numbers : List ℕ} (is : NumberedUpTo m graph g numbers) (j : ℕ)
+module _ {m : ℕ} {graph leaders : List ℕ} (r : NumberReady m graph leaders) (g : ℕ) {numbers : List ℕ}
+    (is : NumberedUpTo m graph g numbers) (j : ℕ)
     (found : j ≡ least (leadsNext (network m graph) m numbers leaders) m) where
   now : State m graph g leaders numbers
   now = record { prepared = r; numbersAre = is }
@@ -113,26 +128,33 @@ module _ {m : ℕ} {graph leaders : List ℕ} (r : NumberReady m graph leaders) 
 
     -- the gates that j leads are those of the next group
     pub turn-numbers : {numbers′ : List ℕ} → length numbers′ ≡ maxGates
-        → ((i : ℕ) → i < m → getD numbers′ i 0 ≡ cond (eqb (getD leaders i 0) j) g (getD numbers i 0)) → NumberedUpTo m graph (g + 1) numbers′
+        → ((i : ℕ) → i < m → getD numbers′ i 0 ≡ cond (eqb (getD leaders i 0) j) g (getD numbers i 0))
+        → NumberedUpTo m graph (g + 1) numbers′
     turn-numbers {numbers′} room each = record { room = room; each = numbered }
       where
         numbered : (i : ℕ) → i < m → getD numbers′ i 0 ≡ numberUpTo (network m graph) (g + 1) i
         numbered i il =
-            let led : eqb (getD leaders i 0) j ≡ sameGroup (network m graph) i j = rw (next-leads now j l next) at (lead-same r i j il l) in
-            each i il ∙ rw (led, is .each i il) (number-more (network m graph) (inside r) g i j (sym next) (in-block r il) (in-block r l))
+            let led : eqb (getD leaders i 0) j ≡ sameGroup (network m graph) i j =
+            rw (next-leads now j l next) at (lead-same r i j il l) in
+            each i il ∙ rw (led, is .each i il)
+            (number-more (network m graph) (inside r) g i j (sym next) (in-block r il) (in-block r l))
 
 -- the loop's end
-pub numbers-end : {m : ℕ} {graph leaders numbers : List ℕ} {g : ℕ} → NumberReady m graph leaders → NumberedUpTo m graph g numbers
+pub numbers-end : {m : ℕ} {graph leaders numbers : List ℕ} {g : ℕ} → NumberReady m graph leaders
+    → NumberedUpTo m graph g numbers
     → g ≡ length (groups (network m graph)) → NumbersOf (network m graph) m numbers g
 unfolding numberUpTo
 numbers-end {m} {graph} {g = g} r is end =
     record {
       each = λ j l. is .each j l
-          ∙ rw (lt-ltb (groupNumber (network m graph) j) g (rw end (groupNumber-below (network m graph) (inside r) j (in-block r l)))) refl;
+          ∙ rw (lt-ltb (groupNumber (network m graph) j) g
+          (rw end (groupNumber-below (network m graph) (inside r) j (in-block r l)))) refl;
       countIs = end;
     }
 
-pub end-late : {m : ℕ} {graph leaders : List ℕ} {g : ℕ} → NumberReady m graph leaders → g ≤ length (groups (network m graph)) → m ≤ g
+pub end-late : {m : ℕ} {graph leaders : List ℕ} {g : ℕ} → NumberReady m graph leaders
+    → g ≤ length (groups (network m graph)) → m ≤ g
     → g ≡ length (groups (network m graph))
 end-late {m} {graph} r le h =
-    let t : length (groups (network m graph)) ≤ gateCount (network m graph) = length-groups (network m graph) in omega (arith, network-count m graph)
+    let t : length (groups (network m graph)) ≤ gateCount (network m graph) = length-groups (network m graph) in
+    omega (arith, network-count m graph)

@@ -29,12 +29,14 @@ abbrev pub slotGate : List ℕ → ℕ → ℕ
 slotGate graph e = slotPlace graph e - firstGate
 
 unfoldable pub crosses : List ℕ → List ℕ → ℕ → Bool
-crosses graph leaders e = leb firstGate (slotPlace graph e) && not (eqb (getD leaders (slotGate graph e) 0) (getD leaders (e / slots) 0))
+crosses graph leaders e =
+    leb firstGate (slotPlace graph e) && not (eqb (getD leaders (slotGate graph e) 0) (getD leaders (e / slots) 0))
 
 -- slot e is waited for, at the moment when gate k has its number and, of the slots that read k, those with numbers
 -- below `at` are still to be woken
 unfoldable pub isOpen : List ℕ → List ℕ → List ℕ → ℕ → ℕ → ℕ → Bool
-isOpen graph leaders numbers k at e = crosses graph leaders e && (unnumbered numbers (slotGate graph e) || (eqb (slotGate graph e) k && ltb e at))
+isOpen graph leaders numbers k at e =
+    crosses graph leaders e && (unnumbered numbers (slotGate graph e) || (eqb (slotGate graph e) k && ltb e at))
 
 -- slot e is waited for, when no slot is to be woken: it reads a gate of another group that has no number
 unfoldable pub allOpen : List ℕ → List ℕ → List ℕ → ℕ → Bool
@@ -91,7 +93,8 @@ pub record WakeAllReady (m : ℕ) (graph : List ℕ) (k : ℕ) (leaders numbers 
   pub linked : Fanout m graph fanout
   pub below : k < m
   pub numbered : unnumbered numbers k ≡ false
-  pub waiting : Waiting m leaders numbers (getD leaders k 0) (isOpen graph leaders numbers k (getD fanout k 0)) counts ready
+  pub waiting : Waiting m leaders numbers (getD leaders k 0)
+      (isOpen graph leaders numbers k (getD fanout k 0)) counts ready
 
 -- ---- the gates of a group
 

@@ -1,4 +1,5 @@
--- The two ends of a line: what one byte more tells of each, and that they lie in order inside the text. Assumes nothing.
+-- The two ends of a line: what one byte more tells of each, and that they lie in order inside the text. Assumes
+-- nothing.
 use mathlib.Core.Path.{_≡_, refl, sym, ap, _∙_}
 use mathlib.Core.Bool.{Bool, true, false, cond, _||_, true≢false}
 use mathlib.Core.List.{List, [], _∷_}
@@ -18,10 +19,12 @@ abbrev pub NoLf : List ℕ → ℕ → ℕ → Type 0
 NoLf text at n = (k : ℕ) → k < n → getD text (at + k) 0 ≡ lf → ⊥
 
 -- one byte more
-pub no-more : (text : List ℕ) (at i : ℕ) (found : Bool) → (found ≡ false → NoLf text at i) → found || eqb (getD text (at + i) 0) lf ≡ false
+pub no-more : (text : List ℕ) (at i : ℕ) (found : Bool) → (found ≡ false → NoLf text at i)
+    → found || eqb (getD text (at + i) 0) lf ≡ false
     → NoLf text at (i + 1)
 no-more text at i true none e = absurd (true≢false e)
-no-more text at i false none e = below-more (λ k. getD text (at + k) 0 ≡ lf → ⊥) i (none refl) (eqb-false (getD text (at + i) 0) lf e)
+no-more text at i false none e =
+    below-more (λ k. getD text (at + k) 0 ≡ lf → ⊥) i (none refl) (eqb-false (getD text (at + i) 0) lf e)
 
 -- ---- the start
 
@@ -32,7 +35,8 @@ module _ (text : List ℕ) where
       let d : at ≡ suc (at - 1) = omega arith in
       ap (startBefore text) d ∙ rw (eq-eqb (getD text (at - 1) 0) lf e) (sym d)
 
-  pub start-before : (at : ℕ) → 0 < at → (getD text (at - 1) 0 ≡ lf → ⊥) → startBefore text at ≡ startBefore text (at - 1)
+  pub start-before : (at : ℕ) → 0 < at → (getD text (at - 1) 0 ≡ lf → ⊥)
+      → startBefore text at ≡ startBefore text (at - 1)
   unfolding startBefore
   start-before at h e =
       let d : at ≡ suc (at - 1) = omega arith in
@@ -62,7 +66,8 @@ module _ (text : List ℕ) where
   unfolding untilLf
   end-at at h e = rw (drop-cons text at 0 h, eq-eqb (getD text at 0) lf e) (omega arith)
 
-  pub end-behind : (at : ℕ) → at < length text → (getD text at 0 ≡ lf → ⊥) → at + untilLf (drop at text) ≡ suc at + untilLf (drop (suc at) text)
+  pub end-behind : (at : ℕ) → at < length text → (getD text at 0 ≡ lf → ⊥)
+      → at + untilLf (drop at text) ≡ suc at + untilLf (drop (suc at) text)
   unfolding untilLf
   end-behind at h e = rw (drop-cons text at 0 h, ne-eqb (getD text at 0) lf e) (omega arith)
 
@@ -102,4 +107,5 @@ module _ (text : List ℕ) (place : ℕ) where
 
   pub end-inside : lineEnd text place ≤ length text
   unfolding lineEnd
-  end-inside = omega (arith, clamped-le, until-le (drop (clamped text place) text), length-drop (clamped text place) text)
+  end-inside =
+      omega (arith, clamped-le, until-le (drop (clamped text place) text), length-drop (clamped text place) text)

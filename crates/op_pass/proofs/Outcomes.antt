@@ -30,11 +30,13 @@ module _ (ws setting : List ℕ) (room : ℕ) where
   -- Pass's
   pub pass-chain : pass ws setting room
       ≡ inRoom room
-      (refuseIf (isMalformed ws) MalformedBlock (refuseIf (not (isStraight b)) NotStraight (refuseIf (isBadSetting b setting) BadSetting (passBlock b x))))
+      (refuseIf (isMalformed ws) MalformedBlock
+      (refuseIf (not (isStraight b)) NotStraight (refuseIf (isBadSetting b setting) BadSetting (passBlock b x))))
   unfolding pass
   pass-chain = refl
 
-  pub pass-room : inRoom room (passBlock b x) ≡ refuseIf (ltb room (getD ws 1 0)) NoRoom (done (sweepCodes ws setting) (getD ws 1 0) 0)
+  pub pass-room : inRoom room (passBlock b x)
+      ≡ refuseIf (ltb room (getD ws 1 0)) NoRoom (done (sweepCodes ws setting) (getD ws 1 0) 0)
   unfolding passBlock inRoom sweepCodes
   pass-room = rw (length-map (sweep b x) code, length-sweep b x, decode-gateCount ws) refl
 
@@ -49,7 +51,8 @@ same-left room entry result true s a b = refl
 same-left room entry result false true a b = refl
 same-left room entry result false false a b = go (ltb room (length result))
   where
-    go : (r : Bool) → leftIn (refuseIf r NoRoom (done result a 0)) entry ≡ leftIn (refuseIf r NoRoom (done result b 0)) entry
+    go : (r : Bool) → leftIn (refuseIf r NoRoom (done result a 0)) entry
+        ≡ leftIn (refuseIf r NoRoom (done result b 0)) entry
     go true = refl
     go false = refl
 
@@ -60,21 +63,26 @@ unfolding pass settle passBlock settleBlock refuseIf
 pass-settle ws setting room entry h =
     let b = decode ws in
     let x = map valueOf setting in
-    rw (h, sweep-settled b x h) (same-left room entry (map code (settled b x)) (isMalformed ws) (isBadSetting b setting) (gateCount b) (rounds b x))
+    rw (h, sweep-settled b x h) (same-left room entry (map code (settled b x)) (isMalformed ws) (isBadSetting b setting)
+    (gateCount b) (rounds b x))
 
 -- Pass answers 0 for straight blocks only
 straight-of : (room : ℕ) (torn straight : Bool) (next : Outcome)
-    → numberOf (answerOf (inRoom room (refuseIf torn MalformedBlock (refuseIf (not straight) NotStraight next)))) ≡ 0 → straight ≡ true
+    → numberOf (answerOf (inRoom room (refuseIf torn MalformedBlock (refuseIf (not straight) NotStraight next)))) ≡ 0
+    → straight ≡ true
 unfolding refuseIf inRoom answerOf numberOf refusalNumber
 straight-of room true straight next e = absurd (omega arith)
 straight-of room false true next e = refl
 straight-of room false false next e = absurd (omega arith)
 
 -- so its promise says that its values are Settle's
-pub pass-promise : {ws setting entry exit : List ℕ} {r : Answer} → Promise (pass ws setting (length entry)) entry r exit → PassPromise ws setting entry r exit
+pub pass-promise : {ws setting entry exit : List ℕ} {r : Answer} → Promise (pass ws setting (length entry)) entry r exit
+    → PassPromise ws setting entry r exit
 unfolding pass
 pass-promise {ws} {setting} {entry} p =
     record {
       promise = p;
-      settles = λ z. p .leaves ∙ pass-settle ws setting (length entry) entry (straight-of (length entry) (isMalformed ws) _ _ (sym (p .told .number) ∙ z));
+      settles =
+          λ z. p .leaves ∙ pass-settle ws setting (length entry) entry
+          (straight-of (length entry) (isMalformed ws) _ _ (sym (p .told .number) ∙ z));
     }

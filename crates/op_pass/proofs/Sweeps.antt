@@ -33,7 +33,8 @@ use Rattle.graph_simulation.proofs.Rounds.{evaluated-same, starting-inputs, sta
 pub record Sweeping (m : ℕ) (graph start values : List ℕ) (j : ℕ) : Type 0 where
   pub coded : Coded values
   pub low : (p : ℕ) → p < firstGate → getD values p 0 ≡ getD start p 0
-  pub below : (k : ℕ) → k < j → getD values (firstGate + k) 0 ≡ code (getD (sweep (network m graph) (inputsIn start)) k undefined)
+  pub below : (k : ℕ) → k < j → getD values (firstGate + k) 0
+      ≡ code (getD (sweep (network m graph) (inputsIn start)) k undefined)
   pub above : (k : ℕ) → j ≤ k → k < maxGates → getD values (firstGate + k) 0 ≡ 2
 
 module _ {m : ℕ} {graph : List ℕ} (start : List ℕ) (g : Graph m graph) where
@@ -50,7 +51,8 @@ module _ {m : ℕ} {graph : List ℕ} (start : List ℕ) (g : Graph m graph) whe
   long = length-sweep b x ∙ network-count m graph
 
   pub sweeping-none : Unsettled start → Sweeping m graph start start 0
-  sweeping-none u = record { coded = u .coded; low = λ p l. refl; below = λ k l. absurd (omega arith); above = λ k l. u .none k }
+  sweeping-none u =
+      record { coded = u .coded; low = λ p l. refl; below = λ k l. absurd (omega arith); above = λ k l. u .none k }
 
   module _ {values : List ℕ} {j : ℕ} (h : Sweeping m graph start values j) (jl : j < m) where
     -- the state so far, as the sweep reads it
@@ -60,10 +62,13 @@ module _ {m : ℕ} {graph : List ℕ} (start : List ℕ) (g : Graph m graph) whe
       where
         earlier : k < j → getD (stateIn m values) k undefined ≡ getD (take j s) k undefined
         earlier l =
-            state-at m (h .coded) k (omega arith) ∙ ap valueOf (h .below k l) ∙ valueOf-code (getD s k undefined) ∙ sym (getD-take j s k undefined l)
+            state-at m (h .coded) k (omega arith) ∙ ap valueOf (h .below k l) ∙ valueOf-code (getD s k undefined)
+            ∙ sym (getD-take j s k undefined l)
 
         past : j ≤ k → getD (take j s) k undefined ≡ undefined
-        past l = let short : length (take j s) ≤ k = rw (length-take-le j s (omega (arith, long))) l in List·getD-eq-default (take j s) undefined short
+        past l =
+            let short : length (take j s) ≤ k = rw (length-take-le j s (omega (arith, long))) l in
+            List·getD-eq-default (take j s) undefined short
 
         later : j ≤ k → getD (stateIn m values) k undefined ≡ getD (take j s) k undefined
         later l =
@@ -83,7 +88,8 @@ module _ {m : ℕ} {graph : List ℕ} (start : List ℕ) (g : Graph m graph) whe
         (l : List Value). getD l i undefined) inputs) (stateIn m values) (take j s) states)
         ∙ sym (getD-sweep b x j (rw (network-count m graph) jl)))
 
-    pub sweeping-more : (r : ℕ) → r ≡ gateCode graph values j → Sweeping m graph start (set values (firstGate + j) r) (j + 1)
+    pub sweeping-more : (r : ℕ) → r ≡ gateCode graph values j
+        → Sweeping m graph start (set values (firstGate + j) r) (j + 1)
     sweeping-more r e =
         record {
           coded =
@@ -94,7 +100,9 @@ module _ {m : ℕ} {graph : List ℕ} (start : List ℕ) (g : Graph m graph) whe
                 most = λ p. ⊎-elim (small p) (λ ne. rw (other p ne) (h .coded .most p)) (eq-or-ne p (firstGate + j));
               };
           low = λ p l. other p (λ q. omega arith) ∙ h .low p l;
-          below = λ k l. ⊎-elim (λ q. found k q) (λ ne. other (firstGate + k) (λ q. ne (omega arith)) ∙ h .below k (omega arith)) (eq-or-ne k j);
+          below =
+              λ k l. ⊎-elim (λ q. found k q) (λ ne. other (firstGate + k) (λ q. ne (omega arith))
+              ∙ h .below k (omega arith)) (eq-or-ne k j);
           above = λ k l kl. other (firstGate + k) (λ q. omega arith) ∙ h .above k (omega arith) kl;
         }
       where
@@ -112,7 +120,8 @@ module _ {m : ℕ} {graph : List ℕ} (start : List ℕ) (g : Graph m graph) whe
 
         found : (k : ℕ) → k ≡ j → getD (set values (firstGate + j) r) (firstGate + k) 0 ≡ code (getD s k undefined)
         found k q =
-            ap (λ (i : ℕ). getD (set values (firstGate + j) r) (firstGate + i) 0) q ∙ at-it ∙ next e ∙ ap (λ (i : ℕ). code (getD s i undefined)) (sym q)
+            ap (λ (i : ℕ). getD (set values (firstGate + j) r) (firstGate + i) 0) q ∙ at-it ∙ next e
+            ∙ ap (λ (i : ℕ). code (getD s i undefined)) (sym q)
 
   pub sweeping-end : {values : List ℕ} {j : ℕ} → Sweeping m graph start values j → m ≤ j → SweptIn m graph start values
   sweeping-end {values} h l =
@@ -127,20 +136,24 @@ module _ {m : ℕ} {graph : List ℕ} (start : List ℕ) (g : Graph m graph) whe
 
 -- ---- what sweeping a block's graph finds
 
-sweepFrom-same : (x y : List Value) → ((i : ℕ) → getD x i undefined ≡ getD y i undefined) → (found : List Value) (gs : List Gate)
+sweepFrom-same : (x y : List Value) → ((i : ℕ) → getD x i undefined ≡ getD y i undefined)
+    → (found : List Value) (gs : List Gate)
     → sweepFrom x found gs ≡ sweepFrom y found gs
 unfolding sweepFrom
 sweepFrom-same x y inputs found [] = refl
 sweepFrom-same x y inputs found (g ∷ gs) =
-    let e : evaluated x found g ≡ evaluated y found g = ap (λ (f : Gate → Value). f g) (evaluated-same x y inputs found found (λ j. refl)) in
+    let e : evaluated x found g ≡ evaluated y found g =
+    ap (λ (f : Gate → Value). f g) (evaluated-same x y inputs found found (λ j. refl)) in
     rw e (sweepFrom-same x y inputs (found ++ (evaluated y found g ∷ [])) gs)
 
-module _ {c : Block} {m : ℕ} {graph : List ℕ} (d : Decoded c m graph) {x : List Value} {values : List ℕ} (s : Starting x values) where
+module _ {c : Block} {m : ℕ} {graph : List ℕ} (d : Decoded c m graph) {x : List Value} {values : List ℕ}
+    (s : Starting x values) where
   pub sweep-of : sweep (network m graph) (inputsIn values) ≡ sweep c x
   unfolding sweep
   sweep-of = rw (network-gates c m graph d) (sweepFrom-same (inputsIn values) x (starting-inputs s) [] (c .gates))
 
-pub swept-bytes : (ws : List ℕ) {graph start values out′ : List ℕ} (setting out : List ℕ) → Decoded (decode ws) (getD ws 1 0) graph
+pub swept-bytes : (ws : List ℕ) {graph start values out′ : List ℕ} (setting out : List ℕ)
+    → Decoded (decode ws) (getD ws 1 0) graph
     → Starting (map valueOf setting) start → (m : ℕ) → m ≡ getD ws 1 0 → SweptIn m graph start values
     → out′ ≡ placed (tab (λ j. getD values (firstGate + j) 0) m) out → out′ ≡ placed (sweepCodes ws setting) out
 unfolding sweepCodes

@@ -8,5 +8,6 @@ use Rattle.netlist.specs.StoredBlock.{isMalformed, gatesAt, gateSize}
 use Rattle.theory_encoding.proofs.Readers.{whole-gate}
 use Rattle.graph_ternary.specs.Legal.{LegalHead}
 
-pub legal-head : (ws : List ℕ) (j : ℕ) → isMalformed ws ≡ false → j < getD ws 1 0 → LegalHead ws (gatesAt (getD ws 0 0) (getD ws 3 0) + gateSize * j)
+pub legal-head : (ws : List ℕ) (j : ℕ) → isMalformed ws ≡ false → j < getD ws 1 0
+    → LegalHead ws (gatesAt (getD ws 0 0) (getD ws 3 0) + gateSize * j)
 legal-head ws j h l = let head = whole-gate ws h j l in record { kind = head .known; count = head .arity }

@@ -29,16 +29,20 @@ module _ (ws setting : List ℕ) (room : ℕ) where
   b = decode ws
 
   -- Settle's conditions, and the last one
-  pub settle-chain : settle ws setting room ≡ inRoom room (refuseIf (isMalformed ws) MalformedBlock (refuseIf (isBadSetting b setting) BadSetting (settleBlock b x)))
+  pub settle-chain : settle ws setting room
+      ≡ inRoom room (refuseIf (isMalformed ws) MalformedBlock
+      (refuseIf (isBadSetting b setting) BadSetting (settleBlock b x)))
   unfolding settle
   settle-chain = refl
 
-  pub settle-room : inRoom room (settleBlock b x) ≡ refuseIf (ltb room (getD ws 1 0)) NoRoom (done (map code (settled b x)) (rounds b x) 0)
+  pub settle-room : inRoom room (settleBlock b x)
+      ≡ refuseIf (ltb room (getD ws 1 0)) NoRoom (done (map code (settled b x)) (rounds b x) 0)
   unfolding settleBlock inRoom
   settle-room = rw (length-map (settled b x) code, length-settled b x, decode-gateCount ws) refl
 
 -- from the array of values to the caller's slice
-pub settled-bytes : {ws graph start values out′ : List ℕ} (setting out : List ℕ) {count : ℕ} → Decoded (decode ws) (getD ws 1 0) graph
+pub settled-bytes : {ws graph start values out′ : List ℕ} (setting out : List ℕ) {count : ℕ}
+    → Decoded (decode ws) (getD ws 1 0) graph
     → Starting (map valueOf setting) start → (m : ℕ) → m ≡ getD ws 1 0 → SettledIn m graph start values count
     → out′ ≡ placed (tab (λ j. getD values (firstGate + j) 0) m) out → Settled ws setting out out′ count
 settled-bytes {ws} {graph} {start} {values} setting out {count} d s m e r o =

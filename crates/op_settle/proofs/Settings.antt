@@ -55,6 +55,7 @@ good-bytes n setting few h =
         (lt-or-le i (length setting))
 
 -- of a block that is not malformed
-pub good-setting : (ws setting : List ℕ) → isMalformed ws ≡ false → isBadSetting (decode ws) setting ≡ false → Bytes setting
+pub good-setting : (ws setting : List ℕ) → isMalformed ws ≡ false → isBadSetting (decode ws) setting ≡ false
+    → Bytes setting
 good-setting ws setting whole h =
     good-bytes (getD ws 0 0) setting (whole-parts ws whole .fewInputs) (sym (bad-setting ws setting) ∙ h)

@@ -1,4 +1,5 @@
--- What is written for an input in a never line, and for the line, from the words that were read. Cited by the functions of `nevers`.
+-- What is written for an input in a never line, and for the line, from the words that were read. Cited by the functions
+-- of `nevers`.
 -- Assumes nothing.
 use Prim.Native.Nat.{ℕ, _+_, _*_}
 use mathlib.Core.Path.{_≡_, refl}
@@ -16,7 +17,8 @@ module _ (ws : List ℕ) (fixed ones i : ℕ) where
   unfolding fixedText
   fixed-none ne = rw (ne-eqb (bit fixed i) 1 ne) refl
 
-  pub fixed-some : bit fixed i ≡ 1 → fixedText ws fixed ones i ≡ pairPiece ws (inputsAt + nameSize * i) (48 + bit ones i)
+  pub fixed-some : bit fixed i ≡ 1 → fixedText ws fixed ones i
+      ≡ pairPiece ws (inputsAt + nameSize * i) (48 + bit ones i)
   unfolding fixedText
   fixed-some e = rw (eq-eqb (bit fixed i) 1 e) refl
 

@@ -36,31 +36,38 @@ pub gates-part : (ws : List ℕ) (from m : ℕ) → from ≡ gatesAt (getD ws 0 
     → pieces (gateText ws from) m ≡ pieces (gateText ws (gatesAt (getD ws 0 0) (getD ws 3 0))) (getD ws 1 0)
 gates-part ws from m e k = rw (e, k) refl
 
-pub outputs-part : (ws : List ℕ) (from k : ℕ) → from ≡ outputsAt (getD ws 0 0) (getD ws 3 0) (getD ws 1 0) → k ≡ getD ws 2 0
-    → pieces (outputText ws from) k ≡ pieces (outputText ws (outputsAt (getD ws 0 0) (getD ws 3 0) (getD ws 1 0))) (getD ws 2 0)
+pub outputs-part : (ws : List ℕ) (from k : ℕ) → from ≡ outputsAt (getD ws 0 0) (getD ws 3 0) (getD ws 1 0)
+    → k ≡ getD ws 2 0
+    → pieces (outputText ws from) k ≡ pieces (outputText ws (outputsAt (getD ws 0 0) (getD ws 3 0) (getD ws 1 0)))
+    (getD ws 2 0)
 outputs-part ws from k e d = rw (e, d) refl
 
 -- ---- the length
 
 -- a block that is not torn has few inputs, and what is written is short
 pub few-inputs : (ws : List ℕ) → isMalformed ws ≡ false → getD ws 0 0 ≤ maxInputs
-few-inputs ws whole = omega (arith, wellFormed-parts (decode ws) (decoded-well ws whole) .fewInputs, decode-inputCount ws)
+few-inputs ws whole =
+    omega (arith, wellFormed-parts (decode ws) (decoded-well ws whole) .fewInputs, decode-inputCount ws)
 
 pub block-short : (ws : List ℕ) → isMalformed ws ≡ false → Short (blockText ws) 0
 block-short ws whole =
-    record { small = rw (← written-pieces ws whole) (omega (arith, written-length (decode ws) (decoded-well ws whole))) }
+    record {
+      small = rw (← written-pieces ws whole) (omega (arith, written-length (decode ws) (decoded-well ws whole)));
+    }
 
 pub block-longest : (ws : List ℕ) → isMalformed ws ≡ false → length (blockText ws) ≤ maxWritten
 block-longest ws whole = rw (← written-pieces ws whole) (written-length (decode ws) (decoded-well ws whole))
 
 -- room for the longest text is room enough
-pub room-enough : (ws : List ℕ) (room : ℕ) → isMalformed ws ≡ false → maxWritten ≤ room → Passed ≡ testOf (ltb room (length (blockText ws))) NoRoom
+pub room-enough : (ws : List ℕ) (room : ℕ) → isMalformed ws ≡ false → maxWritten ≤ room
+    → Passed ≡ testOf (ltb room (length (blockText ws))) NoRoom
 unfolding testOf
 room-enough ws room whole h = rw (le-ltb room (length (blockText ws)) (omega (arith, block-longest ws whole))) refl
 
 -- ---- the chain of conditions: from 6 on, and from 11 on
 
-pub write-start : (ws : List ℕ) (room : ℕ) → write ws room ≡ inRoom room (refuseIf (isMalformed ws) MalformedBlock (counted (writtenText (decode ws))))
+pub write-start : (ws : List ℕ) (room : ℕ)
+    → write ws room ≡ inRoom room (refuseIf (isMalformed ws) MalformedBlock (counted (writtenText (decode ws))))
 unfolding write writeWords
 write-start ws room = refl
 

@@ -12,20 +12,24 @@ use Rattle.prelude.proofs.Lists.{keep-append}
 use Rattle.netlist.specs.Values.{val}
 use Rattle.netlist.specs.Assignments.{bit, fixes}
 use Rattle.netlist.specs.Netlist.{Operand, input, gate, constant, Block}
-use Rattle.netlist.specs.StoredBlock.{nameSize, neverSize, gateSize, outputSize, inputsAt, neversAt, gatesAt, outputsAt, nameAt, neverAt, operandOf, gateAt}
+use Rattle.netlist.specs.StoredBlock.{nameSize, neverSize, gateSize, outputSize, inputsAt, neversAt, gatesAt, outputsAt}
+use Rattle.netlist.specs.StoredBlock.{nameAt, neverAt, operandOf, gateAt}
 use Rattle.netlist.specs.StoredBlock.{outputAt, isNode, decode, isWellFormed, isMalformed}
-use Rattle.netlist.specs.Syntax.{apply, valueText, pairText, printTerm, printTerms, printInput, printPair, printNever, printGate, printOutput, printLines}
+use Rattle.netlist.specs.Syntax.{apply, valueText, pairText, printTerm, printTerms, printInput, printPair, printNever}
+use Rattle.netlist.specs.Syntax.{printGate, printOutput, printLines}
 use Rattle.netlist.specs.Syntax.{print, OutputLine}
 use Rattle.netlist.specs.Writing.{nodeNameOf, termOf, termsOf, flatLine, pairsOf, flatTree, writtenText}
 use Rattle.theory_grammar.proofs.Masks.{bit-below}
 use Rattle.theory_grammar.proofs.WritingNevers.{pairAt}
 use Rattle.theory_grammar.proofs.Shorter.{printTerm-append}
-use Rattle.theory_encoding.proofs.Decoded.{decode-inputCount, decode-input, decode-gate, decode-gateCount, decode-output, decode-outputCount, gateAt-kind}
+use Rattle.theory_encoding.proofs.Decoded.{decode-inputCount, decode-input, decode-gate, decode-gateCount}
+use Rattle.theory_encoding.proofs.Decoded.{decode-output, decode-outputCount, gateAt-kind}
 use Rattle.theory_encoding.proofs.Intact.{intact-wellFormed}
 use Rattle.theory_encoding.proofs.Readers.{whole-intact, wellFormed-output}
 use Rattle.theory_encoding.proofs.WellFormed.{noOutput}
 use Rattle.text_pieces.specs.Pieces.{pieces, pairPiece, operandText}
-use Rattle.op_write.specs.Lines.{itemText, expressionText, inputText, fixedText, neverText, neverLineText, gateText}
+use Rattle.op_write.specs.Lines.{itemText, expressionText, inputText, fixedText, neverText, neverLineText}
+use Rattle.op_write.specs.Lines.{gateText}
 use Rattle.op_write.specs.Lines.{outputText, blockText}
 use Rattle.text_pieces.proofs.Appending.{pieces-more, pieces-none}
 
@@ -46,7 +50,8 @@ lines-pieces line f piece zero h rest = rw (pieces-none piece) refl
 lines-pieces line f piece (suc count) h rest =
     lines-append line (tab f count) (f count ∷ []) rest
     ∙ lines-pieces line f piece count (λ i l. h i (omega arith)) (line (f count) rest)
-    ∙ rw (pieces-more piece count, h count (omega arith) rest) (sym (append-assoc (pieces piece count) (piece count) rest))
+    ∙ rw (pieces-more piece count, h count (omega arith) rest)
+    (sym (append-assoc (pieces piece count) (piece count) rest))
 
 -- the same, where only those that pass a test are lines, and the other pieces are empty
 kept-pieces : {A : Type 0} (line : A → List ℕ → List ℕ) (f : ℕ → A) (test : ℕ → Bool) (piece : ℕ → List ℕ) (count : ℕ)
@@ -70,23 +75,29 @@ kept-pieces line f test piece (suc count) h n rest =
 item : Block → Operand → List ℕ → List ℕ
 item b o rest = ascii " " ++ printTerm (termOf b o) rest
 
-terms-lines : (b : Block) (os : List Operand) (rest : List ℕ) → printTerms (termsOf b os) rest ≡ printLines (item b) os rest
+terms-lines : (b : Block) (os : List Operand) (rest : List ℕ)
+    → printTerms (termsOf b os) rest ≡ printLines (item b) os rest
 unfolding termsOf printTerms printLines item
 terms-lines b [] rest = refl
 terms-lines b (o ∷ os) rest = ap (item b o) (terms-lines b os rest)
 
 module _ (ws : List ℕ) where
-  item-piece : (at i : ℕ) (rest : List ℕ) → item (decode ws) (operandOf (getD ws 0 0) (getD ws (at + 1 + i) 0)) rest ≡ itemText ws at i ++ rest
+  item-piece : (at i : ℕ) (rest : List ℕ)
+      → item (decode ws) (operandOf (getD ws 0 0) (getD ws (at + 1 + i) 0)) rest ≡ itemText ws at i ++ rest
   unfolding item itemText operandText
-  item-piece at i rest = ap (λ (r : List ℕ). ascii " " ++ r) (printTerm-append (termOf (decode ws) (operandOf (getD ws 0 0) (getD ws (at + 1 + i) 0))) [] rest)
+  item-piece at i rest =
+      ap (λ (r : List ℕ). ascii " " ++ r)
+      (printTerm-append (termOf (decode ws) (operandOf (getD ws 0 0) (getD ws (at + 1 + i) 0))) [] rest)
 
   -- the terms of the gate at `at`
   terms-pieces : (at : ℕ) (rest : List ℕ)
-      → printTerms (termsOf (decode ws) (gateAt (getD ws 0 0) ws at .operands)) rest ≡ pieces (itemText ws at) (getD ws at 0 / 8) ++ rest
+      → printTerms (termsOf (decode ws) (gateAt (getD ws 0 0) ws at .operands)) rest
+      ≡ pieces (itemText ws at) (getD ws at 0 / 8) ++ rest
   unfolding gateAt
   terms-pieces at rest =
       terms-lines (decode ws) (gateAt (getD ws 0 0) ws at .operands) rest
-      ∙ lines-pieces (item (decode ws)) (λ i. operandOf (getD ws 0 0) (getD ws (at + 1 + i) 0)) (itemText ws at) (getD ws at 0 / 8)
+      ∙ lines-pieces (item (decode ws)) (λ i. operandOf (getD ws 0 0) (getD ws (at + 1 + i) 0)) (itemText ws at)
+      (getD ws at 0 / 8)
       (λ i l r. item-piece at i r) rest
 
   -- ---- the lines
@@ -106,21 +117,25 @@ module _ (ws : List ℕ) where
       go (suc (suc v)) l = absurd (omega arith)
 
   pair-piece : (at i : ℕ) → i < getD ws 0 0 → (rest : List ℕ)
-      → printPair (pairAt (decode ws) (neverAt ws at) i) rest ≡ pairPiece ws (inputsAt + nameSize * i) (48 + bit (getD ws (at + 1) 0) i) ++ rest
+      → printPair (pairAt (decode ws) (neverAt ws at) i) rest
+      ≡ pairPiece ws (inputsAt + nameSize * i) (48 + bit (getD ws (at + 1) 0) i) ++ rest
   unfolding printPair pairText pairPiece neverAt
   pair-piece at i l rest = rw (decode-input ws i [] l, value-piece (getD ws (at + 1) 0) i) (simp append-assoc refl)
 
-  never-piece : (at : ℕ) (rest : List ℕ) → printNever (pairsOf (decode ws) (neverAt ws at)) rest ≡ neverText ws at ++ rest
+  never-piece : (at : ℕ) (rest : List ℕ)
+      → printNever (pairsOf (decode ws) (neverAt ws at)) rest ≡ neverText ws at ++ rest
   unfolding printNever pairsOf neverText fixedText fixes neverAt
   never-piece at rest =
       rw (decode-inputCount ws)
       (ap (λ (r : List ℕ). ascii "(never" ++ r)
-      (kept-pieces printPair (pairAt (decode ws) (neverAt ws at)) (fixes (neverAt ws at)) (fixedText ws (getD ws at 0) (getD ws (at + 1) 0)) (getD ws 0 0)
+      (kept-pieces printPair (pairAt (decode ws) (neverAt ws at)) (fixes (neverAt ws at))
+      (fixedText ws (getD ws at 0) (getD ws (at + 1) 0)) (getD ws 0 0)
       (λ i l t r. rw t (pair-piece at i l r)) (λ i l t. rw t refl) (ascii ")\n" ++ rest))
       ∙ simp append-assoc refl)
 
   expression-piece : (at : ℕ) (rest : List ℕ)
-      → printTerm (apply (gateAt (getD ws 0 0) ws at .kind) (termsOf (decode ws) (gateAt (getD ws 0 0) ws at .operands))) rest
+      → printTerm (apply (gateAt (getD ws 0 0) ws at .kind)
+      (termsOf (decode ws) (gateAt (getD ws 0 0) ws at .operands))) rest
       ≡ expressionText ws at ++ rest
   unfolding printTerm expressionText
   expression-piece at rest =
@@ -130,7 +145,11 @@ module _ (ws : List ℕ) where
       → printGate (flatLine (decode ws) j) rest ≡ gateText ws (gatesAt (getD ws 0 0) (getD ws 3 0)) j ++ rest
   unfolding printGate flatLine gateText
   gate-piece j l rest =
-      rw (decode-gate ws j l, expression-piece (gatesAt (getD ws 0 0) (getD ws 3 0) + gateSize * j) (ascii ")\n" ++ rest)) (simp append-assoc refl)
+      rw (
+        decode-gate ws j l,
+        expression-piece (gatesAt (getD ws 0 0) (getD ws 3 0) + gateSize * j)
+            (ascii ")\n" ++ rest),
+      ) (simp append-assoc refl)
 
 -- an output shows no constant
 shown-term : (b : Block) (o : Operand) → isNode b o ≡ true → nodeNameOf b o ≡ printTerm (termOf b o) []
@@ -147,13 +166,16 @@ outputLine ws at o =
       shown = nodeNameOf (decode ws) (outputAt (getD ws 0 0) ws (at + outputSize * o) .node);
     }
 
-output-piece : (ws : List ℕ) (at o : ℕ) → isNode (decode ws) (outputAt (getD ws 0 0) ws (at + outputSize * o) .node) ≡ true
+output-piece : (ws : List ℕ) (at o : ℕ)
+    → isNode (decode ws) (outputAt (getD ws 0 0) ws (at + outputSize * o) .node) ≡ true
     → (rest : List ℕ) → printOutput (outputLine ws at o) rest ≡ outputText ws at o ++ rest
 unfolding printOutput outputLine outputText outputAt operandText
 output-piece ws at o h rest =
-    rw (shown-term (decode ws) (operandOf (getD ws 0 0) (getD ws (at + outputSize * o + nameSize) 0)) h) (simp append-assoc refl)
+    rw (shown-term (decode ws) (operandOf (getD ws 0 0) (getD ws (at + outputSize * o + nameSize) 0)) h)
+    (simp append-assoc refl)
 
-decoded-nevers : (ws : List ℕ) → decode ws .nevers ≡ tab (λ i. neverAt ws (neversAt (getD ws 0 0) + neverSize * i)) (getD ws 3 0)
+decoded-nevers : (ws : List ℕ) → decode ws .nevers
+    ≡ tab (λ i. neverAt ws (neversAt (getD ws 0 0) + neverSize * i)) (getD ws 3 0)
 unfolding decode
 decoded-nevers ws = refl
 
@@ -163,9 +185,11 @@ module _ (ws : List ℕ) (whole : isMalformed ws ≡ false) where
   decoded-well = intact-wellFormed ws (whole-intact ws whole)
 
   shown-node : (o : ℕ) → o < getD ws 2 0
-      → isNode (decode ws) (outputAt (getD ws 0 0) ws (outputsAt (getD ws 0 0) (getD ws 3 0) (getD ws 1 0) + outputSize * o) .node) ≡ true
+      → isNode (decode ws) (outputAt (getD ws 0 0) ws
+      (outputsAt (getD ws 0 0) (getD ws 3 0) (getD ws 1 0) + outputSize * o) .node) ≡ true
   shown-node o l =
-      rw (decode-output ws o noOutput l) at (wellFormed-output (decode ws) decoded-well o noOutput (rw (decode-outputCount ws) l))
+      rw (decode-output ws o noOutput l) at (wellFormed-output (decode ws) decoded-well o noOutput
+      (rw (decode-outputCount ws) l))
 
   outputs-pieces : (rest : List ℕ) → printLines printOutput (flatTree (decode ws) .outputs) rest
       ≡ pieces (outputText ws (outputsAt (getD ws 0 0) (getD ws 3 0) (getD ws 1 0))) (getD ws 2 0) ++ rest
@@ -173,29 +197,36 @@ module _ (ws : List ℕ) (whole : isMalformed ws ≡ false) where
   outputs-pieces rest =
       let at = outputsAt (getD ws 0 0) (getD ws 3 0) (getD ws 1 0) in
       rw map-tab
-      (lines-pieces printOutput (outputLine ws at) (outputText ws at) (getD ws 2 0) (λ o l. output-piece ws at o (shown-node o l)) rest)
+      (lines-pieces printOutput (outputLine ws at) (outputText ws at) (getD ws 2 0)
+      (λ o l. output-piece ws at o (shown-node o l)) rest)
 
   gates-pieces : (rest : List ℕ) → printLines printGate (flatTree (decode ws) .gates) rest
       ≡ pieces (gateText ws (gatesAt (getD ws 0 0) (getD ws 3 0))) (getD ws 1 0) ++ rest
   unfolding flatTree
   gates-pieces rest =
       rw (decode-gateCount ws)
-      (lines-pieces printGate (flatLine (decode ws)) (gateText ws (gatesAt (getD ws 0 0) (getD ws 3 0))) (getD ws 1 0) (gate-piece ws) rest)
+      (lines-pieces printGate (flatLine (decode ws)) (gateText ws (gatesAt (getD ws 0 0) (getD ws 3 0))) (getD ws 1 0)
+      (gate-piece ws) rest)
 
   nevers-pieces : (rest : List ℕ)
-      → printLines printNever (flatTree (decode ws) .nevers) rest ≡ pieces (neverLineText ws (neversAt (getD ws 0 0))) (getD ws 3 0) ++ rest
+      → printLines printNever (flatTree (decode ws) .nevers) rest
+      ≡ pieces (neverLineText ws (neversAt (getD ws 0 0))) (getD ws 3 0) ++ rest
   unfolding flatTree neverLineText
   nevers-pieces rest =
       let at = neversAt (getD ws 0 0) in
       ap (λ ls. printLines printNever ls rest)
-      (ap (map (pairsOf (decode ws))) (decoded-nevers ws) ∙ map-tab (pairsOf (decode ws)) (λ i. neverAt ws (at + neverSize * i)) (getD ws 3 0))
-      ∙ (lines-pieces printNever (λ i. pairsOf (decode ws) (neverAt ws (at + neverSize * i))) (neverLineText ws at) (getD ws 3 0)
+      (ap (map (pairsOf (decode ws))) (decoded-nevers ws)
+      ∙ map-tab (pairsOf (decode ws)) (λ i. neverAt ws (at + neverSize * i)) (getD ws 3 0))
+      ∙ (lines-pieces printNever (λ i. pairsOf (decode ws) (neverAt ws (at + neverSize * i))) (neverLineText ws at)
+      (getD ws 3 0)
       (λ i l r. never-piece ws (at + neverSize * i) r) rest)
 
-  inputs-pieces : (rest : List ℕ) → printLines printInput (flatTree (decode ws) .inputs) rest ≡ pieces (inputText ws) (getD ws 0 0) ++ rest
+  inputs-pieces : (rest : List ℕ) → printLines printInput (flatTree (decode ws) .inputs) rest
+      ≡ pieces (inputText ws) (getD ws 0 0) ++ rest
   unfolding flatTree decode
   inputs-pieces rest =
-      lines-pieces printInput (λ i. nameAt ws (inputsAt + nameSize * i)) (inputText ws) (getD ws 0 0) (λ i l r. input-piece ws i r) rest
+      lines-pieces printInput (λ i. nameAt ws (inputsAt + nameSize * i)) (inputText ws) (getD ws 0 0)
+      (λ i l r. input-piece ws i r) rest
 
   pub written-pieces : writtenText (decode ws) ≡ blockText ws
   unfolding writtenText print blockText

@@ -8,7 +8,8 @@ use lib.Dec.{eqb}
 use Rattle.prelude.specs.Lists.{ascii}
 use Rattle.netlist.specs.Assignments.{bit}
 use Rattle.netlist.specs.Kinds.{keyword}
-use Rattle.netlist.specs.StoredBlock.{nameSize, neverSize, gateSize, outputSize, inputsAt, neversAt, gatesAt, outputsAt, nameAt}
+use Rattle.netlist.specs.StoredBlock.{nameSize, neverSize, gateSize, outputSize, inputsAt, neversAt, gatesAt, outputsAt}
+use Rattle.netlist.specs.StoredBlock.{nameAt}
 use Rattle.netlist.specs.Writing.{gateName}
 use Rattle.text_pieces.specs.Pieces.{pieces, operandText, pairPiece}
 
@@ -18,7 +19,8 @@ itemText ws at i = ascii " " ++ operandText ws (at + 1 + i)
 
 -- the text of the expression of the gate whose first word is at `at`
 unfoldable pub expressionText : List ℕ → ℕ → List ℕ
-expressionText ws at = ascii "(" ++ (keyword (getD ws at 0 % 8) ++ (pieces (itemText ws at) (getD ws at 0 / 8) ++ ascii ")"))
+expressionText ws at =
+    ascii "(" ++ (keyword (getD ws at 0 % 8) ++ (pieces (itemText ws at) (getD ws at 0 / 8) ++ ascii ")"))
 
 -- ---- the lines
 
@@ -31,7 +33,8 @@ fixedText ws fixed ones i = cond (eqb (bit fixed i) 1) (pairPiece ws (inputsAt +
 
 -- the text of the never line whose masks are at `at`
 unfoldable pub neverText : List ℕ → ℕ → List ℕ
-neverText ws at = ascii "(never" ++ (pieces (fixedText ws (getD ws at 0) (getD ws (at + 1) 0)) (getD ws 0 0) ++ ascii ")\n")
+neverText ws at =
+    ascii "(never" ++ (pieces (fixedText ws (getD ws at 0) (getD ws (at + 1) 0)) (getD ws 0 0) ++ ascii ")\n")
 
 -- the text of never line i of those from `at` on
 unfoldable pub neverLineText : List ℕ → ℕ → ℕ → List ℕ
@@ -39,7 +42,8 @@ neverLineText ws at i = neverText ws (at + neverSize * i)
 
 -- the text of gate j of those from `at` on
 unfoldable pub gateText : List ℕ → ℕ → ℕ → List ℕ
-gateText ws at j = ascii "(gate " ++ (gateName j ++ (ascii " " ++ (expressionText ws (at + gateSize * j) ++ ascii ")\n")))
+gateText ws at j =
+    ascii "(gate " ++ (gateName j ++ (ascii " " ++ (expressionText ws (at + gateSize * j) ++ ascii ")\n")))
 
 -- the text of output o of those from `at` on
 unfoldable pub outputText : List ℕ → ℕ → ℕ → List ℕ

@@ -9,4 +9,6 @@ pub mod Least
 pub mod Lists
 pub mod Stores
 pub mod Filling
+pub mod Tabled
+pub mod Tested
 pub mod Counting

@@ -1,4 +1,5 @@
--- Pieces appended one after the other, and that each end stays a small number. Cited by every function that writes. Assumes nothing.
+-- Pieces appended one after the other, and that each end stays a small number. Cited by every function that writes.
+-- Assumes nothing.
 use Prim.Native.Nat.{ℕ, zero, suc, _+_, _≤_, _<_}
 use mathlib.Core.Logic.{⊎-elim}
 use mathlib.Core.Path.{_≡_, refl, sym, ap, _∙_}
@@ -26,7 +27,8 @@ appended-then {xs} {ys} {text} {at} a b =
     }
 
 -- the same piece in other words
-pub appended-is : {xs ys text : List ℕ} {at : ℕ} {text₁ : List ℕ} {end₁ : ℕ} → xs ≡ ys → Appended xs text at text₁ end₁ → Appended ys text at text₁ end₁
+pub appended-is : {xs ys text : List ℕ} {at : ℕ} {text₁ : List ℕ} {end₁ : ℕ} → xs ≡ ys → Appended xs text at text₁ end₁
+    → Appended ys text at text₁ end₁
 appended-is e a = rw (← e) a
 
 -- one byte past the end of the text
@@ -34,7 +36,8 @@ pub appended-out : (byte : ℕ) (text : List ℕ) (at : ℕ) → length text ≤
 appended-out byte text at h = record { textIs = sym (set-out text at byte h); endIs = refl }
 
 -- no text changes its length
-pub appended-length : {piece text : List ℕ} {at : ℕ} {text′ : List ℕ} {end : ℕ} → Appended piece text at text′ end → length text′ ≡ length text
+pub appended-length : {piece text : List ℕ} {at : ℕ} {text′ : List ℕ} {end : ℕ} → Appended piece text at text′ end
+    → length text′ ≡ length text
 appended-length {piece} {text} {at} a = rw (a .textIs) (length-sets text at piece)
 
 -- ---- the first of two pieces, and the second
@@ -70,8 +73,10 @@ pub pieces-start : (f : ℕ → List ℕ) (text : List ℕ) (at : ℕ) → Appen
 pieces-start f text at = rw (pieces-none f) (appended-none text at)
 
 -- the turn of a loop
-pub pieces-turn : (f : ℕ → List ℕ) (i : ℕ) {text : List ℕ} {at : ℕ} {text₁ : List ℕ} {end₁ : ℕ} {text₂ : List ℕ} {end₂ : ℕ}
-    → Appended (pieces f i) text at text₁ end₁ → Appended (f i) text₁ end₁ text₂ end₂ → Appended (pieces f (i + 1)) text at text₂ end₂
+pub pieces-turn : (f : ℕ → List ℕ) (i : ℕ) {text : List ℕ} {at : ℕ} {text₁ : List ℕ} {end₁ : ℕ} {text₂ : List ℕ}
+    {end₂ : ℕ}
+    → Appended (pieces f i) text at text₁ end₁ → Appended (f i) text₁ end₁ text₂ end₂
+    → Appended (pieces f (i + 1)) text at text₂ end₂
 pieces-turn f i a b = rw (add-one, pieces-more f i) (appended-then a b)
 
 pub short-turn : (f : ℕ → List ℕ) (i count : ℕ) {text : List ℕ} {at : ℕ} {text₁ : List ℕ} {end₁ : ℕ}
@@ -88,11 +93,13 @@ pub record PiecesPut (f : ℕ → List ℕ) (count : ℕ) (text : List ℕ) (at 
 pub put-none : {f : ℕ → List ℕ} {count : ℕ} {text : List ℕ} {at : ℕ} → PiecesPut f count text at text at 0
 put-none {f} {count} {text} {at} = record { within = omega arith; there = pieces-start f text at }
 
-module _ {f : ℕ → List ℕ} {count : ℕ} {text : List ℕ} {at : ℕ} {text₁ : List ℕ} {end₁ i : ℕ} (p : PiecesPut f count text at text₁ end₁ i) where
+module _ {f : ℕ → List ℕ} {count : ℕ} {text : List ℕ} {at : ℕ} {text₁ : List ℕ} {end₁ i : ℕ}
+    (p : PiecesPut f count text at text₁ end₁ i) where
   pub put-short : i < count → Short (pieces f count) at → Short (f i) end₁
   put-short l h = short-turn f i count l h (p .there)
 
-  pub put-more : {text₂ : List ℕ} {end₂ : ℕ} → i < count → Appended (f i) text₁ end₁ text₂ end₂ → PiecesPut f count text at text₂ end₂ (i + 1)
+  pub put-more : {text₂ : List ℕ} {end₂ : ℕ} → i < count → Appended (f i) text₁ end₁ text₂ end₂
+      → PiecesPut f count text at text₂ end₂ (i + 1)
   put-more l a = record { within = omega arith; there = pieces-turn f i (p .there) a }
 
   pub put-every : count ≤ i → Appended (pieces f count) text at text₁ end₁
@@ -100,7 +107,8 @@ module _ {f : ℕ → List ℕ} {count : ℕ} {text : List ℕ} {at : ℕ} {text
 
 -- ---- the bytes of a slice in a loop
 
-pub bytes-turn : (bytes : List ℕ) (i : ℕ) {text : List ℕ} {at : ℕ} {text₁ : List ℕ} {end₁ : ℕ} {text₂ : List ℕ} {end₂ : ℕ} → i < length bytes
+pub bytes-turn : (bytes : List ℕ) (i : ℕ) {text : List ℕ} {at : ℕ} {text₁ : List ℕ} {end₁ : ℕ} {text₂ : List ℕ}
+    {end₂ : ℕ} → i < length bytes
     → Appended (take i bytes) text at text₁ end₁ → Appended (getD bytes i 0 ∷ []) text₁ end₁ text₂ end₂
     → Appended (take (i + 1) bytes) text at text₂ end₂
 bytes-turn bytes i l a b = rw (add-one, take-suc bytes i 0 l) (appended-then a b)

@@ -31,14 +31,16 @@ pub decimal-more : (v : ℕ) → 10 ≤ v → decimal v ≡ decimal (v / 10) ++ 
 unfolding decimal digits
 decimal-more v l =
     rw (le-ltb v 10 l)
-    (ap (λ (r : List ℕ). r ++ ((48 + v % 10) ∷ [])) (digits-enough v (suc (v / 10)) (v / 10) (omega arith) (omega arith)))
+    (ap (λ (r : List ℕ). r ++ ((48 + v % 10) ∷ []))
+    (digits-enough v (suc (v / 10)) (v / 10) (omega arith) (omega arith)))
 
 decimal-length : (v : ℕ) → 10 ≤ v → length (decimal v) ≡ length (decimal (v / 10)) + 1
 decimal-length v l = rw (decimal-more v l) (length-append (decimal (v / 10)) ((48 + v % 10) ∷ []))
 
 digits-grow : (most v w : ℕ) → w < most → v ≤ w → length (decimal v) ≤ length (decimal w)
 digits-grow zero v w l h = absurd (not-suc-le-zero l)
-digits-grow (suc most) v w l h = ⊎-elim one (λ u. more u (digits-grow most (v / 10) (w / 10) (omega arith) (omega arith))) (lt-or-le v 10)
+digits-grow (suc most) v w l h =
+    ⊎-elim one (λ u. more u (digits-grow most (v / 10) (w / 10) (omega arith) (omega arith))) (lt-or-le v 10)
   where
     few : w < 10 → 1 ≤ length (decimal w)
     few u = rw (decimal-one w u) (omega arith)
@@ -74,7 +76,8 @@ three v a b =
     ∙ ap (λ (r : List ℕ). r ++ ((48 + v % 10) ∷ [])) (two (v / 10) (omega arith) (omega arith))
     ∙ ap (λ (n : ℕ). (48 + n) ∷ (48 + v / 10 % 10) ∷ (48 + v % 10) ∷ []) e
 
-four : (v : ℕ) → 1000 ≤ v → v < 10000 → decimal v ≡ (48 + v / 1000 % 10) ∷ (48 + v / 100 % 10) ∷ (48 + v / 10 % 10) ∷ (48 + v % 10) ∷ []
+four : (v : ℕ) → 1000 ≤ v → v < 10000
+    → decimal v ≡ (48 + v / 1000 % 10) ∷ (48 + v / 100 % 10) ∷ (48 + v / 10 % 10) ∷ (48 + v % 10) ∷ []
 four v a b =
     let e : v / 10 / 100 % 10 ≡ v / 1000 % 10 = omega arith in
     let f : v / 10 / 10 % 10 ≡ v / 100 % 10 = omega arith in
@@ -83,7 +86,8 @@ four v a b =
     ∙ ap (λ (n : ℕ). (48 + n) ∷ (48 + v / 10 / 10 % 10) ∷ (48 + v / 10 % 10) ∷ (48 + v % 10) ∷ []) e
     ∙ ap (λ (n : ℕ). (48 + v / 1000 % 10) ∷ (48 + n) ∷ (48 + v / 10 % 10) ∷ (48 + v % 10) ∷ []) f
 
-pub decimal-four : (v : ℕ) → v < 10000 → decimal v ≡ digitAt v 1000 ++ (digitAt v 100 ++ (digitAt v 10 ++ ((48 + v % 10) ∷ [])))
+pub decimal-four : (v : ℕ) → v < 10000
+    → decimal v ≡ digitAt v 1000 ++ (digitAt v 100 ++ (digitAt v 10 ++ ((48 + v % 10) ∷ [])))
 decimal-four v l =
     ⊎-elim
     (λ (a : v < 100).
@@ -94,5 +98,6 @@ decimal-four v l =
     (λ (b : 10 ≤ v). rw (digit-some v 10 b) (two v b a)) (lt-or-le v 10)))
     (λ (a : 100 ≤ v).
     rw (digit-some v 100 a, digit-some v 10 (omega arith))
-    (⊎-elim (λ (b : v < 1000). rw (digit-none v 1000 b) (three v a b)) (λ (b : 1000 ≤ v). rw (digit-some v 1000 b) (four v b l)) (lt-or-le v 1000)))
+    (⊎-elim (λ (b : v < 1000). rw (digit-none v 1000 b) (three v a b))
+    (λ (b : 1000 ≤ v). rw (digit-some v 1000 b) (four v b l)) (lt-or-le v 1000)))
     (lt-or-le v 100)

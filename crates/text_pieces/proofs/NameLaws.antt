@@ -6,7 +6,8 @@ use native.Mathlib.Nat.{add-zero}
 use lib.ListN.{getD}
 use Rattle.netlist.specs.StoredBlock.{bytesAt}
 
-pub bytes-of-words : (ws : List ℕ) (at a b c d : ℕ) → a ≡ getD ws at 0 → b ≡ getD ws (at + 1) 0 → c ≡ getD ws (at + 2) 0 → d ≡ getD ws (at + 3) 0
+pub bytes-of-words : (ws : List ℕ) (at a b c d : ℕ) → a ≡ getD ws at 0 → b ≡ getD ws (at + 1) 0 → c ≡ getD ws (at + 2) 0
+    → d ≡ getD ws (at + 3) 0
     → a % 256 ∷ a / 256 ∷ b % 256 ∷ b / 256 ∷ c % 256 ∷ c / 256 ∷ d % 256 ∷ d / 256 ∷ [] ≡ bytesAt ws at
 unfolding bytesAt
 bytes-of-words ws at a b c d p q r s =

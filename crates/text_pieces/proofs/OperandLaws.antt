@@ -25,10 +25,12 @@ module _ (ws : List ℕ) (at word : ℕ) (is : word ≡ getD ws at 0) where
 
   pub operand-one : getD ws 0 0 ≤ word → word ≡ 65535 → operandText ws at ≡ ascii "1"
   unfolding operandText operandOf termOf printTerm
-  operand-one l e = rw (← is, le-ltb word (getD ws 0 0) l, ne-eqb word 65534 (λ z. omega arith), eq-eqb word 65535 e) refl
+  operand-one l e =
+      rw (← is, le-ltb word (getD ws 0 0) l, ne-eqb word 65534 (λ z. omega arith), eq-eqb word 65535 e) refl
 
   pub operand-gate : getD ws 0 0 ≤ word → (word ≡ 65534 → ⊥) → (word ≡ 65535 → ⊥)
       → operandText ws at ≡ gateName (word - getD ws 0 0)
   unfolding operandText operandOf termOf nodeNameOf printTerm
   operand-gate l ne me =
-      rw (← is, le-ltb word (getD ws 0 0) l, ne-eqb word 65534 ne, ne-eqb word 65535 me) (append-nil (gateName (word - getD ws 0 0)))
+      rw (← is, le-ltb word (getD ws 0 0) l, ne-eqb word 65534 ne, ne-eqb word 65535 me)
+      (append-nil (gateName (word - getD ws 0 0)))

@@ -1,4 +1,5 @@
--- Bytes without the zeros at their end, appended from the start: the invariant of `put_trimmed`, and a law for each way through it.
+-- Bytes without the zeros at their end, appended from the start: the invariant of `put_trimmed`, and a law for each way
+-- through it.
 -- Assumes nothing.
 use Prim.Native.Nat.{ℕ, suc, _+_, _≤_, _<_}
 use mathlib.Core.Path.{_≡_, refl, sym, ap, _∙_}
@@ -10,7 +11,8 @@ use lib.Seq.{take-suc, drop-cons}
 use borrow.Author.Tests.{ne-eqb}
 use Rattle.prelude.specs.Lists.{trimmed, onto}
 use Rattle.text_pieces.specs.Pieces.{Appended, Short}
-use Rattle.text_pieces.proofs.Appending.{appended-none, appended-then, appended-is, bytes-turn, short-first, short-rest}
+use Rattle.text_pieces.proofs.Appending.{appended-none, appended-then, appended-is, bytes-turn, short-first}
+use Rattle.text_pieces.proofs.Appending.{short-rest}
 
 onto-some : (x : ℕ) (xs : List ℕ) → (x ≡ 0 → ⊥) → onto x xs ≡ x ∷ xs
 onto-some x [] h = rw (ne-eqb x 0 h) refl
@@ -37,14 +39,17 @@ trim-none bytes text at = record { within = omega arith; there = appended-none t
 
 module _ {bytes text : List ℕ} {at : ℕ} {text₁ : List ℕ} {end₁ i : ℕ} (p : TrimmedPut bytes text at text₁ end₁ i) where
   -- one byte more
-  pub trim-short : i < length bytes → (getD bytes i 0 ≡ 0 → ⊥) → Short (trimmed bytes) at → Short (getD bytes i 0 ∷ []) end₁
+  pub trim-short : i < length bytes → (getD bytes i 0 ≡ 0 → ⊥) → Short (trimmed bytes) at
+      → Short (getD bytes i 0 ∷ []) end₁
   trim-short l h s =
-      let all : Short (take (suc i) bytes ++ trimmed (drop (suc i) bytes)) at = rw (p .left ∙ trimmed-next bytes i l h) at s in
+      let all : Short (take (suc i) bytes ++ trimmed (drop (suc i) bytes)) at =
+      rw (p .left ∙ trimmed-next bytes i l h) at s in
       let first : Short (take (suc i) bytes) at = short-first (trimmed (drop (suc i) bytes)) all in
       let next : Short (take i bytes ++ (getD bytes i 0 ∷ [])) at = rw (take-suc bytes i 0 l) at first in
       short-rest _ next (p .there)
 
-  pub trim-more : {text₂ : List ℕ} {end₂ : ℕ} → i < length bytes → (getD bytes i 0 ≡ 0 → ⊥) → Appended (getD bytes i 0 ∷ []) text₁ end₁ text₂ end₂
+  pub trim-more : {text₂ : List ℕ} {end₂ : ℕ} → i < length bytes → (getD bytes i 0 ≡ 0 → ⊥)
+      → Appended (getD bytes i 0 ∷ []) text₁ end₁ text₂ end₂
       → TrimmedPut bytes text at text₂ end₂ (i + 1)
   trim-more l h a =
       record {
@@ -57,7 +62,8 @@ module _ {bytes text : List ℕ} {at : ℕ} {text₁ : List ℕ} {end₁ i : ℕ
   pub rest-short : Short (trimmed bytes) at → Short (trimmed (drop i bytes)) end₁
   rest-short s = short-rest _ (rw (p .left) at s) (p .there)
 
-  pub rest-put : {text₂ : List ℕ} {end₂ : ℕ} → Appended (trimmed (drop i bytes)) text₁ end₁ text₂ end₂ → Appended (trimmed bytes) text at text₂ end₂
+  pub rest-put : {text₂ : List ℕ} {end₂ : ℕ} → Appended (trimmed (drop i bytes)) text₁ end₁ text₂ end₂
+      → Appended (trimmed bytes) text at text₂ end₂
   rest-put a = rw (p .left) (appended-then (p .there) a)
 
   -- no zero

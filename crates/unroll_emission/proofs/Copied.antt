@@ -1,4 +1,5 @@
--- The words that are written are those of the definitions: a mapped word is the word of the copied operand, the words of a copy and of an
+-- The words that are written are those of the definitions: a mapped word is the word of the copied operand, the words
+-- of a copy and of an
 -- output are those of the rendering's. Cited by Written. Assumes nothing.
 use Prim.Native.Nat.{ℕ, _+_, _-_, _*_, _/_, _≤_, _<_}
 use mathlib.Core.Path.{_≡_, refl, sym, ap, ap₂, _∙_}
@@ -28,9 +29,11 @@ use Rattle.unroll_emission.proofs.Words.{mapped-gate, mapped-other, ent
 
 -- the table's word for each gate is that of what stands for it
 abbrev pub Stands : Nodes → List ℕ → List Operand → Type 0
-Stands nodes table newest = (j : ℕ) → j < nodes .gates → getD table j 0 ≡ nodeWord (nodes .inputs) (getD newest j (constant false))
+Stands nodes table newest =
+    (j : ℕ) → j < nodes .gates → getD table j 0 ≡ nodeWord (nodes .inputs) (getD newest j (constant false))
 
-module _ (nodes : Nodes) (few : nodes .inputs + nodes .gates ≤ 65534) (table : List ℕ) (newest : List Operand) (stands : Stands nodes table newest) where
+module _ (nodes : Nodes) (few : nodes .inputs + nodes .gates ≤ 65534) (table : List ℕ) (newest : List Operand)
+    (stands : Stands nodes table newest) where
   abbrev n : ℕ
   n = nodes .inputs
 
@@ -38,7 +41,8 @@ module _ (nodes : Nodes) (few : nodes .inputs + nodes .gates ≤ 65534) (table :
   m = nodes .gates
 
   -- A mapped word is the word of the copied operand.
-  pub mapped-operand : (w : ℕ) → OperandWord (n + m) w → mappedWord nodes table w ≡ nodeWord n (copiedOperand newest (operandOf n w))
+  pub mapped-operand : (w : ℕ) → OperandWord (n + m) w
+      → mappedWord nodes table w ≡ nodeWord n (copiedOperand newest (operandOf n w))
   unfolding nodeWord copiedOperand
   mapped-operand w (inl l) = ⊎-elim low high (lt-or-le w n)
     where
@@ -48,11 +52,13 @@ module _ (nodes : Nodes) (few : nodes .inputs + nodes .gates ≤ 65534) (table :
       high : n ≤ w → mappedWord nodes table w ≡ nodeWord n (copiedOperand newest (operandOf n w))
       high k = rw (operandOf-gate n w k (omega arith)) (mapped-gate nodes table w k l ∙ stands (w - n) (omega arith))
   mapped-operand w (inr (inl e)) = rw (e, operandOf-zero n (omega arith)) (mapped-other nodes table 65534 (inr few))
-  mapped-operand w (inr (inr e)) = rw (e, operandOf-one n (omega arith)) (mapped-other nodes table 65535 (inr (omega arith)))
+  mapped-operand w (inr (inr e)) =
+      rw (e, operandOf-one n (omega arith)) (mapped-other nodes table 65535 (inr (omega arith)))
 
   -- operand word i of a gate's copy
   operand-word : (ws : List ℕ) (at : ℕ) → GateWhole ws (n + m) at → (i : ℕ) → i < 4
-      → entryWord ws nodes (gateEntry ws at) table (1 + i) ≡ getD (map (nodeWord n) (copied newest (gateAt n ws at) .operands)) i 0
+      → entryWord ws nodes (gateEntry ws at) table (1 + i)
+      ≡ getD (map (nodeWord n) (copied newest (gateAt n ws at) .operands)) i 0
   operand-word ws at whole i l = ⊎-elim used unused (lt-or-le i (getD ws at 0 / 8))
     where
       os : List Operand
@@ -71,9 +77,11 @@ module _ (nodes : Nodes) (few : nodes .inputs + nodes .gates ≤ 65534) (table :
           ∙ sym
           (getD-map (nodeWord n) os i (constant false) 0 (rw length-os k)
           ∙ ap (nodeWord n)
-          (getD-copied newest (gateAt n ws at) i ∙ ap (copiedOperand newest) (gateAt-operand n ws at i (constant false) k)))
+          (getD-copied newest (gateAt n ws at) i
+          ∙ ap (copiedOperand newest) (gateAt-operand n ws at i (constant false) k)))
 
-      unused : getD ws at 0 / 8 ≤ i → entryWord ws nodes (gateEntry ws at) table (1 + i) ≡ getD (map (nodeWord n) os) i 0
+      unused : getD ws at 0 / 8 ≤ i → entryWord ws nodes (gateEntry ws at) table (1 + i)
+          ≡ getD (map (nodeWord n) os) i 0
       unused k =
           entry-kept ws nodes (gateEntry ws at) table (1 + i) (inr (omega arith))
           ∙ rw place (whole .unused i k l)
@@ -88,9 +96,15 @@ module _ (nodes : Nodes) (few : nodes .inputs + nodes .gates ≤ 65534) (table :
       (tab-ext (λ i. entryWord ws nodes (gateEntry ws at) table (1 + i))
       (λ i. getD (map (nodeWord n) (copied newest (gateAt n ws at) .operands)) i 0) 4 (operand-word ws at whole))
     where
-      head : entryWord ws nodes (gateEntry ws at) table 0 ≡ copied newest (gateAt n ws at) .kind + 8 * length (copied newest (gateAt n ws at) .operands)
+      head : entryWord ws nodes (gateEntry ws at) table 0
+          ≡ copied newest (gateAt n ws at) .kind + 8 * length (copied newest (gateAt n ws at) .operands)
       head =
-          rw (length-copied newest (gateAt n ws at), gateAt-count n ws at, copied-kind newest (gateAt n ws at), gateAt-kind n ws at)
+          rw (
+            length-copied newest (gateAt n ws at),
+            gateAt-count n ws at,
+            copied-kind newest (gateAt n ws at),
+            gateAt-kind n ws at,
+          )
           (entry-kept ws nodes (gateEntry ws at) table 0 (inl (omega arith)) ∙ rw add-zero (omega arith))
 
   -- The words of an output are those written for it.
@@ -100,9 +114,11 @@ module _ (nodes : Nodes) (few : nodes .inputs + nodes .gates ≤ 65534) (table :
   unfolding entryWords outputWords
   shown-words ws at l =
       ap₂ (λ (xs : List ℕ) (x : ℕ). xs ++ (x ∷ []))
-      (tab-ext (entryWord ws nodes (outputEntry at) table) (λ i. getD ws (at + i) 0) 4 (λ i k. entry-kept ws nodes (outputEntry at) table i (inl k))
+      (tab-ext (entryWord ws nodes (outputEntry at) table) (λ i. getD ws (at + i) 0) 4
+      (λ i k. entry-kept ws nodes (outputEntry at) table i (inl k))
       ∙ sym (nameWords-nameAt ws at))
-      (entry-mapped ws nodes (outputEntry at) table 4 (omega arith) (omega arith) ∙ mapped-operand (getD ws (at + 4) 0) (inl l))
+      (entry-mapped ws nodes (outputEntry at) table 4 (omega arith) (omega arith)
+      ∙ mapped-operand (getD ws (at + 4) 0) (inl l))
 
 -- ---- the table
 
@@ -117,13 +133,19 @@ stands-none nodes entry count e j l =
     ∙ sym (ap (nodeWord (nodes .inputs)) (getD-replicate count j (constant false) (constant false) (rw e l)))
 
 -- A copy is made of gate j.
-pub stands-set : (nodes : Nodes) (table : List ℕ) (newest : List Operand) (j t : ℕ) → j < length table → j < length newest → Stands nodes table newest
+pub stands-set : (nodes : Nodes) (table : List ℕ) (newest : List Operand) (j t : ℕ) → j < length table
+    → j < length newest → Stands nodes table newest
     → Stands nodes (set table j (nodes .inputs + t)) (set newest j (gate t))
 unfolding nodeWord
 stands-set nodes table newest j t l k stands i h = ⊎-elim same other (eq-or-ne i j)
   where
-    same : i ≡ j → getD (set table j (nodes .inputs + t)) i 0 ≡ nodeWord (nodes .inputs) (getD (set newest j (gate t)) i (constant false))
-    same e = rw (e, getD-set-same table j (nodes .inputs + t) 0 l, getD-set-same newest j (gate t) (constant false) k) refl
+    same : i ≡ j → getD (set table j (nodes .inputs + t)) i 0
+        ≡ nodeWord (nodes .inputs) (getD (set newest j (gate t)) i (constant false))
+    same e =
+        rw (e, getD-set-same table j (nodes .inputs + t) 0 l, getD-set-same newest j (gate t) (constant false) k) refl
 
-    other : (i ≡ j → ⊥) → getD (set table j (nodes .inputs + t)) i 0 ≡ nodeWord (nodes .inputs) (getD (set newest j (gate t)) i (constant false))
-    other ne = rw (getD-set-other table j i (nodes .inputs + t) 0 ne, getD-set-other newest j i (gate t) (constant false) ne) (stands i h)
+    other : (i ≡ j → ⊥) → getD (set table j (nodes .inputs + t)) i 0
+        ≡ nodeWord (nodes .inputs) (getD (set newest j (gate t)) i (constant false))
+    other ne =
+        rw (getD-set-other table j i (nodes .inputs + t) 0 ne, getD-set-other newest j i (gate t) (constant false) ne)
+        (stands i h)

@@ -15,7 +15,8 @@ use Rattle.prelude.proofs.Stores.{sets-joined-next}
 use Rattle.words_layout.specs.declared.nodes.Nodes.{Nodes}
 use Rattle.words_layout.specs.Nodes.{gateNamed}
 use Rattle.unroll_emission.specs.declared.entry.Entry.{Entry}
-use Rattle.unroll_emission.specs.Words.{mappedWord, entryWord, entryWords, outputEntry, tableAfter, copyWords, copyAt, shownAt}
+use Rattle.unroll_emission.specs.Words.{mappedWord, entryWord, entryWords, outputEntry, tableAfter, copyWords}
+use Rattle.unroll_emission.specs.Words.{copyAt, shownAt}
 
 -- Inside a range, or not.
 between : {A : Type 0} (a x b : ℕ) (y z : A) → a ≤ x → x < b → cond (leb a x && ltb x b) y z ≡ y
@@ -65,22 +66,27 @@ module _ (nodes : Nodes) (newest : List ℕ) (w : ℕ) where
 
 module _ (ws : List ℕ) (nodes : Nodes) (e : Entry) (newest : List ℕ) where
   -- A word in the range is mapped,
-  pub entry-mapped : (i : ℕ) → e .first ≤ i → i < e .last → entryWord ws nodes e newest i ≡ mappedWord nodes newest (getD ws (e .from + i) 0)
+  pub entry-mapped : (i : ℕ) → e .first ≤ i → i < e .last
+      → entryWord ws nodes e newest i ≡ mappedWord nodes newest (getD ws (e .from + i) 0)
   unfolding entryWord
-  entry-mapped i l k = between (e .first) i (e .last) (mappedWord nodes newest (getD ws (e .from + i) 0)) (getD ws (e .from + i) 0) l k
+  entry-mapped i l k =
+      between (e .first) i (e .last) (mappedWord nodes newest (getD ws (e .from + i) 0)) (getD ws (e .from + i) 0) l k
 
   -- and any other kept.
   pub entry-kept : (i : ℕ) → (i < e .first) ⊎ (e .last ≤ i) → entryWord ws nodes e newest i ≡ getD ws (e .from + i) 0
   unfolding entryWord
-  entry-kept i h = outside (e .first) i (e .last) (mappedWord nodes newest (getD ws (e .from + i) 0)) (getD ws (e .from + i) 0) h
+  entry-kept i h =
+      outside (e .first) i (e .last) (mappedWord nodes newest (getD ws (e .from + i) 0)) (getD ws (e .from + i) 0) h
 
 pub length-copy : (ws : List ℕ) (nodes : Nodes) (j : ℕ) (newest : List ℕ) → length (copyWords ws nodes j newest) ≡ 5
 unfolding copyWords entryWords
 length-copy ws nodes j newest = refl
 
-pub length-copyAt : (ws : List ℕ) (nodes : Nodes) (order newest : List ℕ) (t : ℕ) → length (copyAt ws nodes order newest t) ≡ 5
+pub length-copyAt : (ws : List ℕ) (nodes : Nodes) (order newest : List ℕ) (t : ℕ)
+    → length (copyAt ws nodes order newest t) ≡ 5
 unfolding copyAt
-length-copyAt ws nodes order newest t = length-copy ws nodes (getD order t 0) (tableAfter (nodes .inputs) order newest t)
+length-copyAt ws nodes order newest t =
+    length-copy ws nodes (getD order t 0) (tableAfter (nodes .inputs) order newest t)
 
 pub length-shownAt : (ws : List ℕ) (nodes : Nodes) (newest : List ℕ) (o : ℕ) → length (shownAt ws nodes newest o) ≡ 5
 unfolding shownAt entryWords
@@ -101,12 +107,14 @@ unfolding tableAfter
 table-next n order newest t table table′ e h = rw (add-one, ← e) h
 
 pub copies-next : (ws : List ℕ) (nodes : Nodes) (order newest entry table out out′ : List ℕ) (t : ℕ)
-    → out ≡ sets entry (nodes .start) (joined (tab (copyAt ws nodes order newest) t)) → table ≡ tableAfter (nodes .inputs) order newest t
+    → out ≡ sets entry (nodes .start) (joined (tab (copyAt ws nodes order newest) t))
+    → table ≡ tableAfter (nodes .inputs) order newest t
     → out′ ≡ sets out (nodes .start + 5 * t) (copyWords ws nodes (getD order t 0) table)
     → out′ ≡ sets entry (nodes .start) (joined (tab (copyAt ws nodes order newest) (t + 1)))
 unfolding copyAt
 copies-next ws nodes order newest entry table out out′ t e h f =
-    sets-joined-next (copyAt ws nodes order newest) 5 (length-copyAt ws nodes order newest) entry out out′ (nodes .start) t e (rw h at f)
+    sets-joined-next (copyAt ws nodes order newest) 5 (length-copyAt ws nodes order newest) entry out out′
+    (nodes .start) t e (rw h at f)
 
 pub outputs-next : (ws : List ℕ) (nodes : Nodes) (newest entry out out′ : List ℕ) (to o : ℕ)
     → out ≡ sets entry to (joined (tab (shownAt ws nodes newest) o))

@@ -1,4 +1,5 @@
--- What is written, part after part, is the encoding of the rendering. Cited by `write_rendering`; the laws of single parts also by `op_gather`.
+-- What is written, part after part, is the encoding of the rendering. Cited by `write_rendering`; the laws of single
+-- parts also by `op_gather`.
 -- Assumes nothing.
 use Prim.Native.Nat.{ℕ, zero, suc, _+_, _-_, _*_, _≤_, _<_}
 use mathlib.Core.Path.{_≡_, refl, sym, ap, ap₂, _∙_}
@@ -16,25 +17,31 @@ use Rattle.prelude.proofs.Slices.{sets-placed}
 use Rattle.words_layout.specs.declared.nodes.Nodes.{Nodes}
 use Rattle.words_layout.specs.Nodes.{nodesOf}
 use Rattle.netlist.specs.Limits.{maxInputs, maxNevers, maxGates, maxOutputs}
-use Rattle.netlist.specs.Netlist.{Operand, gate, constant, Gate, Output, Block, inputCount, gateCount, outputCount, neverCount, gateOf}
-use Rattle.netlist.specs.StoredBlock.{gateSize, outputSize, neversAt, gatesAt, outputsAt, nameWords, nameAt, neverWords, neverAt, nodeWord}
+use Rattle.netlist.specs.Netlist.{Operand, gate, constant, Gate, Output, Block, inputCount, gateCount, outputCount}
+use Rattle.netlist.specs.Netlist.{neverCount, gateOf}
+use Rattle.netlist.specs.StoredBlock.{gateSize, outputSize, neversAt, gatesAt, outputsAt, nameWords, nameAt, neverWords}
+use Rattle.netlist.specs.StoredBlock.{neverAt, nodeWord}
 use Rattle.netlist.specs.StoredBlock.{gateWords, outputWords, outputAt, encode, decode, isMalformed}
-use Rattle.netlist.specs.Rendering.{schedule, noCopies, copiedOperand, copied, copies, newestAfter, lastCopies, rendering}
+use Rattle.netlist.specs.Rendering.{schedule, noCopies, copiedOperand, copied, copies, newestAfter, lastCopies}
+use Rattle.netlist.specs.Rendering.{rendering}
 use Rattle.theory_encoding.proofs.Names.{nameWords-nameAt}
-use Rattle.theory_encoding.proofs.Decoded.{decode-inputCount, decode-gateCount, decode-outputCount, decode-neverCount, decode-gate}
+use Rattle.theory_encoding.proofs.Decoded.{decode-inputCount, decode-gateCount, decode-outputCount, decode-neverCount}
+use Rattle.theory_encoding.proofs.Decoded.{decode-gate}
 use Rattle.theory_encoding.proofs.Encoded.{length-encode}
 use Rattle.theory_encoding.proofs.RoundTrip.{part-words, neverWords-neverAt}
 use Rattle.theory_encoding.proofs.Readers.{whole-parts, whole-gate, whole-node}
 use Rattle.theory_unrolling.proofs.Copies.{length-noCopies, length-newestAfter, newestAfter-snoc, copies-snoc}
 use Rattle.theory_unrolling.proofs.Schedule.{schedule-below}
-use Rattle.theory_unrolling.proofs.Block.{rendering-inputs, rendering-nevers, length-schedule-is, length-rendering-outputs}
+use Rattle.theory_unrolling.proofs.Block.{rendering-inputs, rendering-nevers, length-schedule-is}
+use Rattle.theory_unrolling.proofs.Block.{length-rendering-outputs}
 use Rattle.unroll_emission.specs.Words.{wordFrom, tableAfter, copyWords, copyAt, shownAt, Order, CopyReady}
 use Rattle.unroll_emission.proofs.Words.{length-tableAfter, length-copyAt}
 use Rattle.unroll_emission.proofs.Copied.{Stands, copy-words, shown-words, stands-none, stands-set}
 
 -- The words of the input names and of the never lines are copied as they are.
 pub front-written : (ws : List ℕ)
-    → tab (wordFrom ws 4) (4 * getD ws 0 0 + 2 * getD ws 3 0) ≡ joined (map nameWords (decode ws .inputs)) ++ joined (map neverWords (decode ws .nevers))
+    → tab (wordFrom ws 4) (4 * getD ws 0 0 + 2 * getD ws 3 0)
+    ≡ joined (map nameWords (decode ws .inputs)) ++ joined (map neverWords (decode ws .nevers))
 unfolding wordFrom decode neversAt
 front-written ws =
     tab-add (wordFrom ws 4) (4 * n) (2 * lines)
@@ -75,7 +82,8 @@ module _ (ws : List ℕ) (whole : isMalformed ws ≡ false) where
       → copyWords ws (nodesOf ws) j table ≡ gateWords n (copied newest (gateOf (decode ws) j))
   unfolding copyWords nodesOf
   copy-written table newest stands j l =
-      copy-words (nodesOf ws) few table newest stands ws (gatesAt n (getD ws 3 0) + gateSize * j) (whole-gate ws whole j l)
+      copy-words (nodesOf ws) few table newest stands ws (gatesAt n (getD ws 3 0) + gateSize * j)
+      (whole-gate ws whole j l)
       ∙ ap (λ (g : Gate). gateWords n (copied newest g)) (sym (decode-gate ws j l))
 
   -- ---- the outputs
@@ -90,12 +98,15 @@ module _ (ws : List ℕ) (whole : isMalformed ws ≡ false) where
 
   pub outputs-written : (table : List ℕ) (newest : List Operand) → Stands (nodesOf ws) table newest
       → joined (tab (shownAt ws (nodesOf ws) table) k)
-      ≡ joined (map (outputWords n) (map (λ (o : Output). record { port = o .port; node = copiedOperand newest (o .node) }) (decode ws .outputs)))
+      ≡ joined (map (outputWords n) (map (λ (o : Output). record
+      { port = o .port; node = copiedOperand newest (o .node) }) (decode ws .outputs)))
   unfolding outputAt shownAt outputsAt nodesOf
   outputs-written table newest stands =
       ap joined
-      (tab-ext (shownAt ws (nodesOf ws) table) (λ o. outputWords n (shown newest (outputAt n ws (outputs-at + outputSize * o)))) k
-      (λ o l. shown-words (nodesOf ws) few table newest stands ws (outputs-at + outputSize * o) (whole-node ws whole o l)))
+      (tab-ext (shownAt ws (nodesOf ws) table)
+      (λ o. outputWords n (shown newest (outputAt n ws (outputs-at + outputSize * o)))) k
+      (λ o l. shown-words (nodesOf ws) few table newest stands ws (outputs-at + outputSize * o)
+      (whole-node ws whole o l)))
       ∙ sym
       (ap (λ (os : List Output). joined (map (outputWords n) (map (shown newest) os))) outputs-of
       ∙ ap joined
@@ -115,7 +126,8 @@ module _ (ws : List ℕ) (whole : isMalformed ws ≡ false) where
     newest : ℕ → List Operand
     newest t = newestAfter (noCopies (decode ws)) 0 (take t (schedule (decode ws)))
 
-    take-next : (t : ℕ) → t < total → take (suc t) (schedule (decode ws)) ≡ take t (schedule (decode ws)) ++ (getD order t 0 ∷ [])
+    take-next : (t : ℕ) → t < total → take (suc t) (schedule (decode ws))
+        ≡ take t (schedule (decode ws)) ++ (getD order t 0 ∷ [])
     take-next t l = rw (scheduled t l) (take-suc (schedule (decode ws)) t 0 (rw (← totalIs) l))
 
     newest-next : (t : ℕ) → t < total → newest (suc t) ≡ set (newest t) (getD order t 0) (gate t)
@@ -124,12 +136,14 @@ module _ (ws : List ℕ) (whole : isMalformed ws ≡ false) where
         rw (take-next t l)
         (newestAfter-snoc (noCopies (decode ws)) 0 (take t (schedule (decode ws))) (getD order t 0)
         ∙ ap (λ (u : ℕ). set (newest t) (getD order t 0) (gate u))
-        (zero-add (length (take t (schedule (decode ws)))) ∙ length-take-le t (schedule (decode ws)) (rw (← totalIs) (omega arith))))
+        (zero-add (length (take t (schedule (decode ws))))
+        ∙ length-take-le t (schedule (decode ws)) (rw (← totalIs) (omega arith))))
 
     length-newest : (t : ℕ) → length (newest t) ≡ m
     unfolding newest
     length-newest t =
-        length-newestAfter (noCopies (decode ws)) 0 (take t (schedule (decode ws))) ∙ length-noCopies (decode ws) ∙ decode-gateCount ws
+        length-newestAfter (noCopies (decode ws)) 0 (take t (schedule (decode ws))) ∙ length-noCopies (decode ws)
+        ∙ decode-gateCount ws
 
     all-taken : take total (schedule (decode ws)) ≡ schedule (decode ws)
     all-taken = rw totalIs (take-length (schedule (decode ws)))
@@ -142,7 +156,8 @@ module _ (ws : List ℕ) (whole : isMalformed ws ≡ false) where
       stands-after (suc t) l =
           rw (newest-next t l)
           (stands-set (nodesOf ws) (tableAfter n order table t) (newest t) (getD order t 0) t
-          (rw (length-tableAfter n order table t) (omega (arith, ordered-below t l))) (rw (length-newest t) (ordered-below t l))
+          (rw (length-tableAfter n order table t) (omega (arith, ordered-below t l)))
+          (rw (length-newest t) (ordered-below t l))
           (stands-after t (omega arith)))
 
       copies-written : (t : ℕ) → t ≤ total
@@ -153,14 +168,21 @@ module _ (ws : List ℕ) (whole : isMalformed ws ≡ false) where
       copies-written (suc t) l =
           joined-snoc (tab (copyAt ws (nodesOf ws) order table) t) (copyAt ws (nodesOf ws) order table t)
           ∙ ap₂ {C = List ℕ} (λ (xs ys : List ℕ). xs ++ ys) (copies-written t (omega arith))
-          (copy-written (tableAfter n order table t) (newest t) (stands-after t (omega arith)) (getD order t 0) (ordered-below t l))
+          (copy-written (tableAfter n order table t) (newest t) (stands-after t (omega arith)) (getD order t 0)
+          (ordered-below t l))
           ∙ sym
-          (rw (take-next t l, copies-snoc (decode ws) (noCopies (decode ws)) 0 (take t (schedule (decode ws))) (getD order t 0), map-append (gateWords n))
+          (rw (
+            take-next t l,
+            copies-snoc (decode ws) (noCopies (decode ws)) 0 (take t (schedule (decode ws)))
+                (getD order t 0),
+            map-append (gateWords n),
+          )
           (joined-snoc (map (gateWords n) (copies (decode ws) (noCopies (decode ws)) 0 (take t (schedule (decode ws)))))
           (gateWords n (copied (newest t) (gateOf (decode ws) (getD order t 0))))))
 
       -- All copies: the gates of the rendering, and the table of the last copies.
-      gates-written : joined (tab (copyAt ws (nodesOf ws) order table) total) ≡ joined (map (gateWords n) (rendering (decode ws) .gates))
+      gates-written : joined (tab (copyAt ws (nodesOf ws) order table) total)
+          ≡ joined (map (gateWords n) (rendering (decode ws) .gates))
       unfolding rendering
       gates-written =
           copies-written total (omega arith)
@@ -170,7 +192,8 @@ module _ (ws : List ℕ) (whole : isMalformed ws ≡ false) where
       unfolding lastCopies newest nodesOf
       stands-last j l =
           stands-after total (omega arith) j l
-          ∙ ap (λ (js : List ℕ). nodeWord n (getD (newestAfter (noCopies (decode ws)) 0 js) j (constant false))) all-taken
+          ∙ ap (λ (js : List ℕ). nodeWord n (getD (newestAfter (noCopies (decode ws)) 0 js) j (constant false)))
+          all-taken
 
 -- The five parts of a block's words.
 pub encode-of : (b : Block) (n t k lines : ℕ) (front gates outputs : List ℕ)
@@ -238,9 +261,11 @@ module _ (ws order : List ℕ) (total : ℕ) (newest out : List ℕ) (r : CopyRe
       })
 
   -- the parts, stored one after the other
-  stored : (lines : ℕ) (table last : List ℕ) → lines ≡ getD ws 3 0 → table ≡ placed (replicate (nodesOf ws .gates) 65534) newest
+  stored : (lines : ℕ) (table last : List ℕ) → lines ≡ getD ws 3 0
+      → table ≡ placed (replicate (nodesOf ws .gates) 65534) newest
       → last ≡ tableAfter (nodesOf ws .inputs) order table total
-      → sets (sets (sets (sets out 0 (nodesOf ws .inputs ∷ total ∷ getD ws 2 0 ∷ lines ∷ [])) 4 (tab (wordFrom ws 4) (nodesOf ws .start - 4)))
+      → sets (sets (sets (sets out 0 (nodesOf ws .inputs ∷ total ∷ getD ws 2 0 ∷ lines ∷ [])) 4
+      (tab (wordFrom ws 4) (nodesOf ws .start - 4)))
       (nodesOf ws .start) (joined (tab (copyAt ws (nodesOf ws) order table) total)))
       (nodesOf ws .start + 5 * total) (joined (tab (shownAt ws (nodesOf ws) last) (getD ws 2 0)))
       ≡ placed (encode (rendering (decode ws))) out
@@ -248,7 +273,8 @@ module _ (ws order : List ℕ) (total : ℕ) (newest out : List ℕ) (r : CopyRe
   stored lines table last en et el =
       four-sets out (n ∷ total ∷ k ∷ lines ∷ []) front gates outputs 4 at (at + 5 * total) refl
       (rw (length-tab (wordFrom ws 4) (at - 4)) (omega (arith, sizes-of .near)))
-      (ap (λ (p : ℕ). at + p) (sym (length-joined-tab (copyAt ws (nodesOf ws) order table) 5 (length-copyAt ws (nodesOf ws) order table) total)))
+      (ap (λ (p : ℕ). at + p) (sym (length-joined-tab (copyAt ws (nodesOf ws) order table) 5
+      (length-copyAt ws (nodesOf ws) order table) total)))
       ∙ ap (sets out 0) (sym encoded)
       ∙ sets-placed (encode (rendering (decode ws))) out (r .room)
     where
@@ -278,23 +304,32 @@ module _ (ws order : List ℕ) (total : ℕ) (newest out : List ℕ) (r : CopyRe
 
       long : m ≤ length table
       long =
-          rw (et, length-append (replicate {A = ℕ} m 65534) (drop (length (replicate {A = ℕ} m 65534)) newest), length-replicate {A = ℕ} m 65534) (omega arith)
+          rw (
+            et,
+            length-append (replicate {A = ℕ} m 65534) (drop (length (replicate {A = ℕ} m 65534)) newest),
+            length-replicate {A = ℕ} m 65534,
+          ) (omega arith)
 
       none : Stands (nodesOf ws) table (noCopies (decode ws))
       none = rw et (stands-none (nodesOf ws) newest (gateCount (decode ws)) (decode-gateCount ws))
 
       encoded : encode (rendering (decode ws)) ≡ (n ∷ total ∷ k ∷ lines ∷ []) ++ front ++ gates ++ outputs
       encoded =
-          encode-of (rendering (decode ws)) n total k lines front gates outputs (counts .0) (counts .1) (counts .2) (counts .3 ∙ sym en)
-          (rw (rendering-inputs (decode ws), rendering-nevers (decode ws)) (ap (tab (wordFrom ws 4)) front-is ∙ front-written ws))
+          encode-of (rendering (decode ws)) n total k lines front gates outputs (counts .0) (counts .1) (counts .2)
+          (counts .3 ∙ sym en)
+          (rw (rendering-inputs (decode ws), rendering-nevers (decode ws))
+          (ap (tab (wordFrom ws 4)) front-is ∙ front-written ws))
           (gates-written ws (r .whole) order total (r .totalIs) (r .scheduled) table long none)
           (outputs-written ws (r .whole) last (lastCopies (decode ws))
           (rw el (stands-last ws (r .whole) order total (r .totalIs) (r .scheduled) table long none)))
 
-  pub rendering-written : (nodes : Nodes) (k lines : ℕ) (table out₁ out₂ out₃ last out₄ : List ℕ) → nodes ≡ nodesOf ws → k ≡ getD ws 2 0
+  pub rendering-written : (nodes : Nodes) (k lines : ℕ) (table out₁ out₂ out₃ last out₄ : List ℕ) → nodes ≡ nodesOf ws
+      → k ≡ getD ws 2 0
       → lines ≡ getD ws 3 0 → out₁ ≡ sets out 0 (nodes .inputs ∷ total ∷ k ∷ lines ∷ [])
-      → out₂ ≡ sets out₁ 4 (tab (wordFrom ws 4) (nodes .start - 4)) → table ≡ placed (replicate (nodes .gates) 65534) newest
-      → out₃ ≡ sets out₂ (nodes .start) (joined (tab (copyAt ws nodes order table) total)) → last ≡ tableAfter (nodes .inputs) order table total
+      → out₂ ≡ sets out₁ 4 (tab (wordFrom ws 4) (nodes .start - 4))
+      → table ≡ placed (replicate (nodes .gates) 65534) newest
+      → out₃ ≡ sets out₂ (nodes .start) (joined (tab (copyAt ws nodes order table) total))
+      → last ≡ tableAfter (nodes .inputs) order table total
       → out₄ ≡ sets out₃ (nodes .start + 5 * total) (joined (tab (shownAt ws nodes last) k))
       → out₄ ≡ placed (encode (rendering (decode ws))) out
   rendering-written nodes k lines table out₁ out₂ out₃ last out₄ are ek en e₁ e₂ et e₃ el e₄ =

@@ -18,12 +18,14 @@ use Rattle.unroll_emission.specs.declared.entry.Entry.{Entry}
 -- a gate's word gives its entry in the table, any other word itself
 unfoldable pub mappedWord : Nodes → List ℕ → ℕ → ℕ
 mappedWord nodes newest w =
-    cond (ltb (gateNamed (nodes .inputs) (nodes .gates) w) (nodes .gates)) (getD newest (gateNamed (nodes .inputs) (nodes .gates) w) 0) w
+    cond (ltb (gateNamed (nodes .inputs) (nodes .gates) w) (nodes .gates))
+    (getD newest (gateNamed (nodes .inputs) (nodes .gates) w) 0) w
 
 -- word i of the five words of an entry, a gate or an output: mapped from `first` on and below `last`, else kept
 unfoldable pub entryWord : List ℕ → Nodes → Entry → List ℕ → ℕ → ℕ
 entryWord ws nodes e newest i =
-    cond (leb (e .first) i && ltb i (e .last)) (mappedWord nodes newest (getD ws (e .from + i) 0)) (getD ws (e .from + i) 0)
+    cond (leb (e .first) i && ltb i (e .last)) (mappedWord nodes newest (getD ws (e .from + i) 0))
+    (getD ws (e .from + i) 0)
 
 unfoldable pub entryWords : List ℕ → Nodes → Entry → List ℕ → List ℕ
 entryWords ws nodes e newest = tab (entryWord ws nodes e newest) 5
@@ -54,7 +56,8 @@ copyAt ws nodes order newest t = copyWords ws nodes (getD order t 0) (tableAfter
 
 -- the words of output o
 unfoldable pub shownAt : List ℕ → Nodes → List ℕ → ℕ → List ℕ
-shownAt ws nodes newest o = entryWords ws nodes (outputEntry (nodes .start + gateSize * nodes .gates + outputSize * o)) newest
+shownAt ws nodes newest o =
+    entryWords ws nodes (outputEntry (nodes .start + gateSize * nodes .gates + outputSize * o)) newest
 
 -- what copying `count` entries of five words asks of the slices
 pub record EntryRoom (ws : List ℕ) (nodes : Nodes) (from : ℕ) (newest out : List ℕ) (to count : ℕ) : Type 0 where

@@ -17,7 +17,8 @@ pub record Limits (n m k lines : ℕ) : Type 0 where
   pub outputs : k ≤ maxOutputs
   pub nevers : lines ≤ maxNevers
 
-pub header-limits : (ws : List ℕ) → headerRule ws ≡ true → Limits (getD ws 0 0) (getD ws 1 0) (getD ws 2 0) (getD ws 3 0)
+pub header-limits : (ws : List ℕ) → headerRule ws ≡ true
+    → Limits (getD ws 0 0) (getD ws 1 0) (getD ws 2 0) (getD ws 3 0)
 unfolding headerRule
 header-limits ws h =
     let size = eqb (length ws) (outputsAt (getD ws 0 0) (getD ws 3 0) (getD ws 1 0) + outputSize * getD ws 2 0) in
@@ -37,7 +38,8 @@ header-limits ws h =
     }
 
 -- and of the length
-pub header-length : (ws : List ℕ) → headerRule ws ≡ true → length ws ≡ outputsAt (getD ws 0 0) (getD ws 3 0) (getD ws 1 0) + outputSize * getD ws 2 0
+pub header-length : (ws : List ℕ) → headerRule ws ≡ true
+    → length ws ≡ outputsAt (getD ws 0 0) (getD ws 3 0) (getD ws 1 0) + outputSize * getD ws 2 0
 unfolding headerRule
 header-length ws h =
     let said = outputsAt (getD ws 0 0) (getD ws 3 0) (getD ws 1 0) + outputSize * getD ws 2 0 in

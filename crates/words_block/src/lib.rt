@@ -16,9 +16,7 @@ ghost use Rattle.netlist.specs.StoredBlock.{outputSize, outputsAt, isMalformed,
 ghost use Rattle.netlist.specs.Rendering.{isStraight};
 ghost use Rattle.words_block.specs.Steps.{frontRule, partsRule};
 
-pub mod gates;
 mod header;
-mod names;
 mod nevers;
 mod outputs;
 
@@ -28,7 +26,7 @@ fn front_fits(words: &[u16], n: usize, l: usize) -> bool
     requires { ⌜ l ≤ maxNevers ⌝ }
     ensures { λ r. ⌜ r ≡ frontRule (now (words .entry)) n l ⌝ }
 {
-    if !names::fit(words, offsets::INPUTS_AT, offsets::NAME_SIZE, n) {
+    if !words_names::fit(words, offsets::INPUTS_AT, offsets::NAME_SIZE, n) {
         return false;
     }
     nevers::fit(words, n, offsets::nevers_at(n), l)
@@ -47,10 +45,10 @@ fn parts_fit(words: &[u16], n: usize, l: usize, m: usize, k: usize) -> bool
     if !front_fits(words, n, l) {
         return false;
     }
-    if !gates::fit(words, n + m, offsets::gates_behind(n, l), m) {
+    if !words_gates::fit(words, n + m, offsets::gates_behind(n, l), m) {
         return false;
     }
-    if !names::fit(words, outputs_at, offsets::OUTPUT_SIZE, k) {
+    if !words_names::fit(words, outputs_at, offsets::OUTPUT_SIZE, k) {
         return false;
     }
     outputs::fit(words, n + m, outputs_at, k)
@@ -85,5 +83,8 @@ pub fn check_straight(words: &[u16]) -> Test
     let n = offsets::inputs_of(words);
     let m = offsets::gates_of(words);
     let at = offsets::gates_at(words);
-    refuse_if(!gates::read_lower(words, n, at, m), Refusal::NotStraight)
+    refuse_if(
+        !words_gates::read_lower(words, n, at, m),
+        Refusal::NotStraight,
+    )
 }

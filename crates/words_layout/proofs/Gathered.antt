@@ -62,7 +62,8 @@ pub record Gathered (vs : List Value) (o definedMask oneMask : ℕ) : Type 0 whe
 
 pub gathered-none : (vs : List Value) {o : ℕ} → o ≡ length vs → length vs ≤ maskBits → Gathered vs o 0 0
 unfolding maskOf
-gathered-none vs e few = rw e (record { below = omega arith; few = few; defineds = rw (drop-length vs); ones = rw (drop-length vs) })
+gathered-none vs e few =
+    rw e (record { below = omega arith; few = few; defineds = rw (drop-length vs); ones = rw (drop-length vs) })
 
 module _ {vs : List Value} {o d v : ℕ} (g : Gathered vs o d v) (some : 0 < o) where
   -- the value of this turn
@@ -102,11 +103,14 @@ module _ {vs : List Value} {o d v : ℕ} (g : Gathered vs o d v) (some : 0 < o) 
     pub one-fits : 2 * v + b < 2 ^ 16
     one-fits = let f = fits isOne in omega (arith, one-next)
 
-  pub gathered-next : {b c : ℕ} → b ≡ cond (isDefined here′) 1 0 → c ≡ cond (isOne here′) 1 0 → Gathered vs (o - 1) (2 * d + b) (2 * v + c)
-  gathered-next p q = record { below = omega (arith, g .below); few = g .few; defineds = defined-next p; ones = one-next q }
+  pub gathered-next : {b c : ℕ} → b ≡ cond (isDefined here′) 1 0 → c ≡ cond (isOne here′) 1 0
+      → Gathered vs (o - 1) (2 * d + b) (2 * v + c)
+  gathered-next p q =
+      record { below = omega (arith, g .below); few = g .few; defineds = defined-next p; ones = one-next q }
 
 -- the masks of all values
-pub gathered-all : {vs : List Value} {o d v : ℕ} → Gathered vs o d v → o ≤ 0 → record { defined = d; ones = v } ≡ masksOf vs
+pub gathered-all : {vs : List Value} {o d v : ℕ} → Gathered vs o d v → o ≤ 0
+    → record { defined = d; ones = v } ≡ masksOf vs
 unfolding masksOf
 gathered-all {vs} {o} g z =
     let e : o ≡ 0 = omega arith in
@@ -114,7 +118,8 @@ gathered-all {vs} {o} g z =
     rw (g .defineds, g .ones, p)
 
 -- the bit of a test, of the code at place i
-pub bit-at : (test : Value → Bool) (values : List ℕ) (i : ℕ) {b : ℕ} → i < length values → b ≡ cond (test (valueOf (getD values i 0))) 1 0
+pub bit-at : (test : Value → Bool) (values : List ℕ) (i : ℕ) {b : ℕ} → i < length values
+    → b ≡ cond (test (valueOf (getD values i 0))) 1 0
     → b ≡ cond (test (getD (map valueOf values) i undefined)) 1 0
 bit-at test values i l e =
     let g : valueOf (getD values i 0) ≡ getD (map valueOf values) i undefined = sym (List·getD-map valueOf values i 0)

@@ -1,4 +1,5 @@
--- The signature of a kind, by its number; operand counts. Cited by `kinds::signature_of` and by the crates that test counts.
+-- The signature of a kind, by its number; operand counts. Cited by `kinds::signature_of` and by the crates that test
+-- counts.
 -- Assumes nothing.
 use Prim.Native.Nat.{ℕ, zero, suc, _≤_}
 use mathlib.Core.Path.{_≡_, refl}

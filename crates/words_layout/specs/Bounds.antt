@@ -1,4 +1,5 @@
--- Bounds that contracts ask of a place or a number so that no sum of it overflows. None is a rule of the format: each is above all that can come.
+-- Bounds that contracts ask of a place or a number so that no sum of it overflows. None is a rule of the format: each
+-- is above all that can come.
 use Prim.Native.Nat.{ℕ, _^_}
 
 -- what a word can hold

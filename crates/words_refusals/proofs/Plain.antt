@@ -5,8 +5,10 @@ use Prim.Native.Nat.{ℕ}
 use types.Run.{OneOf, miss}
 use denote.Enum.Declared.{tagOf}
 use Rattle.netlist.specs.declared.Refusal.{Refusal}
-use Rattle.netlist.specs.declared.Refusal.the-variants.{TextTooLong, SyntaxError, OverLimit, DuplicateDeclaration, UndeclaredName, MalformedBlock}
-use Rattle.netlist.specs.declared.Refusal.the-variants.{BadSetting, TooManyCopies, NotSettled, NotStraight, NoRoom, InterfaceMismatch, NotAPermutation}
+use Rattle.netlist.specs.declared.Refusal.the-variants.{TextTooLong, SyntaxError, OverLimit, DuplicateDeclaration}
+use Rattle.netlist.specs.declared.Refusal.the-variants.{UndeclaredName, MalformedBlock}
+use Rattle.netlist.specs.declared.Refusal.the-variants.{BadSetting, TooManyCopies, NotSettled, NotStraight, NoRoom}
+use Rattle.netlist.specs.declared.Refusal.the-variants.{InterfaceMismatch, NotAPermutation}
 use Rattle.netlist.proofs.Refusal.{the-type}
 use Rattle.netlist.specs.Answers.{refusalDetail}
 

@@ -1,4 +1,5 @@
--- Laws on tests and promises, cited by every operation. An operation's outcome is a chain of conditions; `around` is what stands around the
+-- Laws on tests and promises, cited by every operation. An operation's outcome is a chain of conditions; `around` is
+-- what stands around the
 -- chain: the condition on the room, or nothing.
 --   passed       a test that passed: the outcome is that of the rest of the chain
 --   failed       a test that failed: the promise holds of the refusal's answer, and the slice is as it was
@@ -17,14 +18,17 @@ use lib.ListN.{length, getD}
 use lib.Dec.{ltb}
 use Rattle.prelude.specs.Lists.{placed}
 use Rattle.netlist.specs.declared.Refusal.{Refusal}
-use Rattle.netlist.specs.declared.Refusal.the-variants.{TextTooLong, SyntaxError, OverLimit, DuplicateDeclaration, UndeclaredName, MalformedBlock}
-use Rattle.netlist.specs.declared.Refusal.the-variants.{BadSetting, TooManyCopies, NotSettled, NotStraight, NoRoom, InterfaceMismatch, NotAPermutation}
+use Rattle.netlist.specs.declared.Refusal.the-variants.{TextTooLong, SyntaxError, OverLimit, DuplicateDeclaration}
+use Rattle.netlist.specs.declared.Refusal.the-variants.{UndeclaredName, MalformedBlock}
+use Rattle.netlist.specs.declared.Refusal.the-variants.{BadSetting, TooManyCopies, NotSettled, NotStraight, NoRoom}
+use Rattle.netlist.specs.declared.Refusal.the-variants.{InterfaceMismatch, NotAPermutation}
 use Rattle.words_refusals.specs.declared.Test.{Test}
 use Rattle.words_refusals.proofs.Test.{the-type}
 use Rattle.words_refusals.specs.declared.Test.the-variants.{Passed, Failed}
 use Rattle.netlist.specs.declared.Answer.{Answer}
 use Rattle.netlist.specs.declared.Answer.the-variants.{Done, Refused}
-use Rattle.netlist.specs.Answers.{refusalNumber, refusalDetail, numberOf, countOf, detailOf, Outcome, done, refused, refuseIf}
+use Rattle.netlist.specs.Answers.{refusalNumber, refusalDetail, numberOf, countOf, detailOf, Outcome, done, refused}
+use Rattle.netlist.specs.Answers.{refuseIf}
 use Rattle.words_refusals.specs.Tests.{testOf, testAt, refusalOf}
 use Rattle.netlist.specs.Answers.{refuseAt, inRoom, answerOf, leftIn, Told, Promise}
 
@@ -34,7 +38,8 @@ use Rattle.netlist.specs.Answers.{refuseAt, inRoom, answerOf, leftIn, Told, Pro
 pub tell : {o : Outcome} {r : Answer} → r ≡ answerOf o → Told o r
 tell e = record { number = ap numberOf e; count = ap countOf e; detail = ap detailOf e }
 
-pub promise : {o : Outcome} {entry exit : List ℕ} {r : Answer} → r ≡ answerOf o → exit ≡ leftIn o entry → Promise o entry r exit
+pub promise : {o : Outcome} {entry exit : List ℕ} {r : Answer} → r ≡ answerOf o → exit ≡ leftIn o entry
+    → Promise o entry r exit
 promise e l = record { told = tell e; leaves = l }
 
 -- the answer with these three numbers
@@ -104,21 +109,24 @@ passed-none none why e f = refl
 
 -- ---- the conditions of an operation, one after the other
 
-module _ (around : Outcome → Outcome) (keeps : (r : Refusal) → around (refused r) ≡ refused r) {o : Outcome} (next : Outcome) where
-  module _ (b : Bool) (why : Refusal) {t : Test} (chain : o ≡ around (refuseIf b why next)) (answer : t ≡ testOf b why) where
-    pub passed : t ≡ Passed → o ≡ around next
-    unfolding refuseIf
-    passed f = rw (passed-false b why answer f) at chain
+module _ (around : Outcome → Outcome) (keeps : (r : Refusal) → around (refused r) ≡ refused r) {o : Outcome}
+    (next : Outcome) where
+  module _ (b : Bool) (why : Refusal) {t : Test} (chain : o ≡ around (refuseIf b why next)) (answer : t ≡ testOf b why)
+    where
+      pub passed : t ≡ Passed → o ≡ around next
+      unfolding refuseIf
+      passed f = rw (passed-false b why answer f) at chain
 
-    pub failed : {r : Answer} (entry : List ℕ) → IsFailed t → r ≡ refusalOf t → Promise o entry r entry
-    unfolding refuseIf testOf refusalOf answerOf leftIn
-    failed entry k e =
-        let holds = failed-true b why answer k in
-        let is : o ≡ refused why = (rw holds at chain) ∙ keeps why in
-        let was : t ≡ Failed why = rw holds at answer in
-        promise (rw (is, e, was) refl) (rw is refl)
+      pub failed : {r : Answer} (entry : List ℕ) → IsFailed t → r ≡ refusalOf t → Promise o entry r entry
+      unfolding refuseIf testOf refusalOf answerOf leftIn
+      failed entry k e =
+          let holds = failed-true b why answer k in
+          let is : o ≡ refused why = (rw holds at chain) ∙ keeps why in
+          let was : t ≡ Failed why = rw holds at answer in
+          promise (rw (is, e, was) refl) (rw is refl)
 
-  module _ (p : Option ℕ) (why : ℕ → Refusal) {t : Test} (chain : o ≡ around (refuseAt p why next)) (answer : t ≡ testAt p why) where
+  module _ (p : Option ℕ) (why : ℕ → Refusal) {t : Test} (chain : o ≡ around (refuseAt p why next))
+      (answer : t ≡ testAt p why) where
     pub passed-at : t ≡ Passed → o ≡ around next
     unfolding refuseAt
     passed-at f = rw (passed-none p why answer f) at chain
@@ -148,7 +156,8 @@ pub keeps-bare : (r : Refusal) → bare (refused r) ≡ refused r
 keeps-bare r = refl
 
 -- a result stands in the slice's beginning
-pub finished : {o : Outcome} {entry exit result : List ℕ} {count reported detail : ℕ} → o ≡ done result reported detail → count ≡ reported
+pub finished : {o : Outcome} {entry exit result : List ℕ} {count reported detail : ℕ} → o ≡ done result reported detail
+    → count ≡ reported
     → exit ≡ placed result entry
     → Promise o entry (Done count detail) exit
 unfolding answerOf leftIn

@@ -18,6 +18,7 @@ unfolding numberOf countOf detailOf
 shows-refusal a p q = record { number = p; count = refl; detail = q }
 
 -- A success is shown by 0, its count and its detail.
-pub shows-done : {a : Answer} {count detail : ℕ} → a ≡ Done count detail → Shows a record { number = 0; count = count; detail = detail }
+pub shows-done : {a : Answer} {count detail : ℕ} → a ≡ Done count detail
+    → Shows a record { number = 0; count = count; detail = detail }
 unfolding numberOf countOf detailOf
 shows-done p = rw p record { number = refl; count = refl; detail = refl }

@@ -1,4 +1,5 @@
--- `bench_session::feed` meets its contract: what was taken so far led the run here, and until something is answered nothing is written. Assumes nothing.
+-- `bench_session::feed` meets its contract: what was taken so far led the run here, and until something is answered
+-- nothing is written. Assumes nothing.
 use Rattle.bench_session.proofs.Bytes.{at-start, one-byte, fed}
 use Rattle.bench_session.specs.Session.{runOf, Progressed}
 use lib.ListN.{length}
@@ -11,23 +12,30 @@ use Rattle.bench_session.proofs.feed.Statement.{statement}
 use Rattle.bench_session.proofs.feed.Tie as tie
 
 abbrev Inv-loop : tie.InvT-loop
-Inv-loop piece text₀ words₀ graph₀ fanout₀ line₀ out₀ state₀ taken₀ written₀ text words graph fanout line out state taken written =
+Inv-loop piece text₀ words₀ graph₀ fanout₀ line₀ out₀ state₀ taken₀ written₀ text words graph fanout line out state
+    taken written =
     Progressed (runOf state₀ text₀ words₀ line₀) piece state text words graph fanout line out taken written
-    × (length text ≡ length text₀) × (length words ≡ length words₀) × (length line ≡ length line₀) × (length out ≡ length out₀)
+    × (length text ≡ length text₀) × (length words ≡ length words₀) × (length line ≡ length line₀)
+    × (length out ≡ length out₀)
 
 abbrev μ-loop : tie.MeasureT-loop
-μ-loop piece text₀ words₀ graph₀ fanout₀ line₀ out₀ state₀ taken₀ written₀ text words graph fanout line out state taken written = length piece - taken
+μ-loop piece text₀ words₀ graph₀ fanout₀ line₀ out₀ state₀ taken₀ written₀ text words graph fanout line out state taken
+    written = length piece - taken
 
 loop-holds : tie.Need-loop-holds Inv-loop μ-loop
-loop-holds c = (at-start _ (c .before .before .before .before .before .pre), refl, refl, refl, refl)
+loop-holds c =
+    let start : tie.Start Inv-loop μ-loop = search in
+    (at-start _ (start .pre), refl, refl, refl, refl)
 
 feed-byte-requires : tie.Need-feed-byte-requires Inv-loop μ-loop
-feed-byte-requires c κs = c .before .before .before .before .before .before .before .before .before .loop .inv .0 .ready
+feed-byte-requires c κs =
+    let head : tie.At-loop Inv-loop μ-loop = search in
+    head .loop .inv .0 .ready
 
 loop-again : tie.Need-loop-again Inv-loop μ-loop
 loop-again c =
-    let b = c .before .before .before .before .before .before .before .before in
-    let in-if1 = b .before .before .before .before .before .before .before .before in
+    let b : tie.After-feed-byte Inv-loop μ-loop = search in
+    let in-if1 : tie.Then1 Inv-loop μ-loop = search in
     let in-loop = in-if1 .before in
     let at-loop = in-loop .before in
     let none = eqb-true (at-loop .loop .written) 0 (in-if1 .if1 .taken) in (

@@ -6,34 +6,40 @@ use Rattle.bench_session.proofs.feed_byte.Tie as tie
 
 netlist-byte-requires : tie.Need-netlist-byte-requires
 netlist-byte-requires c κs =
-    let at-state = c .before .before .before .before .before .before in
-    let start = at-state .before .before .before .before .before .before in
+    let at-state : tie.After-state = search in
+    let start : tie.Start = search in
     let r = start .pre .room in
     let held = netlist-ready (start .pre) (at-state .state .given .1) in
     (held .0, r .textRoom, r .wordRoom, r .outRoom, held .1)
 
 line-byte-requires : tie.Need-line-byte-requires
 line-byte-requires c κs =
-    let at-state2 = c .before .before .before .before .before .before in
-    line-ready (at-state2 .before .before .before .before .before .before .pre) (at-state2 .state2 .given .1)
+    let start : tie.Start = search in
+    let at-state2 : tie.After-state2 = search in
+    line-ready (start .pre) (at-state2 .state2 .given .1)
 
 returns : tie.Need-returns
 returns c =
-    let b = c .before .before .before .before .before .before in
-    let at-state = b .before .before .before .before .before .before .before in
-    let x = at-state .before .before .before .before .before .before .args in
-    netlist-step (x .text .now) (x .words .now) (x .line .now) (x .byte) (at-state .state .given .1) (b .netlist-byte .ensures _)
+    let start : tie.Start = search in
+    let b : tie.After-netlist-byte = search in
+    let at-state : tie.After-state = search in
+    let x = start .args in
+    netlist-step (x .text .now) (x .words .now) (x .line .now) (x .byte) (at-state .state .given .1)
+    (b .netlist-byte .ensures _)
 
 returns-2 : tie.Need-returns-2
 returns-2 c =
-    let b = c .before .before .before .before in
-    let at-state2 = b .before .before .before .before .before .before .before in
-    let x = at-state2 .before .before .before .before .before .before .args in
-    line-step (x .text .now) (x .words .now) (x .line .now) (x .byte) (at-state2 .state2 .given .1) (b .line-byte .ensures _)
+    let start : tie.Start = search in
+    let b : tie.After-line-byte = search in
+    let at-state2 : tie.After-state2 = search in
+    let x = start .args in
+    line-step (x .text .now) (x .words .now) (x .line .now) (x .byte) (at-state2 .state2 .given .1)
+    (b .line-byte .ensures _)
 
 returns-3 : tie.Need-returns-3
 returns-3 c =
-    let x = c .before .before .before .before .before .before .args in
+    let start : tie.Start = search in
+    let x = start .args in
     over-step (x .text .now) (x .words .now) (x .line .now) (x .byte) _ _ _ (c .enum-told .given .1)
 
 pub feed-byte-spec : {M : Type 1} → statement M

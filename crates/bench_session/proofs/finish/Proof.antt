@@ -7,33 +7,38 @@ use Rattle.bench_session.proofs.finish.Tie as tie
 
 end-netlist-requires : tie.Need-end-netlist-requires
 end-netlist-requires c κs =
-    let at-state = c .before .before .before .before .before in
-    let start = at-state .before .before .before .before .before .before in
+    let at-state : tie.After-state = search in
+    let start : tie.Start = search in
     let r = start .pre .room in
     let held = netlist-ready (start .pre) (at-state .state .given .1) in
     (omega (arith, held .0, r .textRoom), r .wordRoom, r .outRoom, held .1)
 
 end-line-requires : tie.Need-end-line-requires
 end-line-requires c κs =
-    let at-state2 = c .before .before .before .before .before in
-    line-ready (at-state2 .before .before .before .before .before .before .pre) (at-state2 .state2 .given .1)
+    let start : tie.Start = search in
+    let at-state2 : tie.After-state2 = search in
+    line-ready (start .pre) (at-state2 .state2 .given .1)
 
 returns : tie.Need-returns
 returns c =
-    let e = c .before .before .before .before in
-    let at-state = e .before .before .before .before .before .before in
-    let x = at-state .before .before .before .before .before .before .args in
+    let start : tie.Start = search in
+    let e : tie.After-end-netlist = search in
+    let at-state : tie.After-state = search in
+    let x = start .args in
     netlist-ending (x .text .now) (x .words .now) (x .line .now) (at-state .state .given .1) (e .end-netlist .ensures)
 
 returns-2 : tie.Need-returns-2
 returns-2 c =
-    let at-state2 = c .before .before .before .before .before .before .before .before in
-    let x = at-state2 .before .before .before .before .before .before .args in
-    line-ending (x .text .now) (x .words .now) (x .line .now) (at-state2 .state2 .given .1) (c .before .before .end-line .ensures)
+    let start : tie.Start = search in
+    let at-state2 : tie.After-state2 = search in
+    let x = start .args in
+    line-ending (x .text .now) (x .words .now) (x .line .now) (at-state2 .state2 .given .1)
+    (c .before .before .end-line .ensures)
 
 returns-3 : tie.Need-returns-3
 returns-3 c =
-    let x = c .before .before .before .before .before .before .args in
+    let start : tie.Start = search in
+    let x = start .args in
     over-ending (x .text .now) (x .words .now) (x .line .now) _ (c .enum-told .given .1)
 
 pub finish-spec : {M : Type 1} → statement M

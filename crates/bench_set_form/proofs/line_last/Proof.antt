@@ -1,5 +1,4 @@
--- `bench_set_form::line_last` meets its contract.
--- Assumes nothing.
+-- `bench_set_form::line_last` meets its contract. Assumes nothing.
 use borrow.Author.Needs.{needs}
 use Rattle.bench_set_form.proofs.line_last.Statement.{statement}
 use Rattle.bench_set_form.proofs.line_last.Tie as tie
@@ -15,14 +14,20 @@ use Rattle.text_recogniser.proofs.LineSteps.{shortens-word}
 use Rattle.bench_set_form.proofs.LineSteps.{last-word, nothing-left, something-left}
 
 abbrev text : tie.After-known-told → List ℕ
-text c = c .before .before .before .before .before .before .args .s .now
+text c =
+    let read = c .before .before .before in
+    read .before .before .before .args .s .now
 
 -- behind the LF
 behind : (c : tie.After-known-told) → Behind {B = ℕ} lineLast (text c) (c .before .found .given .0 .0) (nothingBehind 0)
-behind c = first-next last-word (shortens-word (ascii "\n")) (text c) (c .before .before .before .word .ensures) (c .before .found .given .1)
+behind c =
+    let after-word : tie.After-word = search in
+    first-next last-word (shortens-word (ascii "\n")) (text c) (after-word .word .ensures) (c .before .found .given .1)
 
 returns : tie.Need-returns
-returns c = first-bad last-word (c .before .before .before .before .before .args .s .now) (c .before .before .word .ensures) (c .enum-told .given .1)
+returns c =
+    let start : tie.Start = search in
+    first-bad last-word (start .args .s .now) (c .before .before .word .ensures) (c .enum-told .given .1)
 
 returns-2 : tie.Need-returns-2
 returns-2 c =

@@ -1,5 +1,5 @@
--- `bench_set_form::set_line_scan` meets its contract: a chain of calls, each on what the one before left.
--- Assumes nothing.
+-- `bench_set_form::set_line_scan` meets its contract: a chain of calls, each on what the one before left. Assumes
+-- nothing.
 use borrow.Author.Needs.{needs}
 use Rattle.bench_set_form.proofs.set_line_scan.Statement.{statement}
 use Rattle.bench_set_form.proofs.set_line_scan.Tie as tie
@@ -13,27 +13,36 @@ use Rattle.bench_set_form.proofs.LineSteps.{setPairs, set-word, set-pai
 
 -- the function's entry, from behind the word; and the stage behind the word, from behind the pairs
 abbrev start : tie.After-known-told → tie.Start
-start c = c .before .before .before .before .before .before
+start c =
+    let back = c .before .before .before in
+    back .before .before .before
 
 abbrev first : tie.After-known-told2 → tie.After-known-told
-first c = c .before .before .before .before .before
+first c =
+    let back = c .before .before .before in
+    back .before .before
 
 -- what is left behind the word and behind the pairs
 left-1 : (c : tie.After-known-told) → let a = start c .args in
     Behind (setLineReader (a .most)) (a .line .now) (c .before .found .given .0 .0) (setPairs (a .most))
 left-1 c =
+    let after-word : tie.After-word = search in
     let a = start c .args in
-    first-next (set-word (a .most)) (shortens-word (ascii "(set")) (a .line .now) (c .before .before .before .word .ensures) (c .before .found .given .1)
+    first-next (set-word (a .most)) (shortens-word (ascii "(set")) (a .line .now) (after-word .word .ensures)
+    (c .before .found .given .1)
 
 left-2 : (c : tie.After-known-told2) → let a = start (first c) .args in
     Behind (setLineReader (a .most)) (a .line .now) (c .before .found2 .given .0 .0) lineLast
 left-2 c =
+    let after-pairs : tie.After-pairs = search in
     let most = start (first c) .args .most in
-    then-next (set-pairs most) (shortens-pairs most 0) (left-1 (first c)) (c .before .before .before .pairs .ensures) (c .before .found2 .given .1)
+    then-next (set-pairs most) (shortens-pairs most 0) (left-1 (first c)) (after-pairs .pairs .ensures)
+    (c .before .found2 .given .1)
 
 returns : tie.Need-returns
 returns c =
-    first-bad (set-word (c .before .before .before .before .before .args .most)) (c .before .before .before .before .before .args .line .now)
+    let start : tie.Start = search in
+    first-bad (set-word (start .args .most)) (start .args .line .now)
     (c .before .before .word .ensures) (c .enum-told .given .1)
 
 sub-at : tie.Need-sub-at
@@ -41,7 +50,7 @@ sub-at c = left-1 c .within
 
 returns-2 : tie.Need-returns-2
 returns-2 c =
-    let b = c .before .before .before .before in
+    let b : tie.After-known-told = search in
     then-bad (set-pairs (start b .args .most)) (left-1 b) (c .before .before .pairs .ensures) (c .enum-told2 .given .1)
 
 sub-at-2 : tie.Need-sub-at-2

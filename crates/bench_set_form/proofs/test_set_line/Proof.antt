@@ -1,5 +1,4 @@
--- `bench_set_form::test_set_line` meets its contract.
--- Assumes nothing.
+-- `bench_set_form::test_set_line` meets its contract. Assumes nothing.
 use borrow.Author.Needs.{needs}
 use Rattle.bench_set_form.proofs.test_set_line.Statement.{statement}
 use Rattle.bench_set_form.proofs.test_set_line.Tie as tie
@@ -9,18 +8,24 @@ use Rattle.bench_set_form.proofs.LineSteps.{line-passed, line-failed, s
 
 sub-t7 : tie.Need-sub-t7
 sub-t7 c =
-    let g = c .before .before .before .before .before .args in
-    stuck-short (shortens-set-line (g .most)) (g .line .now) (sym (c .before .left .given .1) ∙ c .before .before .before .set-line-scan .ensures)
+    let start : tie.Start = search in
+    let after-set-line-scan : tie.After-set-line-scan = search in
+    let g = start .args in
+    stuck-short (shortens-set-line (g .most)) (g .line .now)
+    (sym (c .before .left .given .1) ∙ after-set-line-scan .set-line-scan .ensures)
 
 returns : tie.Need-returns
 returns c =
-    let g = c .before .before .before .before .args in
+    let start : tie.Start = search in
+    let g = start .args in
     line-passed (g .most) (g .line .now) (c .before .before .set-line-scan .ensures) (c .enum-told .given .1)
 
 returns-2 : tie.Need-returns-2
 returns-2 c =
-    let g = c .before .before .before .before .before .args in
-    line-failed (g .most) (g .line .now) (c .before .before .before .set-line-scan .ensures) (c .before .left .given .1)
+    let start : tie.Start = search in
+    let after-set-line-scan : tie.After-set-line-scan = search in
+    let g = start .args in
+    line-failed (g .most) (g .line .now) (after-set-line-scan .set-line-scan .ensures) (c .before .left .given .1)
 
 pub test-set-line-spec : {M : Type 1} → statement M
 test-set-line-spec =

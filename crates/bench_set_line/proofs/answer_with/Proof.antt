@@ -1,4 +1,5 @@
--- `bench_set_line::answer_with` meets its contract: 2, then 4 and 5, and then the show line of the pairs that the line prints. Assumes nothing.
+-- `bench_set_line::answer_with` meets its contract: 2, then 4 and 5, and then the show line of the pairs that the line
+-- prints. Assumes nothing.
 use mathlib.Core.Path.{_≡_, sym, ap, _∙_}
 use lib.ListN.{length, getD}
 use Rattle.netlist.specs.declared.Refusal.the-variants.{SyntaxError}
@@ -16,7 +17,9 @@ use Rattle.bench_set_line.proofs.answer_with.Tie as tie
 
 -- the function's entry, from where the form is tested, and the places behind each test
 abbrev start : tie.After-test-set-line → tie.Start
-start c = c .before .before .before .before .before
+start c =
+    let back = c .before .before .before in
+    back .before .before
 
 abbrev form-test : tie.After-enum-told → tie.After-test-set-line
 form-test c = c .before .before
@@ -35,24 +38,29 @@ form-told c = rw (c .before .inputs-of .ensures) at (c .test-set-line .ensures)
 found : (c : tie.After-enum-told) → let a = start (form-test c) .args in Found (a .words .now) (a .line .now)
 found c =
     let s = start (form-test c) in
-    in-form (s .args .words .now) (s .args .line .now) (s .pre .0 .whole) (passed-none _ SyntaxError (form-told (form-test c)) (c .enum-told .given .1))
+    in-form (s .args .words .now) (s .args .line .now) (s .pre .0 .whole)
+    (passed-none _ SyntaxError (form-told (form-test c)) (c .enum-told .given .1))
 
 behind-form : (c : tie.After-enum-told) → let a = start (form-test c) .args in
-    answerLine (a .words .now) (a .line .now) (length (a .out .now)) ≡ inRoom (length (a .out .now)) (pairsOutcome (decode (a .words .now)) (found c .pairs))
+    answerLine (a .words .now) (a .line .now) (length (a .out .now))
+    ≡ inRoom (length (a .out .now)) (pairsOutcome (decode (a .words .now)) (found c .pairs))
 behind-form c =
     let s = start (form-test c) in
-    passed-at (inRoom _) (keeps-room _) _ _ SyntaxError (form-chain _ _ _ (s .pre .0 .whole)) (form-told (form-test c)) (c .enum-told .given .1)
+    passed-at (inRoom _) (keeps-room _) _ _ SyntaxError (form-chain _ _ _ (s .pre .0 .whole)) (form-told (form-test c))
+    (c .enum-told .given .1)
     ∙ ap (inRoom (length (s .args .out .now))) (found c .behind)
 
 read : (c : tie.After-read-pairs) → let f = found (in-order c) in
-    LineRead (start (form-test (in-order c)) .args .words .now) (f .pairs) (c .read-pairs .result) (c .read-pairs .last .1 .1 .0)
+    LineRead (start (form-test (in-order c)) .args .words .now) (f .pairs) (c .read-pairs .result)
+    (c .read-pairs .last .1 .1 .0)
 read c = let f = found (in-order c) in c .read-pairs .ensures (f .pairs) (f .for)
 
 returns : tie.Need-returns
 returns c =
     let t = c .before .before .before in
     let s = start t in
-    failed-at (inRoom _) (keeps-room _) _ _ SyntaxError (form-chain _ _ _ (s .pre .0 .whole)) (form-told t) (s .args .out .now)
+    failed-at (inRoom _) (keeps-room _) _ _ SyntaxError (form-chain _ _ _ (s .pre .0 .whole)) (form-told t)
+    (s .args .out .now)
     (c .before .before .match .keys2) (c .refusal .ensures)
 
 read-pairs-requires : tie.Need-read-pairs-requires
@@ -65,7 +73,8 @@ returns-2 c =
     let t = c .before .before .before in
     let s = start (form-test (in-order t)) in
     rw (behind-form (in-order t))
-    (pairs-failed _ (found (in-order t) .pairs) _ (s .args .out .now) (read t .told) (c .before .before .match2 .keys2) (c .refusal2 .ensures))
+    (pairs-failed _ (found (in-order t) .pairs) _ (s .args .out .now) (read t .told) (c .before .before .match2 .keys2)
+    (c .refusal2 .ensures))
 
 show-requires : tie.Need-show-requires
 show-requires c κs =

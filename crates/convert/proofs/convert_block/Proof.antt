@@ -12,13 +12,19 @@ use lib.Seq.{length-take-le}
 
 -- the entry, and what Render told on each way
 abbrev start : tie.After-render → tie.Start
-start c = c .before .before .before .before .before
+start c =
+    let back = c .before .before .before in
+    back .before .before
 
 abbrev refused-render : tie.After-why → tie.After-render
-refused-render c = c .before .before .before .before
+refused-render c =
+    let back = c .before .before .before in
+    back .before
 
 abbrev done-render : tie.After-count → tie.After-render
-done-render c = c .before .before .before .before
+done-render c =
+    let back = c .before .before .before in
+    back .before
 
 slice-reshare-prefix-convert-rendered : tie.Need-slice-reshare-prefix-convert-rendered
 unfolding render
@@ -47,20 +53,21 @@ slice-aggregate-convert-rendered c =
 returns : tie.Need-returns
 unfolding render
 returns c =
-    let w = c .before .before .before .before .before in
+    let w : tie.After-why = search in
     let s = start (refused-render w) in
     let a = s .args in
     let o = renderWords (a .words .now) in
     let f = render-fits (length (a .copies .now)) (s .pre .0) (a .words .now) in
     shown-is
     (chained-refused o writeWords (w .why .given .0 .0)
-    (told-refused o _ (a .copies .now) _ f (refused-render w .render .ensures .promise) (w .why .given .0 .0) (w .why .given .1)))
+    (told-refused o _ (a .copies .now) _ f (refused-render w .render .ensures .promise) (w .why .given .0 .0)
+    (w .why .given .1)))
     (c .before .before .tell .ensures)
 
 returns-2 : tie.Need-returns-2
 unfolding render
 returns-2 c =
-    let n = c .before .before .before .before .before .before in
+    let n : tie.After-count = search in
     let s = start (done-render n) in
     let a = s .args in
     let o = renderWords (a .words .now) in

@@ -9,18 +9,24 @@ use Rattle.convert.proofs.Sizes.{write-fits}
 
 -- the entry, and what Write told on each way
 abbrev start : tie.After-write → tie.Start
-start c = c .before .before .before .before
+start c =
+    let back = c .before .before .before in
+    back .before
 
 abbrev refused-write : tie.After-why → tie.After-write
-refused-write c = c .before .before .before .before
+refused-write c =
+    let back = c .before .before .before in
+    back .before
 
 abbrev done-write : tie.After-count → tie.After-write
-done-write c = c .before .before .before .before
+done-write c =
+    let back = c .before .before .before in
+    back .before
 
 returns : tie.Need-returns
 unfolding write
 returns c =
-    let w = c .before .before .before .before .before in
+    let w : tie.After-why = search in
     let s = start (refused-write w) in
     let a = s .args in
     let o = writeWords (a .words .now) in
@@ -28,7 +34,8 @@ returns c =
     let e = refused-write w .write .ensures in
     let why = w .why .given in
     shown-refused o (why .0 .0) (a .out .now) _ _ _
-    (told-refused o _ (a .out .now) _ f e (why .0 .0) (why .1)) (kept-refused o _ (a .out .now) _ f e (why .0 .0) (why .1)) (c .before .before .tell .ensures)
+    (told-refused o _ (a .out .now) _ f e (why .0 .0) (why .1))
+    (kept-refused o _ (a .out .now) _ f e (why .0 .0) (why .1)) (c .before .before .tell .ensures)
 
 returns-2 : tie.Need-returns-2
 unfolding write

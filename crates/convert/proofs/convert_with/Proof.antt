@@ -12,13 +12,19 @@ use lib.Seq.{length-take-le}
 
 -- the entry, and what Read told on each way
 abbrev start : tie.After-read → tie.Start
-start c = c .before .before .before .before .before .before
+start c =
+    let back = c .before .before .before in
+    back .before .before .before
 
 abbrev refused-read : tie.After-why → tie.After-read
-refused-read c = c .before .before .before .before
+refused-read c =
+    let back = c .before .before .before in
+    back .before
 
 abbrev done-read : tie.After-count → tie.After-read
-done-read c = c .before .before .before .before
+done-read c =
+    let back = c .before .before .before in
+    back .before
 
 slice-reshare-prefix-convert-block : tie.Need-slice-reshare-prefix-convert-block
 unfolding read
@@ -27,7 +33,8 @@ slice-reshare-prefix-convert-block c =
     let s = start (done-read n) in
     let a = s .args in
     gave-within
-    (told-done (readText (a .text .now)) _ (a .block .now) _ (read-fits (length (a .block .now)) (s .pre .0) (a .text .now)) (done-read n .read .ensures)
+    (told-done (readText (a .text .now)) _ (a .block .now) _
+    (read-fits (length (a .block .now)) (s .pre .0) (a .text .now)) (done-read n .read .ensures)
     (n .count .given .0 .0) (n .count .given .0 .1 .0) (n .count .given .1))
 
 slice-aggregate-convert-block : tie.Need-slice-aggregate-convert-block
@@ -39,29 +46,32 @@ slice-aggregate-convert-block c =
     sym
     (length-take-le _ _
     (gave-within
-    (told-done (readText (a .text .now)) _ (a .block .now) _ (read-fits (length (a .block .now)) (s .pre .0) (a .text .now)) (done-read n .read .ensures)
+    (told-done (readText (a .text .now)) _ (a .block .now) _
+    (read-fits (length (a .block .now)) (s .pre .0) (a .text .now)) (done-read n .read .ensures)
     (n .count .given .0 .0) (n .count .given .0 .1 .0) (n .count .given .1))))
 
 returns : tie.Need-returns
 unfolding read
 returns c =
-    let w = c .before .before .before .before .before in
+    let w : tie.After-why = search in
     let s = start (refused-read w) in
     let a = s .args in
     unloop-refused (a .text .now) (w .why .given .0 .0)
-    (told-refused (readText (a .text .now)) _ (a .block .now) _ (read-fits (length (a .block .now)) (s .pre .0) (a .text .now)) (refused-read w .read .ensures)
+    (told-refused (readText (a .text .now)) _ (a .block .now) _
+    (read-fits (length (a .block .now)) (s .pre .0) (a .text .now)) (refused-read w .read .ensures)
     (w .why .given .0 .0) (w .why .given .1))
     (c .before .before .tell .ensures)
 
 returns-2 : tie.Need-returns-2
 unfolding read
 returns-2 c =
-    let converted = c .before .before .before .before in
-    let n = converted .before .before .before .before .before in
+    let converted : tie.After-convert-block = search in
+    let n : tie.After-count = search in
     let s = start (done-read n) in
     let a = s .args in
     unloop-gave (a .text .now)
-    (told-done (readText (a .text .now)) _ (a .block .now) _ (read-fits (length (a .block .now)) (s .pre .0) (a .text .now)) (done-read n .read .ensures)
+    (told-done (readText (a .text .now)) _ (a .block .now) _
+    (read-fits (length (a .block .now)) (s .pre .0) (a .text .now)) (done-read n .read .ensures)
     (n .count .given .0 .0) (n .count .given .0 .1 .0) (n .count .given .1))
     (converted .convert-block .ensures)
 

@@ -27,11 +27,12 @@ put-node-requires c κs =
 
 loop-again : tie.Need-loop-again Inv-loop μ-loop
 loop-again c =
-    let turn = c .before .before .before .before in
+    let turn : tie.At-loop Inv-loop μ-loop = search in
     let known = turn .before in
     let s = known .before .before in
     let few : turn .loop .j < known .nodes-of .result .gates = omega arith in
-    let most : known .nodes-of .result .gates ≤ maxGates = rw (known .nodes-of .ensures) (words-of (s .args .words .now) (s .pre .0) .fewGates) in
+    let most : known .nodes-of .result .gates ≤ maxGates =
+    rw (known .nodes-of .ensures) (words-of (s .args .words .now) (s .pre .0) .fewGates) in
     (omega arith, putting-more (turn .loop .inv .1) (omega arith) (c .put-node .ensures))
 
 returns : tie.Need-returns Inv-loop μ-loop
@@ -45,4 +46,5 @@ returns c =
 
 pub decode-gates-spec : {M : Type 1} → statement M
 decode-gates-spec =
-    tie.close (tie.spec Inv-loop μ-loop (λ c κs. search needs) loop-holds put-node-requires (λ c. search needs) (λ c. omega arith) loop-again returns)
+    tie.close (tie.spec Inv-loop μ-loop (λ c κs. search needs) loop-holds put-node-requires (λ c. search needs)
+    (λ c. omega arith) loop-again returns)

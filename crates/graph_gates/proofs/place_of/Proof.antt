@@ -11,10 +11,14 @@ input : tie.Need-returns
 input c = sym (place-input (c .before .args .n) (c .before .args .word) (c .if1 .taken))
 
 zero : tie.Need-returns-2
-zero c = rw (c .match .keys1) (sym (place-zero (c .before .before .args .n) (c .before .before .pre .0)))
+zero c =
+    let start : tie.Start = search in
+    rw (c .match .keys1) (sym (place-zero (c .before .before .args .n) (start .pre .0)))
 
 one : tie.Need-returns-3
-one c = rw (c .match .keys2) (sym (place-one (c .before .before .args .n) (c .before .before .pre .0)))
+one c =
+    let start : tie.Start = search in
+    rw (c .match .keys2) (sym (place-one (c .before .before .args .n) (start .pre .0)))
 
 gate : tie.Need-returns-4
 gate c =

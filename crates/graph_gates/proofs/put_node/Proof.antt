@@ -1,4 +1,5 @@
--- `graph_gates::put_node` meets its contract: five stores are the gate's five words, each of which fits. Assumes nothing.
+-- `graph_gates::put_node` meets its contract: five stores are the gate's five words, each of which fits. Assumes
+-- nothing.
 use mathlib.Core.Path.{_≡_, refl}
 use Prim.Native.Nat.{_≤_, _<_, _%_, _-_}
 use native.Mathlib.Omega.{arith}
@@ -37,40 +38,59 @@ first-fits : tie.Need-cast-graph-2
 first-fits c =
     let known = c .before .before .before in
     let rule = known .before in
-    let s = rule .before .before .before .before in
-    omega (arith, c .slot-place .ensures, place-small (s .pre .0) (s .args .j) (s .pre .1) (1 - rule .rule-of .result .controlling) 0 (omega arith))
+    let s : tie.Start = search in
+    omega (
+      arith,
+      c .slot-place .ensures,
+      place-small (s .pre .0) (s .args .j) (s .pre .1) (1 - rule .rule-of .result .controlling) 0 (omega arith),
+    )
 
 second-fits : tie.Need-cast-graph-3
 second-fits c =
-    let known = c .before .before .before .before in
+    let known-back = c .before .before .before in
+    let known = known-back .before in
     let rule = known .before in
-    let s = rule .before .before .before .before in
-    omega (arith, c .slot-place2 .ensures, place-small (s .pre .0) (s .args .j) (s .pre .1) (1 - rule .rule-of .result .controlling) 1 (omega arith))
+    let s : tie.Start = search in
+    omega (
+      arith,
+      c .slot-place2 .ensures,
+      place-small (s .pre .0) (s .args .j) (s .pre .1) (1 - rule .rule-of .result .controlling) 1 (omega arith),
+    )
 
 third-fits : tie.Need-cast-graph-4
 third-fits c =
     let first = c .before .before in
-    let rule = first .before .before .before .before in
-    let s = rule .before .before .before .before in
-    omega (arith, c .slot-place3 .ensures, place-small (s .pre .0) (s .args .j) (s .pre .1) (1 - rule .rule-of .result .controlling) 2 (omega arith))
+    let rule : tie.After-rule-of = search in
+    let s : tie.Start = search in
+    omega (
+      arith,
+      c .slot-place3 .ensures,
+      place-small (s .pre .0) (s .args .j) (s .pre .1) (1 - rule .rule-of .result .controlling) 2 (omega arith),
+    )
 
 fourth-fits : tie.Need-cast-graph-5
 fourth-fits c =
     let first = c .before .before .before in
-    let rule = first .before .before .before .before in
-    let s = rule .before .before .before .before in
-    omega (arith, c .slot-place4 .ensures, place-small (s .pre .0) (s .args .j) (s .pre .1) (1 - rule .rule-of .result .controlling) 3 (omega arith))
+    let rule : tie.After-rule-of = search in
+    let s : tie.Start = search in
+    omega (
+      arith,
+      c .slot-place4 .ensures,
+      place-small (s .pre .0) (s .args .j) (s .pre .1) (1 - rule .rule-of .result .controlling) 3 (omega arith),
+    )
 
 returns : tie.Need-returns
 returns c =
     let third = c .before in
     let second = third .before in
     let first = second .before in
-    let rule = first .before .before .before .before in
+    let rule : tie.After-rule-of = search in
     let head = rule .before in
     let s = head .before .before .before in
-    node-put (s .args .words .now) (s .args .graph .now) (s .args .nodes) (s .args .j) _ _ (head .word-in .result) (rule .rule-of .result .controlling) (rule .rule-of .result .forced) _ _ _ _ refl refl (head .word-in .ensures)
-    (rule .rule-of .ensures .0) (rule .rule-of .ensures .1) (first .slot-place .ensures) (second .slot-place2 .ensures) (third .slot-place3 .ensures)
+    node-put (s .args .words .now) (s .args .graph .now) (s .args .nodes) (s .args .j) _ _ (head .word-in .result)
+    (rule .rule-of .result .controlling) (rule .rule-of .result .forced) _ _ _ _ refl refl (head .word-in .ensures)
+    (rule .rule-of .ensures .0) (rule .rule-of .ensures .1) (first .slot-place .ensures) (second .slot-place2 .ensures)
+    (third .slot-place3 .ensures)
     (c .slot-place4 .ensures)
 
 pub put-node-spec : {M : Type 1} → statement M

@@ -1,4 +1,5 @@
--- `graph_gates::rule_of` meets its contract: each arm has its kind's numbers, and kinds 1 to 4 those of the table's row. Assumes nothing.
+-- `graph_gates::rule_of` meets its contract: each arm has its kind's numbers, and kinds 1 to 4 those of the table's
+-- row. Assumes nothing.
 use mathlib.Core.Path.{_≡_, refl, sym, ap, _∙_}
 use mathlib.Core.Bool.{true}
 use Prim.Native.Nat.{_≤_}
@@ -27,7 +28,7 @@ xnor-row c = rw (c .match .keys3) (refl, refl, omega arith, omega arith)
 table-row : tie.Need-returns-4
 unfolding isKind
 table-row c =
-    let s = c .before .before .before .before in
+    let s : tie.Start = search in
     let kind = s .args .kind in
     let legal : isKind kind ≡ true = le-leb kind 6 (s .pre) in
     let is = c .before .before .row-of .ensures (omega arith) in
@@ -38,4 +39,5 @@ table-row c =
 
 pub rule-of-spec : {M : Type 1} → statement M
 rule-of-spec =
-    tie.close (tie.spec (λ c κs. search needs) (λ c. search needs) (λ c. search needs) not-row xor-row xnor-row table-row)
+    tie.close (tie.spec (λ c κs. search needs) (λ c. search needs) (λ c. search needs) not-row xor-row xnor-row
+    table-row)

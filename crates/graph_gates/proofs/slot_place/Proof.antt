@@ -1,4 +1,5 @@
--- `graph_gates::slot_place` meets its contract: an operand's own place, or the constant behind the last operand. Assumes nothing.
+-- `graph_gates::slot_place` meets its contract: an operand's own place, or the constant behind the last operand.
+-- Assumes nothing.
 use mathlib.Core.Path.{_≡_, refl, sym, _∙_}
 use Prim.Native.Nat.{_+_, _/_, _≤_, _<_}
 use native.Mathlib.Omega.{arith}
@@ -11,12 +12,12 @@ use Rattle.graph_gates.proofs.slot_place.Tie as tie
 
 cast-word : tie.Need-cast-word
 cast-word c =
-    let s = c .before .before .before .before in
+    let s : tie.Start = search in
     omega (arith, c .shared-slice-known2 .given (s .args .at + 1 + s .args .i))
 
 place-of-requires : tie.Need-place-of-requires
 place-of-requires c κs =
-    let s = c .before .before .before .before in
+    let s : tie.Start = search in
     (s .pre .0, omega (arith, c .shared-slice-known2 .given (s .args .at + 1 + s .args .i)))
 
 operand : tie.Need-returns
@@ -25,7 +26,8 @@ operand c =
     let test = c .before .before in
     let asked = test .before in
     let s = asked .before .before in
-    let there : s .args .i < getD (s .args .words .now) (s .args .at) 0 / 8 = rw (asked .word-in .ensures) at (test .if1 .taken) in
+    let there : s .args .i < getD (s .args .words .now) (s .args .at) 0 / 8 =
+    rw (asked .word-in .ensures) at (test .if1 .taken) in
     c .place-of .ensures ∙ rw (lt-ltb (s .args .i) _ there) refl
 
 absent : tie.Need-returns-2

@@ -35,12 +35,14 @@ room-told : (c : tie.After-test-room) → let a = start (words-test (passed-word
 room-told c =
     let a = start (words-test (passed-words c)) .args in
     c .test-room .ensures
-    ∙ ap (λ (n : ℕ). testOf (ltb (length (a .block .now)) n) NoRoom) (sym (length-brought (a .old .now) (whole-long (a .old .now) (whole (passed-words c)))))
+    ∙ ap (λ (n : ℕ). testOf (ltb (length (a .block .now)) n) NoRoom)
+    (sym (length-brought (a .old .now) (whole-long (a .old .now) (whole (passed-words c)))))
 
 returns : tie.Need-returns
 returns c =
     let t = c .before .before .before in
-    failed (inRoom _) (keeps-room _) _ _ MalformedBlock (bring-start _ _) (t .check-before .ensures) (start t .args .block .now)
+    failed (inRoom _) (keeps-room _) _ _ MalformedBlock (bring-start _ _) (t .check-before .ensures)
+    (start t .args .block .now)
     (c .before .before .match .keys2) (c .refusal .ensures)
 
 returns-2 : tie.Need-returns-2
@@ -48,7 +50,8 @@ returns-2 c =
     let t = c .before .before .before in
     let w = passed-words t in
     let a = start (words-test w) .args in
-    failed bare keeps-bare _ _ NoRoom (bring-room (a .old .now) (length (a .block .now)) (whole w)) (room-told t) (a .block .now)
+    failed bare keeps-bare _ _ NoRoom (bring-room (a .old .now) (length (a .block .now)) (whole w)) (room-told t)
+    (a .block .now)
     (c .before .before .match2 .keys2) (c .refusal2 .ensures)
 
 put-brought-requires : tie.Need-put-brought-requires
@@ -59,7 +62,8 @@ put-brought-requires c κs =
     let a = start (words-test w) .args in
     let old = a .old .now in
     let long = whole-long old (whole w) in
-    let room = ltb-false (length (a .block .now)) (length (brought old)) (passed-false _ NoRoom (room-told t) (e .enum-told3 .given .1)) in
+    let room = ltb-false (length (a .block .now)) (length (brought old))
+    (passed-false _ NoRoom (room-told t) (e .enum-told3 .given .1)) in
     (long, omega (arith, room, length-brought old long))
 
 returns-3 : tie.Need-returns-3
@@ -70,7 +74,8 @@ returns-3 c =
     let w = passed-words t in
     let a = start (words-test w) .args in
     finished
-    (passed bare keeps-bare _ _ NoRoom (bring-room (a .old .now) (length (a .block .now)) (whole w)) (room-told t) (e .enum-told3 .given .1))
+    (passed bare keeps-bare _ _ NoRoom (bring-room (a .old .now) (length (a .block .now)) (whole w)) (room-told t)
+    (e .enum-told3 .given .1))
     (sym (length-brought (a .old .now) (whole-long (a .old .now) (whole w)))) (put .put-brought .ensures)
 
 pub bring-spec : {M : Type 1} → statement M

@@ -7,7 +7,8 @@ use Rattle.op_bring.proofs.brought_count.Statement.{statement}
 use Rattle.op_bring.proofs.brought_count.Tie as tie
 
 returns : tie.Need-returns
-returns c = let s = c .before .before in word-before (s .args .old .now) (s .args .p) (s .pre .0) (c .before .if1 .taken)
+returns c =
+    let s = c .before .before in word-before (s .args .old .now) (s .args .p) (s .pre .0) (c .before .if1 .taken)
 
 returns-2 : tie.Need-returns-2
 returns-2 c =

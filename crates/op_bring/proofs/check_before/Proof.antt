@@ -1,4 +1,5 @@
--- `op_bring::check_before` meets its contract: what the old rules refuse at once, and then what is left. Assumes nothing.
+-- `op_bring::check_before` meets its contract: what the old rules refuse at once, and then what is left. Assumes
+-- nothing.
 use mathlib.Core.Path.{refl}
 use native.Mathlib.Omega.{arith}
 use borrow.Author.Needs.{needs}
@@ -18,8 +19,9 @@ returns-2 c = let s = c .before .before .before in rw (torn-long (s .args .old .
 returns-3 : tie.Need-returns-3
 unfolding testOf
 returns-3 c =
-    let s = c .before .before .before .before .before in
-    rw (torn-inputs (s .args .old .now) (omega arith) (omega (arith, c .before .inputs-of .ensures, c .if3 .taken))) refl
+    let s : tie.Start = search in
+    rw (torn-inputs (s .args .old .now) (omega arith) (omega (arith, c .before .inputs-of .ensures, c .if3 .taken)))
+    refl
 
 pub check-before-spec : {M : Type 1} → statement M
 check-before-spec =

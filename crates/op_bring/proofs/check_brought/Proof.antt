@@ -18,18 +18,20 @@ use Rattle.op_bring.proofs.check_brought.Tie as tie
 slice-aggregate-check-words : tie.Need-slice-aggregate-check-words
 slice-aggregate-check-words c =
     let put = c .before .before .before in
-    let s = put .before .before .before .before in
+    let s : tie.Start = search in
     sym (length-take-le _ _ (omega (arith, put .put-brought .kept .1 .0, s .pre .0 .1)))
 
 returns : tie.Need-returns
 returns c =
-    let put = c .before .before .before .before in
-    let s = put .before .before .before .before in
+    let put : tie.After-put-brought = search in
+    let s : tie.Start = search in
     let old = s .args .old .now in
     let words : take (length old + 1) (put .put-brought .last .1 .0) ≡ brought old =
-    ap (take (length old + 1)) (put .put-brought .ensures) ∙ take-placed (brought old) _ (length old + 1) (length-brought old (s .pre .0 .0)) in
+    ap (take (length old + 1)) (put .put-brought .ensures)
+    ∙ take-placed (brought old) _ (length old + 1) (length-brought old (s .pre .0 .0)) in
     c .check-words .ensures
-    ∙ ap (λ (t : Bool). testOf t MalformedBlock) (ap isMalformed words ∙ sym (torn-brought old (s .pre .0 .0) (s .pre .1)))
+    ∙ ap (λ (t : Bool). testOf t MalformedBlock)
+    (ap isMalformed words ∙ sym (torn-brought old (s .pre .0 .0) (s .pre .1)))
 
 pub check-brought-spec : {M : Type 1} → statement M
 check-brought-spec =

@@ -1,4 +1,5 @@
--- `op_gather::gather` meets its contract: the words' condition, the rooms', and then both slices are filled. Assumes nothing.
+-- `op_gather::gather` meets its contract: the words' condition, the rooms', and then both slices are filled. Assumes
+-- nothing.
 use Prim.Native.Nat.{_≤_}
 use mathlib.Core.Path.{_≡_, refl}
 use mathlib.Core.Bool.{false}
@@ -18,7 +19,9 @@ use Rattle.op_gather.proofs.gather.Tie as tie
 
 -- the function's entry, and the tests
 abbrev start : tie.After-check-words → tie.Start
-start c = c .before .before .before .before
+start c =
+    let back = c .before .before .before in
+    back .before
 
 abbrev words-test : tie.After-enum-told → tie.After-check-words
 words-test c = c .before .before
@@ -33,7 +36,9 @@ abbrev entry : tie.After-check-rooms → tie.Start
 entry c = start (words-test (passed-words c))
 
 whole : (c : tie.After-check-rooms) → isMalformed (now (entry c .args .words)) ≡ false
-whole c = let e = passed-words c in passed-false _ MalformedBlock (words-test e .check-words .ensures) (e .enum-told .given .1)
+whole c =
+    let e = passed-words c in
+    passed-false _ MalformedBlock (words-test e .check-words .ensures) (e .enum-told .given .1)
 
 returns : tie.Need-returns
 unfolding gather gatherList
@@ -42,10 +47,12 @@ returns c =
     let a = start t .args in
     record {
       block =
-          failed bare keeps-bare _ _ MalformedBlock (gather-chain _ _ _ gatheredWords) (t .check-words .ensures) (a .gathered .now)
+          failed bare keeps-bare _ _ MalformedBlock (gather-chain _ _ _ gatheredWords) (t .check-words .ensures)
+          (a .gathered .now)
           (c .before .before .match .keys2) (c .refusal .ensures);
       list =
-          failed bare keeps-bare _ _ MalformedBlock (gather-chain _ _ _ gatheredOrder) (t .check-words .ensures) (a .order .now)
+          failed bare keeps-bare _ _ MalformedBlock (gather-chain _ _ _ gatheredOrder) (t .check-words .ensures)
+          (a .order .now)
           (c .before .before .match .keys2) (c .refusal .ensures) .leaves;
     }
 
@@ -56,10 +63,12 @@ returns-2 c =
     let a = entry t .args in
     record {
       block =
-          failed bare keeps-bare _ _ NoRoom (gather-room _ _ _ gatheredWords (whole t) (t .before .gates-of .ensures)) (t .check-rooms .ensures)
+          failed bare keeps-bare _ _ NoRoom (gather-room _ _ _ gatheredWords (whole t) (t .before .gates-of .ensures))
+          (t .check-rooms .ensures)
           (a .gathered .now) (c .before .before .match2 .keys2) (c .refusal2 .ensures);
       list =
-          failed bare keeps-bare _ _ NoRoom (gather-room _ _ _ gatheredOrder (whole t) (t .before .gates-of .ensures)) (t .check-rooms .ensures)
+          failed bare keeps-bare _ _ NoRoom (gather-room _ _ _ gatheredOrder (whole t) (t .before .gates-of .ensures))
+          (t .check-rooms .ensures)
           (a .order .now) (c .before .before .match2 .keys2) (c .refusal2 .ensures) .leaves;
     }
 
@@ -74,18 +83,20 @@ gather-block-requires c κs =
 returns-3 : tie.Need-returns-3
 unfolding gather gatherList
 returns-3 c =
-    let put = c .before .before .before .before in
+    let put : tie.After-gather-block = search in
     let e = put .before .before .before in
     let t = room-test e in
     record {
       block =
           finished
-          (passed bare keeps-bare _ _ NoRoom (gather-room _ _ _ gatheredWords (whole t) (t .before .gates-of .ensures)) (t .check-rooms .ensures)
+          (passed bare keeps-bare _ _ NoRoom (gather-room _ _ _ gatheredWords (whole t) (t .before .gates-of .ensures))
+          (t .check-rooms .ensures)
           (e .enum-told3 .given .1))
           refl (put .gather-block .ensures .0);
       list =
           finished
-          (passed bare keeps-bare _ _ NoRoom (gather-room _ _ _ gatheredOrder (whole t) (t .before .gates-of .ensures)) (t .check-rooms .ensures)
+          (passed bare keeps-bare _ _ NoRoom (gather-room _ _ _ gatheredOrder (whole t) (t .before .gates-of .ensures))
+          (t .check-rooms .ensures)
           (e .enum-told3 .given .1))
           refl (put .gather-block .ensures .1) .leaves;
     }

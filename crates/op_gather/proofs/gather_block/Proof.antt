@@ -7,13 +7,11 @@ use Rattle.op_gather.proofs.gather_block.Tie as tie
 
 write-gathered-requires : tie.Need-write-gathered-requires
 write-gathered-requires c κs =
-    let s = c .before .before .before .before .before .before .before .before in
+    let s : tie.Start = search in
     let p = whole-parts (now (s .args .words)) (s .pre .whole) in
     record { block = s .pre; numberRoom = p .fewGates; placeRoom = p .fewGates; tableRoom = p .fewGates }
 
 pub gather-block-spec : {M : Type 1} → statement M
 gather-block-spec =
     tie.close
-    (tie.spec
-    (λ c. search needs) (λ c. search needs) (λ c. search needs) write-gathered-requires (λ c. search needs)
-    (λ c. search needs) (λ c. search needs))
+    (tie.spec write-gathered-requires (λ c. search needs) (λ c. search needs) (λ c. search needs))

@@ -11,12 +11,15 @@ use Rattle.op_gather.proofs.scatter.Tie as tie
 returns : tie.Need-returns
 returns c =
     let t = c .before .before .before in
-    let s = t .before .before .before .before in
-    failed (inRoom _) (keeps-room _) _ _ MalformedBlock (scatter-chain _ _ _) (t .check-words .ensures) (s .args .original .now)
+    let s : tie.Start = search in
+    failed (inRoom _) (keeps-room _) _ _ MalformedBlock (scatter-chain _ _ _) (t .check-words .ensures)
+    (s .args .original .now)
     (c .before .before .match .keys2) (c .refusal .ensures)
 
 scatter-block-requires : tie.Need-scatter-block-requires
-scatter-block-requires c κs = let e = c .before in passed-false _ MalformedBlock (e .before .before .check-words .ensures) (e .enum-told .given .1)
+scatter-block-requires c κs =
+    let e = c .before in
+    passed-false _ MalformedBlock (e .before .before .check-words .ensures) (e .enum-told .given .1)
 
 pub scatter-spec : {M : Type 1} → statement M
 scatter-spec =

@@ -7,12 +7,10 @@ use Rattle.op_gather.proofs.scatter_block.Tie as tie
 
 scatter-with-requires : tie.Need-scatter-with-requires
 scatter-with-requires c κs =
-    let s = c .before .before .before .before .before .before in
+    let s : tie.Start = search in
     let p = whole-parts (now (s .args .words)) (s .pre) in
     record { whole = s .pre; placeRoom = p .fewGates; tableRoom = p .fewGates }
 
 pub scatter-block-spec : {M : Type 1} → statement M
 scatter-block-spec =
-    tie.close
-    (tie.spec
-    (λ c. search needs) (λ c. search needs) scatter-with-requires (λ c. search needs) (λ c. search needs))
+    tie.close (tie.spec scatter-with-requires (λ c. search needs) (λ c. search needs))

@@ -1,5 +1,5 @@
--- `op_groups::groups` meets its contract: the tests are the definition's conditions in its order, and then the groups are numbered.
--- Assumes nothing.
+-- `op_groups::groups` meets its contract: the tests are the definition's conditions in its order, and then the groups
+-- are numbered. Assumes nothing.
 use mathlib.Core.Path.{_≡_, _∙_}
 use denote.Ref.{now}
 use borrow.Author.Needs.{needs}
@@ -33,20 +33,23 @@ behind-words : (c : tie.After-enum-told) → let a = start (words-test c) .args 
     (done (groupNumbers (decode (now (a .words)))) (length (groups (decode (now (a .words))))) 0)
 behind-words c =
     let a = start (words-test c) .args in
-    passed (inRoom _) (keeps-room _) _ _ MalformedBlock (groups-chain _ _) (words-test c .check-words .ensures) (c .enum-told .given .1)
+    passed (inRoom _) (keeps-room _) _ _ MalformedBlock (groups-chain _ _) (words-test c .check-words .ensures)
+    (c .enum-told .given .1)
     ∙ groups-room (now (a .words)) _
 
 returns : tie.Need-returns
 returns c =
     let t = c .before .before .before in
-    failed (inRoom _) (keeps-room _) _ _ MalformedBlock (groups-chain _ _) (t .check-words .ensures) (now (start t .args .numbers))
+    failed (inRoom _) (keeps-room _) _ _ MalformedBlock (groups-chain _ _) (t .check-words .ensures)
+    (now (start t .args .numbers))
     (c .before .before .match .keys2) (c .refusal .ensures)
 
 returns-2 : tie.Need-returns-2
 returns-2 c =
     let t = c .before .before .before in
     let w = t .before .before in
-    failed bare keeps-bare _ _ NoRoom (behind-words w) (rw (← t .before .gates-of .ensures) (t .test-room .ensures)) (now (start (words-test w) .args .numbers))
+    failed bare keeps-bare _ _ NoRoom (behind-words w) (rw (← t .before .gates-of .ensures) (t .test-room .ensures))
+    (now (start (words-test w) .args .numbers))
     (c .before .before .match2 .keys2) (c .refusal2 .ensures)
 
 assign-requires : tie.Need-assign-requires
@@ -54,7 +57,8 @@ assign-requires c κs =
     let t = room-test (c .before) in
     let w = t .before .before in (
       passed-false _ MalformedBlock (words-test w .check-words .ensures) (w .enum-told .given .1),
-      ltb-false _ _ (passed-false _ NoRoom (rw (← t .before .gates-of .ensures) (t .test-room .ensures)) (c .before .enum-told3 .given .1)),
+      ltb-false _ _ (passed-false _ NoRoom (rw (← t .before .gates-of .ensures) (t .test-room .ensures))
+          (c .before .enum-told3 .given .1)),
     )
 
 returns-3 : tie.Need-returns-3
@@ -64,7 +68,8 @@ returns-3 c =
     let t = room-test p in
     let d = assigned .assign .ensures in
     finished
-    (passed bare keeps-bare _ _ NoRoom (behind-words (t .before .before)) (rw (← t .before .gates-of .ensures) (t .test-room .ensures))
+    (passed bare keeps-bare _ _ NoRoom (behind-words (t .before .before))
+    (rw (← t .before .gates-of .ensures) (t .test-room .ensures))
     (p .enum-told3 .given .1))
     (d .countIs) (d .numbersAre)
 

@@ -1,5 +1,5 @@
--- `op_line::line` meets its contract: the part between the two ends, which lie in order inside the text.
--- Assumes nothing.
+-- `op_line::line` meets its contract: the part between the two ends, which lie in order inside the text. Assumes
+-- nothing.
 use borrow.Author.Needs.{needs}
 use Rattle.op_line.proofs.line.Statement.{statement}
 use Rattle.op_line.proofs.line.Tie as tie

@@ -1,5 +1,4 @@
--- `op_line::line_length` meets its contract: the ends lie in order.
--- Assumes nothing.
+-- `op_line::line_length` meets its contract: the ends lie in order. Assumes nothing.
 use borrow.Author.Needs.{needs}
 use Rattle.op_line.proofs.line_length.Statement.{statement}
 use Rattle.op_line.proofs.line_length.Tie as tie
@@ -8,7 +7,9 @@ use Rattle.netlist.specs.Line.{lineLength}
 use Rattle.op_line.proofs.Ends.{ends-in-order}
 
 sub-result : tie.Need-sub-result
-sub-result c = let s = c .before .before in omega (arith, ends-in-order (s .args .text .now) (s .args .place), c .line-end .ensures, s .pre)
+sub-result c =
+    let s = c .before .before in
+    omega (arith, ends-in-order (s .args .text .now) (s .args .place), c .line-end .ensures, s .pre)
 
 returns : tie.Need-returns
 unfolding lineLength

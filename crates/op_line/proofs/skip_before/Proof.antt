@@ -1,4 +1,5 @@
--- `op_line::skip_before` meets its contract: a part without an LF does not change where the line starts. Assumes nothing.
+-- `op_line::skip_before` meets its contract: a part without an LF does not change where the line starts. Assumes
+-- nothing.
 use Rattle.op_line.proofs.skip_before.Statement.{statement}
 use Rattle.op_line.proofs.skip_before.Tie as tie
 use mathlib.Core.Path.{_≡_, refl, ap, _∙_}

@@ -1,4 +1,5 @@
--- `op_write::check_room` meets its contract: no text is longer than the longest, and a pass over any text tells the length. Assumes nothing.
+-- `op_write::check_room` meets its contract: no text is longer than the longest, and a pass over any text tells the
+-- length. Assumes nothing.
 use Prim.Native.Nat.{ℕ}
 use mathlib.Core.Path.{_≡_, ap, _∙_}
 use native.Mathlib.Omega.{arith}
@@ -21,8 +22,9 @@ put-block-requires c κs = let s = c .before .before .before in (few-inputs _ (s
 returns-2 : tie.Need-returns-2
 returns-2 c =
     let put = c .before .before in
-    let s = put .before .before .before .before in
-    let count : put .put-block .result ≡ length (blockText (s .args .words .now)) = let n = put .put-block .ensures .endIs in omega (arith, n) in
+    let s : tie.Start = search in
+    let count : put .put-block .result ≡ length (blockText (s .args .words .now)) =
+    let n = put .put-block .ensures .endIs in omega (arith, n) in
     c .test-room .ensures ∙ ap (λ (n : ℕ). testOf (ltb (s .args .room) n) NoRoom) count
 
 pub check-room-spec : {M : Type 1} → statement M

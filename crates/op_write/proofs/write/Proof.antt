@@ -34,7 +34,8 @@ whole c = passed-false _ MalformedBlock (words-test c .check-words .ensures) (c 
 returns : tie.Need-returns
 returns c =
     let t = c .before .before .before in
-    failed (inRoom _) (keeps-room _) _ _ MalformedBlock (write-start _ _) (t .check-words .ensures) (start t .args .text .now)
+    failed (inRoom _) (keeps-room _) _ _ MalformedBlock (write-start _ _) (t .check-words .ensures)
+    (start t .args .text .now)
     (c .before .before .match .keys2) (c .refusal .ensures)
 
 check-room-requires : tie.Need-check-room-requires
@@ -45,7 +46,8 @@ returns-2 c =
     let t = c .before .before .before in
     let w = whole-block t in
     let a = start (words-test w) .args in
-    failed bare keeps-bare _ _ NoRoom (write-room (a .words .now) (length (a .text .now)) (whole w)) (t .check-room .ensures) (a .text .now)
+    failed bare keeps-bare _ _ NoRoom (write-room (a .words .now) (length (a .text .now)) (whole w))
+    (t .check-room .ensures) (a .text .now)
     (c .before .before .match2 .keys2) (c .refusal2 .ensures)
 
 put-block-requires : tie.Need-put-block-requires
@@ -63,9 +65,11 @@ returns-3 c =
     let a = start (words-test w) .args in
     let there = passed-false _ NoRoom (t .check-room .ensures) (e .enum-told3 .given .1) in
     let fits = ltb-false (length (a .text .now)) (length (blockText (a .words .now))) there in
-    let count : put .put-block .result ≡ length (blockText (a .words .now)) = let n = put .put-block .ensures .endIs in omega (arith, n) in
+    let count : put .put-block .result ≡ length (blockText (a .words .now)) = let n = put .put-block .ensures .endIs in
+    omega (arith, n) in
     finished
-    (passed bare keeps-bare _ _ NoRoom (write-room (a .words .now) (length (a .text .now)) (whole w)) (t .check-room .ensures) (e .enum-told3 .given .1))
+    (passed bare keeps-bare _ _ NoRoom (write-room (a .words .now) (length (a .text .now)) (whole w))
+    (t .check-room .ensures) (e .enum-told3 .given .1))
     count (put .put-block .ensures .textIs ∙ sets-placed (blockText (a .words .now)) (a .text .now) fits)
 
 pub write-spec : {M : Type 1} → statement M

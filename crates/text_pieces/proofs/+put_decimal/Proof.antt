@@ -1,4 +1,5 @@
--- `text_pieces::put_decimal` meets its contract: the digits of a tenth, and one more. The number itself falls. Assumes nothing.
+-- `text_pieces::put_decimal` meets its contract: the digits of a tenth, and one more. The number itself falls. Assumes
+-- nothing.
 use Prim.Native.Nat.{ℕ, _<_}
 use native.Mathlib.Omega.{arith}
 use borrow.Author.Needs.{needs}
@@ -66,7 +67,8 @@ put-decimal-returns : (t : ℕ) → put-decimal-lts.Need-returns (
 ) (put-decimal-at t) put-decimal.Post
 put-decimal-returns t c =
     let called = c .before .before in
-    rw (decimal-one (called .before .before .before .before .args .v) (called .before .before .if1 .taken)) (called .put .ensures)
+    let small = called .before .before in
+    rw (decimal-one (small .before .before .args .v) (small .if1 .taken)) (called .put .ensures)
 
 put-decimal-put-decimal-requires : (t : ℕ) → put-decimal-lts.Need-put-decimal-requires (
   put-reads.Asked,
@@ -100,8 +102,10 @@ put-decimal-put-requires-2 : (t : ℕ) → put-decimal-lts.Need-put-requires-2 (
 ) (put-decimal-at t) put-decimal.Post
 put-decimal-put-requires-2 t c κs =
     let front = c .before .before .before in
-    let start = front .before .before .before .before in
-    short-rest _ (rw (decimal-more (start .args .v) (front .before .before .if1 .left)) at (start .pre .1)) (front .put-decimal .ensures)
+    let large = front .before .before in
+    let start = large .before .before in
+    short-rest _ (rw (decimal-more (start .args .v) (large .if1 .left)) at (start .pre .1))
+    (front .put-decimal .ensures)
 
 put-decimal-same-length-2 : (t : ℕ) → put-decimal-lts.Need-same-length-2 (
   put-reads.Asked,
@@ -119,8 +123,10 @@ put-decimal-returns-2 : (t : ℕ) → put-decimal-lts.Need-returns-2 (
 ) (put-decimal-at t) put-decimal.Post
 put-decimal-returns-2 t c =
     let last = c .before .before in
-    let front = last .before .before .before .before in
-    rw (decimal-more (front .before .before .before .before .args .v) (front .before .before .if1 .left))
+    let kept = last .before .before in
+    let front = kept .before .before in
+    let large = front .before .before in
+    rw (decimal-more (large .before .before .args .v) (large .if1 .left))
     (appended-then (front .put-decimal .ensures) (last .put2 .ensures))
 
 pub +put-decimal-spec : {M : Type 1} → statement M

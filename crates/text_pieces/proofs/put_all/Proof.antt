@@ -26,19 +26,25 @@ loop-holds c =
 put-requires : tie.Need-put-requires Inv-loop μ-loop
 put-requires c κs =
     let l = c .before .before .before in
-    short-byte (start l .args .bytes .now) (l .loop .i) _ (c .before .before .loop-test .taken) (start l .pre) (l .loop .inv .1)
+    short-byte (start l .args .bytes .now) (l .loop .i) _ (c .before .before .loop-test .taken) (start l .pre)
+    (l .loop .inv .1)
 
 loop-again : tie.Need-loop-again Inv-loop μ-loop
 loop-again c =
-    let t = c .before .before .before .before .before in
-    let l = t .before in
-    (omega arith, bytes-turn (start l .args .bytes .now) (l .loop .i) (t .loop-test .taken) (l .loop .inv .1) (c .before .before .put .ensures))
+    let t : tie.In-loop Inv-loop μ-loop = search in
+    let l = t .before in (
+      omega arith,
+      bytes-turn (start l .args .bytes .now) (l .loop .i) (t .loop-test .taken) (l .loop .inv .1)
+          (c .before .before .put .ensures),
+    )
 
 same-length : tie.Need-same-length Inv-loop μ-loop
 same-length c = appended-length (c .before .loop .inv .1)
 
 returns : tie.Need-returns Inv-loop μ-loop
-returns c = rw (take-all (c .before .loop .i) (c .before .before .before .before .args .bytes .now) (omega arith)) at (c .before .loop .inv .1)
+returns c =
+    let start : tie.Start Inv-loop μ-loop = search in
+    rw (take-all (c .before .loop .i) (start .args .bytes .now) (omega arith)) at (c .before .loop .inv .1)
 
 pub put-all-spec : {M : Type 1} → statement M
 put-all-spec =

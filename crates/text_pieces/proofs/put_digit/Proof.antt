@@ -6,7 +6,9 @@ use Rattle.text_pieces.proofs.put_digit.Statement.{statement}
 use Rattle.text_pieces.proofs.put_digit.Tie as tie
 
 returns : tie.Need-returns
-returns c = let a = c .before .before .args in rw (digit-none (a .v) (a .unit) (c .if1 .taken)) (appended-none (a .text .now) (a .at))
+returns c =
+    let a = c .before .before .args in
+    rw (digit-none (a .v) (a .unit) (c .if1 .taken)) (appended-none (a .text .now) (a .at))
 
 put-requires : tie.Need-put-requires
 put-requires c κs =
@@ -22,4 +24,5 @@ returns-2 c =
 
 pub put-digit-spec : {M : Type 1} → statement M
 put-digit-spec =
-    tie.close (tie.spec returns (λ c. search needs) (λ c. search needs) (λ c. search needs) put-requires (λ c. search needs) returns-2)
+    tie.close (tie.spec returns (λ c. search needs) (λ c. search needs) (λ c. search needs) put-requires
+    (λ c. search needs) returns-2)

@@ -10,17 +10,22 @@ use Rattle.text_pieces.proofs.put_gate_name.Tie as tie
 
 put-requires : tie.Need-put-requires
 unfolding gateName
-put-requires c κs = short-first {xs = ascii "_"} (decimal (c .before .before .args .j)) (c .before .before .pre)
+put-requires c κs =
+    let start : tie.Start = search in
+    short-first {xs = ascii "_"} (decimal (start .args .j)) (start .pre)
 
 put-number-requires : tie.Need-put-number-requires
 unfolding gateName
 put-number-requires c κs =
+    let start : tie.Start = search in
     let opened = c .before .before .before in
-    short-smaller (omega arith) (short-rest (decimal (opened .before .before .before .args .j)) (opened .before .before .before .pre) (opened .put .ensures))
+    short-smaller (omega arith) (short-rest (decimal (start .args .j)) (start .pre) (opened .put .ensures))
 
 returns : tie.Need-returns
 unfolding gateName
-returns c = appended-then (c .before .before .before .before .before .before .put .ensures) (c .before .before .put-number .ensures)
+returns c =
+    let after-put : tie.After-put = search in
+    appended-then (after-put .put .ensures) (c .before .before .put-number .ensures)
 
 pub put-gate-name-spec : {M : Type 1} → statement M
 put-gate-name-spec = tie.close (tie.spec put-requires put-number-requires (λ c. search needs) returns)

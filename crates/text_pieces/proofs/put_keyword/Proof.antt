@@ -1,4 +1,5 @@
--- `text_pieces::put_keyword` meets its contract: the keyword of the kind's signature, without the zeros at its end. Assumes nothing.
+-- `text_pieces::put_keyword` meets its contract: the keyword of the kind's signature, without the zeros at its end.
+-- Assumes nothing.
 use borrow.Author.Needs.{needs}
 use Rattle.netlist.specs.Kinds.{keyword}
 use Rattle.text_pieces.proofs.put_keyword.Statement.{statement}
@@ -6,13 +7,16 @@ use Rattle.text_pieces.proofs.put_keyword.Tie as tie
 
 put-trimmed-requires : tie.Need-put-trimmed-requires
 unfolding keyword
-put-trimmed-requires c κs = let read = c .before .before .before in rw (read .signature-of .ensures) (read .before .before .pre)
+put-trimmed-requires c κs =
+    let after-signature-of : tie.After-signature-of = search in
+    let read = after-signature-of in rw (read .signature-of .ensures) (read .before .before .pre)
 
 returns : tie.Need-returns
 unfolding keyword
 returns c =
+    let after-signature-of : tie.After-signature-of = search in
     let called = c .before .before in
-    rw (← called .before .before .before .before .signature-of .ensures) (called .put-trimmed .ensures)
+    rw (← after-signature-of .signature-of .ensures) (called .put-trimmed .ensures)
 
 pub put-keyword-spec : {M : Type 1} → statement M
 put-keyword-spec =

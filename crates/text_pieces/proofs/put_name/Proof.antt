@@ -6,11 +6,15 @@ use Rattle.text_pieces.proofs.put_name.Tie as tie
 
 put-trimmed-requires : tie.Need-put-trimmed-requires
 unfolding nameAt
-put-trimmed-requires c κs = rw (c .before .before .name-bytes .ensures) (c .before .before .before .before .before .pre .1)
+put-trimmed-requires c κs =
+    let start : tie.Start = search in
+    rw (c .before .before .name-bytes .ensures) (start .pre .1)
 
 returns : tie.Need-returns
 unfolding nameAt
-returns c = rw (c .before .before .before .before .before .name-bytes .ensures) at (c .before .before .put-trimmed .ensures)
+returns c =
+    let after-name-bytes : tie.After-name-bytes = search in
+    rw (after-name-bytes .name-bytes .ensures) at (c .before .before .put-trimmed .ensures)
 
 pub put-name-spec : {M : Type 1} → statement M
 put-name-spec =

@@ -1,5 +1,5 @@
--- `text_pieces::put_number` meets its contract: below 10,000 the digits of thousands, hundreds and tens, as far as there are any, and the last
--- (`decimal-four`). Assumes nothing.
+-- `text_pieces::put_number` meets its contract: below 10,000 the digits of thousands, hundreds and tens, as far as
+-- there are any, and the last (`decimal-four`). Assumes nothing.
 use Prim.Native.Nat.{_+_, _%_, _<_}
 use mathlib.Core.List.{[], _∷_, _++_}
 use native.Mathlib.Omega.{arith}
@@ -12,25 +12,34 @@ use Rattle.text_pieces.proofs.put_number.Tie as tie
 
 -- the entry, and the digits one after the other
 abbrev start : tie.After-put-digit → tie.Start
-start c = c .before .before .before .before
+start c =
+    let after-slice-known = c .before .before .before in
+    after-slice-known .before
 
 abbrev thousands : tie.After-put-digit2 → tie.After-put-digit
-thousands c = c .before .before .before .before
+thousands c =
+    let after-text2 = c .before .before .before in
+    after-text2 .before
 
 abbrev hundreds : tie.After-put-digit3 → tie.After-put-digit2
-hundreds c = c .before .before .before .before
+hundreds c =
+    let after-text3 = c .before .before .before in
+    after-text3 .before
 
 -- room for all digits, for those behind the thousands, and for those behind the hundreds
 all : (s : tie.Start) → s .args .v < 10000 →
-    Short (digitAt (s .args .v) 1000 ++ (digitAt (s .args .v) 100 ++ (digitAt (s .args .v) 10 ++ ((48 + s .args .v % 10) ∷ [])))) (s .args .at)
+    Short (digitAt (s .args .v) 1000 ++ (digitAt (s .args .v) 100
+    ++ (digitAt (s .args .v) 10 ++ ((48 + s .args .v % 10) ∷ [])))) (s .args .at)
 all s l = rw (decimal-four (s .args .v) l) at (s .pre)
 
 behind : (c : tie.After-put-digit) → start c .args .v < 10000 →
-    Short (digitAt (start c .args .v) 100 ++ (digitAt (start c .args .v) 10 ++ ((48 + start c .args .v % 10) ∷ []))) (c .put-digit .result)
+    Short (digitAt (start c .args .v) 100 ++ (digitAt (start c .args .v) 10 ++ ((48 + start c .args .v % 10) ∷ [])))
+    (c .put-digit .result)
 behind c l = short-rest _ (all (start c) l) (c .put-digit .ensures)
 
 last-two : (c : tie.After-put-digit2) → start (thousands c) .args .v < 10000 →
-    Short (digitAt (start (thousands c) .args .v) 10 ++ ((48 + start (thousands c) .args .v % 10) ∷ [])) (c .put-digit2 .result)
+    Short (digitAt (start (thousands c) .args .v) 10 ++ ((48 + start (thousands c) .args .v % 10) ∷ []))
+    (c .put-digit2 .result)
 last-two c l = short-rest _ (behind (thousands c) l) (c .put-digit2 .ensures)
 
 put-digit-requires : tie.Need-put-digit-requires
@@ -50,7 +59,7 @@ put-requires c κs =
 returns-2 : tie.Need-returns-2
 returns-2 c =
     let last = c .before .before in
-    let third = last .before .before .before .before in
+    let third : tie.After-put-digit3 = search in
     let second = hundreds third in
     let first = thousands second in
     rw (decimal-four (start first .args .v) (omega arith))

@@ -8,14 +8,20 @@ use Rattle.text_pieces.proofs.put_operand.Statement.{statement}
 use Rattle.text_pieces.proofs.put_operand.Tie as tie
 
 mul-put-name : tie.Need-mul-put-name
-mul-put-name c = omega (arith, c .before .before .before .before .shared-slice-known .given (c .before .before .before .before .before .before .args .from))
+mul-put-name c =
+    let start : tie.Start = search in
+    let after-shared-slice-known : tie.After-shared-slice-known = search in
+    omega (arith, after-shared-slice-known .shared-slice-known .given (start .args .from))
 
 add-put-name : tie.Need-add-put-name
-add-put-name c = omega (arith, c .before .before .before .before .shared-slice-known .given (c .before .before .before .before .before .before .args .from))
+add-put-name c =
+    let start : tie.Start = search in
+    let after-shared-slice-known : tie.After-shared-slice-known = search in
+    omega (arith, after-shared-slice-known .shared-slice-known .given (start .args .from))
 
 put-name-requires : tie.Need-put-name-requires
 put-name-requires c κs =
-    let at-shared-slice-known = c .before .before .before .before in
+    let at-shared-slice-known : tie.After-shared-slice-known = search in
     let stage = at-shared-slice-known .before .before in
     let start = stage in
     let a = start .args in
@@ -27,8 +33,8 @@ put-name-requires c κs =
 
 returns : tie.Need-returns
 returns c =
-    let at-word-at = c .before .before .before .before .before in
-    let start = at-word-at .before .before .before .before in
+    let at-word-at : tie.After-word-at = search in
+    let start : tie.Start = search in
     let a = start .args in
     let w = at-word-at .word-at in
     let l : w .result < getD (a .words .now) 0 0 = omega arith in
@@ -37,21 +43,23 @@ returns c =
 put-requires : tie.Need-put-requires
 put-requires c κs =
     let at-word-at = c .before .before .before in
-    let start = at-word-at .before .before .before .before in
+    let start : tie.Start = search in
     let a = start .args in
     let w = at-word-at .word-at in
     let l : getD (a .words .now) 0 0 ≤ w .result = omega arith in
-    let short = rw (operand-zero (a .words .now) (a .from) (w .result) (w .ensures) l (c .before .match .keys1)) at (start .pre) in
+    let short = rw (operand-zero (a .words .now) (a .from) (w .result) (w .ensures) l
+    (c .before .match .keys1)) at (start .pre) in
     record { small = short .small }
 
 put-requires-2 : tie.Need-put-requires-2
 put-requires-2 c κs =
     let at-word-at = c .before .before .before in
-    let start = at-word-at .before .before .before .before in
+    let start : tie.Start = search in
     let a = start .args in
     let w = at-word-at .word-at in
     let l : getD (a .words .now) 0 0 ≤ w .result = omega arith in
-    let short = rw (operand-one (a .words .now) (a .from) (w .result) (w .ensures) l (c .before .match .keys2)) at (start .pre) in
+    let short = rw (operand-one (a .words .now) (a .from) (w .result) (w .ensures) l
+    (c .before .match .keys2)) at (start .pre) in
     record { small = short .small }
 
 put-gate-name-requires : tie.Need-put-gate-name-requires
@@ -64,31 +72,34 @@ put-gate-name-requires c κs =
     let w = at-word-at .word-at in
     let others = c .before .match .rest in
     let l : getD (a .words .now) 0 0 ≤ w .result = omega arith in
-    rw (at-inputs-of .inputs-of .ensures) (rw (operand-gate (a .words .now) (a .from) (w .result) (w .ensures) l (others .0 .1) (others .1)) at (start .pre))
+    rw (at-inputs-of .inputs-of .ensures)
+    (rw (operand-gate (a .words .now) (a .from) (w .result) (w .ensures) l (others .0 .1) (others .1)) at (start .pre))
 
 returns-2 : tie.Need-returns-2
 returns-2 c =
-    let at-match = c .before .before .before .before in
+    let at-match : tie.At-match-keys1 = search in
     let at-word-at = at-match .before .before in
-    let start = at-word-at .before .before .before .before in
+    let start : tie.Start = search in
     let a = start .args in
     let w = at-word-at .word-at in
     let l : getD (a .words .now) 0 0 ≤ w .result = omega arith in
-    rw (operand-zero (a .words .now) (a .from) (w .result) (w .ensures) l (at-match .match .keys1)) (c .before .before .put .ensures)
+    rw (operand-zero (a .words .now) (a .from) (w .result) (w .ensures) l (at-match .match .keys1))
+    (c .before .before .put .ensures)
 
 returns-3 : tie.Need-returns-3
 returns-3 c =
-    let at-match = c .before .before .before .before in
+    let at-match : tie.At-match-keys2 = search in
     let at-word-at = at-match .before .before in
-    let start = at-word-at .before .before .before .before in
+    let start : tie.Start = search in
     let a = start .args in
     let w = at-word-at .word-at in
     let l : getD (a .words .now) 0 0 ≤ w .result = omega arith in
-    rw (operand-one (a .words .now) (a .from) (w .result) (w .ensures) l (at-match .match .keys2)) (c .before .before .put2 .ensures)
+    rw (operand-one (a .words .now) (a .from) (w .result) (w .ensures) l (at-match .match .keys2))
+    (c .before .before .put2 .ensures)
 
 returns-4 : tie.Need-returns-4
 returns-4 c =
-    let at-match = c .before .before .before .before in
+    let at-match : tie.At-match-rest = search in
     let at-word-at = at-match .before .before in
     let at-inputs-of = at-word-at .before in
     let start = at-inputs-of .before .before .before in
@@ -96,7 +107,10 @@ returns-4 c =
     let w = at-word-at .word-at in
     let others = at-match .match .rest in
     let l : getD (a .words .now) 0 0 ≤ w .result = omega arith in
-    rw (operand-gate (a .words .now) (a .from) (w .result) (w .ensures) l (others .0 .1) (others .1), ← at-inputs-of .inputs-of .ensures)
+    rw (
+      operand-gate (a .words .now) (a .from) (w .result) (w .ensures) l (others .0 .1) (others .1),
+      ← at-inputs-of .inputs-of .ensures,
+    )
     (c .before .before .put-gate-name .ensures)
 
 pub put-operand-spec : {M : Type 1} → statement M

@@ -1,5 +1,6 @@
 -- `text_pieces::put_pair` meets its contract: its five pieces, one after the other. Assumes nothing.
 use mathlib.Core.List.{[], _∷_}
+use native.Mathlib.Omega.{arith}
 use borrow.Author.Needs.{needs}
 use Rattle.prelude.specs.Lists.{ascii}
 use Rattle.text_pieces.specs.Pieces.{pairPiece}
@@ -9,58 +10,46 @@ use Rattle.text_pieces.proofs.put_pair.Tie as tie
 
 put-all-requires : tie.Need-put-all-requires
 unfolding pairPiece
-put-all-requires c κs = short-first {xs = ascii " ("} _ (c .before .before .before .before .pre .1)
+put-all-requires c κs = search short-first
 
 put-name-requires : tie.Need-put-name-requires
 unfolding pairPiece
-put-name-requires c κs =
-    let opened = c .before .before .before in
-    let start = opened .before .before .before .before .before in
-    (start .pre .0, short-first _ (short-rest _ (start .pre .1) (opened .put-all .ensures)))
+put-name-requires c κs = (omega arith, search (short-first, short-rest))
 
 put-requires : tie.Need-put-requires
 unfolding pairPiece
 put-requires c κs =
+    let start : tie.Start = search in
     let named = c .before .before .before in
-    let opened = named .before .before .before .before in
-    let a = short-rest _ (opened .before .before .before .before .before .pre .1) (opened .put-all .ensures) in
+    let opened : tie.After-put-all = search in
+    let a = short-rest _ (start .pre .1) (opened .put-all .ensures) in
     short-first {xs = ascii " "} _ (short-rest _ a (named .put-name .ensures))
 
 put-requires-2 : tie.Need-put-requires-2
 unfolding pairPiece
 put-requires-2 c κs =
     let spaced = c .before .before .before in
-    let named = spaced .before .before .before .before in
-    let opened = named .before .before .before .before in
-    let start = opened .before .before .before .before .before in
+    let named : tie.After-put-name = search in
+    let opened : tie.After-put-all = search in
+    let start : tie.Start = search in
     let a = short-rest _ (start .pre .1) (opened .put-all .ensures) in
     let b = short-rest _ a (named .put-name .ensures) in
     short-first {xs = start .args .byte ∷ []} _ (short-rest {xs = ascii " "} _ b (spaced .put .ensures))
 
 put-requires-3 : tie.Need-put-requires-3
 unfolding pairPiece
-put-requires-3 c κs =
-    let filled = c .before .before .before in
-    let spaced = filled .before .before .before .before in
-    let named = spaced .before .before .before .before in
-    let opened = named .before .before .before .before in
-    let start = opened .before .before .before .before .before in
-    let a = short-rest _ (start .pre .1) (opened .put-all .ensures) in
-    let b = short-rest _ a (named .put-name .ensures) in
-    let d = short-rest {xs = ascii " "} _ b (spaced .put .ensures) in
-    short-rest {xs = start .args .byte ∷ []} _ d (filled .put2 .ensures)
+put-requires-3 c κs = search short-rest
 
 returns : tie.Need-returns
 unfolding pairPiece
 returns c =
-    let closed = c .before .before in
-    let filled = closed .before .before .before .before in
-    let spaced = filled .before .before .before .before in
-    let named = spaced .before .before .before .before in
-    let opened = named .before .before .before .before in
+    let filled : tie.After-put2 = search in
+    let spaced : tie.After-put = search in
+    let named : tie.After-put-name = search in
+    let opened : tie.After-put-all = search in
     appended-then (opened .put-all .ensures)
     (appended-then (named .put-name .ensures)
-    (appended-then (spaced .put .ensures) (appended-then (filled .put2 .ensures) (closed .put3 .ensures))))
+    (appended-then (spaced .put .ensures) (appended-then (filled .put2 .ensures) (c .before .before .put3 .ensures))))
 
 pub put-pair-spec : {M : Type 1} → statement M
 put-pair-spec =

@@ -1,5 +1,5 @@
--- `text_pieces::put_trimmed` meets its contract: the bytes before the first zero stay, and what is behind it is trimmed from the end.
--- Assumes nothing.
+-- `text_pieces::put_trimmed` meets its contract: the bytes before the first zero stay, and what is behind it is trimmed
+-- from the end. Assumes nothing.
 use mathlib.Core.Path.{_≡_, sym, _∙_}
 use Prim.Native.Nat.{_-_}
 use native.Mathlib.Omega.{arith}
@@ -7,7 +7,8 @@ use borrow.Author.Needs.{needs}
 use lib.ListN.{length}
 use Rattle.prelude.proofs.Elements.{rest-is-drop}
 use Rattle.text_pieces.proofs.Appending.{appended-length}
-use Rattle.text_pieces.proofs.TrimLaws.{TrimmedPut, trim-none, trim-short, trim-more, rest-short, rest-put, trim-every}
+use Rattle.text_pieces.proofs.TrimLaws.{TrimmedPut, trim-none, trim-short, trim-more, rest-short, rest-put}
+use Rattle.text_pieces.proofs.TrimLaws.{trim-every}
 use Rattle.text_pieces.proofs.put_trimmed.Statement.{statement}
 use Rattle.text_pieces.proofs.put_trimmed.Tie as tie
 
@@ -26,20 +27,21 @@ loop-holds c = let a = c .before .before .args in trim-none (a .bytes .now) (a .
 
 put-without-zeros-requires : tie.Need-put-without-zeros-requires Inv-loop μ-loop
 put-without-zeros-requires c κs =
-    let l = c .before .before .before .before .before in
+    let l : tie.At-loop Inv-loop μ-loop = search in
     rw (rest-is-drop (start l .args .bytes .now) (l .loop .i)) (rest-short (l .loop .inv) (start l .pre))
 
 same-length : tie.Need-same-length Inv-loop μ-loop
 same-length c =
     let put = c .before .before in
-    let l = put .before .before .before .before .before .before in
+    let l : tie.At-loop Inv-loop μ-loop = search in
     appended-length (put .put-without-zeros .ensures) ∙ appended-length (l .loop .inv .there)
 
 returns : tie.Need-returns Inv-loop μ-loop
 returns c =
     let put = c .before .before in
-    let l = put .before .before .before .before .before .before in
-    rest-put (l .loop .inv) (rw (rest-is-drop (start l .args .bytes .now) (l .loop .i)) at (put .put-without-zeros .ensures))
+    let l : tie.At-loop Inv-loop μ-loop = search in
+    rest-put (l .loop .inv) (rw (rest-is-drop (start l .args .bytes .now)
+    (l .loop .i)) at (put .put-without-zeros .ensures))
 
 put-requires : tie.Need-put-requires Inv-loop μ-loop
 put-requires c κs =

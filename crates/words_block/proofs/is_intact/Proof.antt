@@ -1,4 +1,5 @@
--- `words_block::is_intact` meets its contract: the header's rule, and once it holds the rules of the parts. Assumes nothing.
+-- `words_block::is_intact` meets its contract: the header's rule, and once it holds the rules of the parts. Assumes
+-- nothing.
 use mathlib.Core.Path.{sym, _∙_}
 use lib.ListN.{getD}
 use borrow.Author.Needs.{needs}
@@ -14,18 +15,30 @@ returns c = rw (sym (c .before .fits2 .ensures) ∙ not-true _ (c .if1 .taken))
 
 parts-fit-requires : tie.Need-parts-fit-requires
 parts-fit-requires c κs =
-    let ws = c .before .before .before .before .before .before .before .args .words .now in
-    let h = sym (c .before .before .before .before .before .fits2 .ensures) ∙ not-false _ (c .before .before .before .before .if1 .left) in
+    let start : tie.Start = search in
+    let after-fits2 : tie.After-fits2 = search in
+    let else1 : tie.Else1 = search in
+    let after-inputs-of : tie.After-inputs-of = search in
+    let ws = start .args .words .now in
+    let h = sym (after-fits2 .fits2 .ensures) ∙ not-false _ (else1 .if1 .left) in
     let l : Limits (getD ws 0 0) (getD ws 1 0) (getD ws 2 0) (getD ws 3 0) = header-limits ws h in
-    rw (c .before .before .before .inputs-of .ensures, c .before .before .gates-of .ensures, c .before .outputs-of .ensures, c .nevers-of .ensures)
+    rw (
+      after-inputs-of .inputs-of .ensures,
+      c .before .before .gates-of .ensures,
+      c .before .outputs-of .ensures,
+      c .nevers-of .ensures,
+    )
     (l .inputs, (l .nevers, (l .gates, (l .outputs, header-length ws h))))
 
 returns-2 : tie.Need-returns-2
 unfolding intact
 returns-2 c =
+    let after-fits2 : tie.After-fits2 = search in
+    let else1 : tie.Else1 = search in
+    let after-inputs-of : tie.After-inputs-of = search in
     rw (
-      sym (c .before .before .before .before .before .before .fits2 .ensures) ∙ not-false _ (c .before .before .before .before .before .if1 .left),
-      ← c .before .before .before .before .inputs-of .ensures,
+      sym (after-fits2 .fits2 .ensures) ∙ not-false _ (else1 .if1 .left),
+      ← after-inputs-of .inputs-of .ensures,
       ← c .before .before .before .gates-of .ensures,
       ← c .before .before .outputs-of .ensures,
       ← c .before .nevers-of .ensures,

@@ -12,12 +12,15 @@ returns c = rw (sym (c .before .front-fits .ensures) ∙ not-true _ (c .if1 .tak
 
 fit-requires : tie.Need-fit-requires
 unfolding neversAt gatesAt outputsAt
-fit-requires c κs = omega (arith, c .gates-behind .ensures, c .before .before .before .before .before .pre)
+fit-requires c κs =
+    let start : tie.Start = search in
+    omega (arith, c .gates-behind .ensures, start .pre)
 
 returns-2 : tie.Need-returns-2
 returns-2 c =
+    let after-front-fits : tie.After-front-fits = search in
     rw (
-      sym (c .before .before .before .before .front-fits .ensures) ∙ not-false _ (c .before .before .before .if1 .left),
+      sym (after-front-fits .front-fits .ensures) ∙ not-false _ (c .before .before .before .if1 .left),
       ← c .before .before .gates-behind .ensures,
       sym (c .before .fit .ensures) ∙ not-true _ (c .if2 .taken),
     )
@@ -25,29 +28,38 @@ returns-2 c =
 fit-requires-2 : tie.Need-fit-requires-2
 unfolding neversAt gatesAt outputsAt
 fit-requires-2 c κs =
+    let after-outputs-behind : tie.After-outputs-behind = search in
+    let start : tie.Start = search in
     omega (
       arith,
-      c .before .before .before .before .before .outputs-behind .ensures,
-      c .before .before .before .before .before .before .before .pre,
+      after-outputs-behind .outputs-behind .ensures,
+      start .pre,
     )
 
 returns-3 : tie.Need-returns-3
 returns-3 c =
+    let after-front-fits : tie.After-front-fits = search in
+    let else1 : tie.Else1 = search in
+    let after-gates-behind : tie.After-gates-behind = search in
+    let after-fit : tie.After-fit = search in
+    let after-outputs-behind : tie.After-outputs-behind = search in
     rw (
-      sym (c .before .before .before .before .before .before .front-fits .ensures) ∙ not-false _ (c .before .before .before .before .before .if1 .left),
-      ← c .before .before .before .before .gates-behind .ensures,
-      sym (c .before .before .before .fit .ensures) ∙ not-false _ (c .before .before .if2 .left),
-      ← c .before .before .before .before .before .before .before .outputs-behind .ensures,
+      sym (after-front-fits .front-fits .ensures) ∙ not-false _ (else1 .if1 .left),
+      ← after-gates-behind .gates-behind .ensures,
+      sym (after-fit .fit .ensures) ∙ not-false _ (c .before .before .if2 .left),
+      ← after-outputs-behind .outputs-behind .ensures,
       sym (c .before .fit2 .ensures) ∙ not-true _ (c .if3 .taken),
     )
 
 fit-requires-3 : tie.Need-fit-requires-3
 unfolding neversAt gatesAt outputsAt
 fit-requires-3 c κs =
+    let after-outputs-behind : tie.After-outputs-behind = search in
+    let start : tie.Start = search in
     omega (
       arith,
-      c .before .before .before .before .before .before .before .outputs-behind .ensures,
-      c .before .before .before .before .before .before .before .before .before .pre,
+      after-outputs-behind .outputs-behind .ensures,
+      start .pre,
     )
 
 returns-4 : tie.Need-returns-4

@@ -9,8 +9,8 @@ use Rattle.bench_session.proofs.netlist_part.end_netlist.Tie as tie
 
 returns : tie.Need-returns
 returns c =
-    let o = c .before .before .before .before in
-    let start = o .before .before .before .before .before .before .before .before in
+    let o : tie.After-open = search in
+    let start : tie.Start = search in
     rw (← opened-ends (readText (take (start .args .held) (start .args .text .now)))) (o .«open» .ensures [] .output)
 
 pub end-netlist-spec : {M : Type 1} → statement M

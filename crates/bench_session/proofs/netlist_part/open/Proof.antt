@@ -1,4 +1,5 @@
--- `bench_session::netlist_part::open` meets its contract: what Read tells of the netlist is the run's turn at its end, and a block is prepared. Assumes nothing.
+-- `bench_session::netlist_part::open` meets its contract: what Read tells of the netlist is the run's turn at its end,
+-- and a block is prepared. Assumes nothing.
 use mathlib.Core.Path.{_≡_, sym}
 use mathlib.Core.Bool.{false}
 use Prim.Native.Nat.{_≤_}
@@ -11,17 +12,21 @@ use Rattle.bench_session.proofs.netlist_part.open.Statement.{statement}
 use Rattle.bench_session.proofs.netlist_part.open.Tie as tie
 
 -- the block that was read
-legal : (f : tie.After-count) → let words = f .before .before .before .before .read .last .1 .0 in
+legal : (f : tie.After-count) → let kept = f .before .before in
+    let words = kept .before .before .read .last .1 .0 in
     (f .count .given .0 .0 ≤ length words) × (isMalformed (take (f .count .given .0 .0) words) ≡ false)
 legal f =
-    let r = f .before .before .before .before in
-    let start = r .before .before .before .before .before .before in
+    let r : tie.After-read = search in
+    let start : tie.Start = search in
     let found = f .count .given in
-    read-legal (take (start .args .held) (start .args .text .now)) (start .args .words .now) _ (start .pre .1) _ (r .read .ensures) (found .0 .0)
+    read-legal (take (start .args .held) (start .args .text .now)) (start .args .words .now) _ (start .pre .1) _
+    (r .read .ensures) (found .0 .0)
     (found .0 .1 .0) (found .1)
 
 slice-aggregate-read : tie.Need-slice-aggregate-read
-slice-aggregate-read c = sym (length-take-le _ _ (c .before .before .before .before .pre .0))
+slice-aggregate-read c =
+    let start : tie.Start = search in
+    sym (length-take-le _ _ (start .pre .0))
 
 slice-reshare-prefix-prepare : tie.Need-slice-reshare-prefix-prepare
 slice-reshare-prefix-prepare c = legal (c .before) .0
@@ -31,23 +36,28 @@ slice-aggregate-prepare c = sym (length-take-le _ _ (legal (c .before .before) .
 
 prepare-requires : tie.Need-prepare-requires
 prepare-requires c κs =
-    let bare = c .before .before .before .before .before .before .before .before .before .before .before .before .before .before .pre .3 in
-    (legal (c .before .before .before .before) .1, bare .long, bare .empty)
+    let start : tie.Start = search in
+    let after-count : tie.After-count = search in
+    let bare = start .pre .3 in
+    (legal after-count .1, bare .long, bare .empty)
 
 returns : tie.Need-returns
 returns c =
-    let read = c .before .before .before .before .before .before .before .before .before in
-    let start = read .before .before .before .before .before .before in
-    let found = c .before .before .before .before .before .why .given in
-    λ line. read-refused (take (start .args .held) (start .args .text .now)) (start .args .words .now) _ (start .pre .1) _
+    let after-why : tie.After-why = search in
+    let read : tie.After-read = search in
+    let start : tie.Start = search in
+    let found = after-why .why .given in
+    λ line. read-refused (take (start .args .held) (start .args .text .now)) (start .args .words .now) _ (start .pre .1)
+    _
     (read .read .ensures) (found .0 .0) (found .1)
     _ _ _ line _ _ _ (c .before .before .tell .ensures)
 
 returns-2 : tie.Need-returns-2
 returns-2 c =
-    let read = c .before .before .before .before .before .before .before .before .before in
-    let start = read .before .before .before .before .before .before in
-    let found = c .before .before .before .before .before .count .given in
+    let after-count : tie.After-count = search in
+    let read : tie.After-read = search in
+    let start : tie.Start = search in
+    let found = after-count .count .given in
     λ line. read-done (take (start .args .held) (start .args .text .now)) (start .args .words .now) _ (start .pre .1) _
     (read .read .ensures) (found .0 .0) (found .0 .1 .0) (found .1)
     _ _ _ line _ (c .prepare .ensures)

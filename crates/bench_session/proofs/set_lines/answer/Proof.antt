@@ -6,18 +6,19 @@ use Rattle.bench_session.proofs.set_lines.answer.Tie as tie
 
 returns : tie.Need-returns
 returns c =
-    let a = c .before .before .before .before .before .before .before .before .before in
-    let start = a .before .before .before .before .before .before .before in
+    let after-why : tie.After-why = search in
+    let a : tie.After-answer-line = search in
+    let start : tie.Start = search in
     let x = start .args in
-    let found = c .before .before .before .before .before .why .given in
+    let found = after-why .why .given in
     line-refused (x .words .now) (x .line .now) (start .pre .0) (x .out .now) _ (start .pre .2) _
     (a .answer-line .ensures) (found .0 .0) _ _ (found .1)
     (c .before .before .tell .ensures)
 
 returns-2 : tie.Need-returns-2
 returns-2 c =
-    let a = c .before .before .before .before .before in
-    let start = a .before .before .before .before .before .before .before in
+    let a : tie.After-answer-line = search in
+    let start : tie.Start = search in
     let x = start .args in
     let found = c .before .count .given in
     line-done (x .words .now) (x .line .now) (start .pre .0) (x .out .now) _ (start .pre .2) _ (a .answer-line .ensures)

@@ -10,21 +10,25 @@ use Rattle.bench_session.proofs.set_lines.end_line.Tie as tie
 
 returns : tie.Need-returns
 returns c =
-    let x = c .before .before .before .before .args in
+    let start : tie.Start = search in
+    let x = start .args in
     rw (c .if1 .taken) (no-last-line (take (x .count) (x .words .now)) (x .line .now) _)
 
 slice-aggregate-answer : tie.Need-slice-aggregate-answer
-slice-aggregate-answer c = sym (length-take-le _ _ (c .before .before .before .before .before .pre .wordsThere))
+slice-aggregate-answer c =
+    let start : tie.Start = search in
+    sym (length-take-le _ _ (start .pre .wordsThere))
 
 slice-aggregate-answer-2 : tie.Need-slice-aggregate-answer-2
 slice-aggregate-answer-2 c = sym (length-take-le _ _ (omega arith))
 
 returns-2 : tie.Need-returns-2
 returns-2 c =
-    let past-if1 = c .before .before .before .before .before .before in
-    let start = past-if1 .before .before .before .before in
+    let past-if1 : tie.Else1 = search in
+    let start : tie.Start = search in
     let some = nonzero (start .args .held) (past-if1 .if1 .left) in
-    let kept = length-take-le (start .args .held) (start .args .line .now) (omega (arith, start .pre .few, start .pre .lineRoom)) in
+    let kept = length-take-le (start .args .held) (start .args .line .now)
+    (omega (arith, start .pre .few, start .pre .lineRoom)) in
     last-line _ _ _ _ (omega (arith, kept, some)) (c .before .before .answer .ensures)
 
 pub end-line-spec : {M : Type 1} → statement M

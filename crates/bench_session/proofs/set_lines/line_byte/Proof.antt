@@ -11,22 +11,27 @@ use Rattle.bench_session.proofs.set_lines.line_byte.Tie as tie
 returns : tie.Need-returns
 returns c =
     let h = c .before .before .before in
-    let start = h .before .before .before .before .before in
+    let start : tie.Start = search in
     let x = start .args in
-    λ text. turn-holds (x .count) (x .held) (x .byte) (x .words .now) (x .line .now) _ _ (h .hold .ensures) (start .pre .wordsThere)
+    λ text. turn-holds (x .count) (x .held) (x .byte) (x .words .now) (x .line .now) _ _ (h .hold .ensures)
+    (start .pre .wordsThere)
     (start .pre .whole) (start .pre .prepared) text _ (ne-eqb (x .byte) lf (c .if1 .taken))
 
 slice-aggregate-answer : tie.Need-slice-aggregate-answer
-slice-aggregate-answer c = sym (length-take-le _ _ (c .before .before .before .before .before .before .before .before .before .pre .wordsThere))
+slice-aggregate-answer c =
+    let start : tie.Start = search in
+    sym (length-take-le _ _ (start .pre .wordsThere))
 
 slice-aggregate-answer-2 : tie.Need-slice-aggregate-answer-2
-slice-aggregate-answer-2 c = sym (length-take-le _ _ (c .before .before .before .before .before .hold .ensures .within))
+slice-aggregate-answer-2 c =
+    let after-hold : tie.After-hold = search in
+    sym (length-take-le _ _ (after-hold .hold .ensures .within))
 
 returns-2 : tie.Need-returns-2
 returns-2 c =
-    let past-if1 = c .before .before .before .before .before .before in
+    let past-if1 : tie.Else1 = search in
     let h = past-if1 .before .before .before in
-    let start = h .before .before .before .before .before in
+    let start : tie.Start = search in
     let x = start .args in
     λ text. turn-answers (x .count) (x .held) (x .byte) (x .words .now) (x .line .now) _ _
     (h .hold .ensures) (start .pre .wordsThere) (start .pre .whole) (start .pre .prepared) text _ _

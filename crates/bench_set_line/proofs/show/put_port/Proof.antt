@@ -18,19 +18,27 @@ use Rattle.bench_set_line.proofs.ShowLaws.{ports-near, port-ready}
 
 -- the stages: the value is found, and then the pieces are put
 abbrev start : tie.After-shown-value → tie.Start
-start c = c .before .before .before .before
+start c =
+    let back = c .before .before .before in
+    back .before
 
 abbrev asked : tie.After-put-all → tie.After-shown-value
 asked c = c .before .before .before
 
 abbrev opened : tie.After-put-name → tie.After-put-all
-opened c = c .before .before .before .before
+opened c =
+    let back = c .before .before .before in
+    back .before
 
 abbrev named : tie.After-put → tie.After-put-name
-named c = c .before .before .before .before
+named c =
+    let back = c .before .before .before in
+    back .before
 
 abbrev spaced : tie.After-value-byte → tie.After-put
-spaced c = c .before .before .before .before
+spaced c =
+    let back = c .before .before .before in
+    back .before
 
 byte-is : (c : tie.After-value-byte) → let a = start (asked (opened (named (spaced c)))) .args in
     c .value-byte .result ∷ []
@@ -38,13 +46,18 @@ byte-is : (c : tie.After-value-byte) → let a = start (asked (opened (named (sp
     (a .from + outputSize * a .o + nameSize) 0))) 0))
 byte-is c =
     let q = asked (opened (named (spaced c))) in
-    rw (← q .before .inputs-of .ensures) (c .value-byte .ensures ∙ ap (λ (v : ℕ). valueText (valueOf v)) (q .shown-value .ensures))
+    rw (← q .before .inputs-of .ensures)
+    (c .value-byte .ensures ∙ ap (λ (v : ℕ). valueText (valueOf v)) (q .shown-value .ensures))
 
 mul-port : tie.Need-mul-port
-mul-port c = let s = c .before .before in omega (arith, s .pre .0 .below, ports-near (s .args .words .now) (s .pre .0 .whole) (s .pre .0 .start))
+mul-port c =
+    let s = c .before .before in
+    omega (arith, s .pre .0 .below, ports-near (s .args .words .now) (s .pre .0 .whole) (s .pre .0 .start))
 
 add-port : tie.Need-add-port
-add-port c = let s = c .before .before in omega (arith, s .pre .0 .below, ports-near (s .args .words .now) (s .pre .0 .whole) (s .pre .0 .start))
+add-port c =
+    let s = c .before .before in
+    omega (arith, s .pre .0 .below, ports-near (s .args .words .now) (s .pre .0 .whole) (s .pre .0 .start))
 
 shown-value-requires : tie.Need-shown-value-requires
 shown-value-requires c κs = port-ready (c .before .before .before .pre .0) (c .inputs-of .ensures)
@@ -98,12 +111,13 @@ returns : tie.Need-returns
 unfolding portPiece pairText
 returns c =
     let closed = c .before .before in
-    let f = closed .before .before .before .before in
+    let f : tie.After-put2 = search in
     let s = spaced (f .before) in
     let n = named s in
     appended-then (opened n .put-all .ensures)
     (appended-then (n .put-name .ensures)
-    (appended-then (s .put .ensures) (appended-then (rw (byte-is (f .before)) at (f .put2 .ensures)) (closed .put3 .ensures))))
+    (appended-then (s .put .ensures) (appended-then (rw (byte-is (f .before)) at (f .put2 .ensures))
+    (closed .put3 .ensures))))
 
 pub put-port-spec : {M : Type 1} → statement M
 put-port-spec =

@@ -24,17 +24,19 @@ put-port-requires : tie.Need-put-port-requires Inv-loop μ-loop
 put-port-requires c κs =
     let l = c .before .before in
     let more = c .before .loop-test .taken in
-    let p = start l .pre .0 in
-    (record { whole = p .whole; start = p .start; below = omega (arith, p .many, more) }, put-short (l .loop .inv) more (start l .pre .1))
+    let p = start l .pre .0 in (
+      record { whole = p .whole; start = p .start; below = omega (arith, p .many, more) },
+      put-short (l .loop .inv) more (start l .pre .1),
+    )
 
 add-o : tie.Need-add-o Inv-loop μ-loop
 add-o c =
-    let s = start (c .before .before .before .before .before) in
+    let s : tie.Start Inv-loop μ-loop = search in
     omega (arith, s .pre .0 .many, ports-near (s .args .words .now) (s .pre .0 .whole) (s .pre .0 .start))
 
 loop-again : tie.Need-loop-again Inv-loop μ-loop
 loop-again c =
-    let t = c .before .before .before .before in
+    let t : tie.In-loop Inv-loop μ-loop = search in
     put-more (t .before .loop .inv) (t .loop-test .taken) (c .before .before .put-port .ensures)
 
 same-length : tie.Need-same-length Inv-loop μ-loop

@@ -11,43 +11,50 @@ use Rattle.bench_set_line.specs.Shown.{portPiece, showText}
 use Rattle.bench_set_line.proofs.ShowLaws.{show-of, show-short}
 
 -- the three parts, from the header that was read
-parts : (c : tie.After-outputs-of) → let a = c .before .before .before .before .args in
+parts : (c : tie.After-outputs-of) → let o = c .before in
+    let a = o .before .before .before .args in
     showText (a .words .now) (a .values .now)
     ≡ ascii "(show"
-    ++ (pieces (portPiece (a .words .now) (c .before .outputs-at .result) (a .values .now)) (c .outputs-of .result) ++ ascii ")\n")
+    ++ (pieces (portPiece (a .words .now) (c .before .outputs-at .result) (a .values .now)) (c .outputs-of .result)
+    ++ ascii ")\n")
 parts c =
-    let a = c .before .before .before .before .args in
+    let start : tie.Start = search in
+    let a = start .args in
     show-of (a .words .now) (a .values .now) (c .outputs-of .ensures) (c .before .outputs-at .ensures)
 
-whole : (c : tie.After-outputs-of) → let a = c .before .before .before .before .args in
+whole : (c : tie.After-outputs-of) → let o = c .before in
+    let a = o .before .before .before .args in
     Short
     (ascii "(show"
-    ++ (pieces (portPiece (a .words .now) (c .before .outputs-at .result) (a .values .now)) (c .outputs-of .result) ++ ascii ")\n")) 0
+    ++ (pieces (portPiece (a .words .now) (c .before .outputs-at .result) (a .values .now)) (c .outputs-of .result)
+    ++ ascii ")\n")) 0
 whole c =
-    let s = c .before .before .before .before in
+    let s : tie.Start = search in
     rw (parts c) at (show-short (s .args .words .now) (s .args .values .now) (s .pre))
 
 put-ports-requires : tie.Need-put-ports-requires
 put-ports-requires c κs =
     let o = c .before .before .before in
     let h = o .before .before .before in
-    let s = h .before .before .before .before in (
+    let s : tie.Start = search in (
       record { whole = s .pre; start = h .before .outputs-at .ensures; many = h .outputs-of .ensures },
       short-first _ (short-rest {xs = ascii "(show"} _ (whole h) (o .put-all .ensures)),
     )
 
 put-all-requires-2 : tie.Need-put-all-requires-2
 put-all-requires-2 c κs =
-    let p = c .before .before .before .before in
-    let o = p .before .before .before .before in
-    short-rest _ (short-rest {xs = ascii "(show"} _ (whole (o .before .before .before)) (o .put-all .ensures)) (p .put-ports .ensures)
+    let p : tie.After-put-ports = search in
+    let o : tie.After-put-all = search in
+    short-rest _ (short-rest {xs = ascii "(show"} _ (whole (o .before .before .before)) (o .put-all .ensures))
+    (p .put-ports .ensures)
 
 returns : tie.Need-returns
 returns c =
     let closed = c .before .before in
-    let p = closed .before .before .before .before .before in
-    let o = p .before .before .before .before in
-    rw (parts (o .before .before .before)) (appended-then (o .put-all .ensures) (appended-then (p .put-ports .ensures) (closed .put-all2 .ensures)))
+    let p : tie.After-put-ports = search in
+    let o : tie.After-put-all = search in
+    rw (parts (o .before .before .before))
+    (appended-then (o .put-all .ensures) (appended-then (p .put-ports .ensures) (closed .put-all2 .ensures)))
 
 pub put-show-spec : {M : Type 1} → statement M
 put-show-spec =

@@ -1,5 +1,5 @@
--- `bench_set_line::show::show_settled` meets its contract: the first pass tells the line's length, the second writes it.
--- Assumes nothing.
+-- `bench_set_line::show::show_settled` meets its contract: the first pass tells the line's length, the second writes
+-- it. Assumes nothing.
 use borrow.Author.Needs.{needs}
 use Rattle.bench_set_line.proofs.show.show_settled.Statement.{statement}
 use Rattle.bench_set_line.proofs.show.show_settled.Tie as tie
@@ -17,7 +17,9 @@ use Rattle.bench_set_line.proofs.Outcomes.{show-room}
 
 -- the function's entry, the line, and its length where the room is tested
 abbrev start : tie.After-test-room → tie.Start
-start c = c .before .before .before .before .before .before
+start c =
+    let back = c .before .before .before in
+    back .before .before .before
 
 abbrev line : tie.After-test-room → List ℕ
 line c = let a = start c .args in showText (a .words .now) (a .values .now)
@@ -31,7 +33,8 @@ put-show-requires c κs = c .before .before .before .pre
 returns : tie.Need-returns
 returns c =
     let t = c .before .before .before in
-    failed bare keeps-bare _ _ NoRoom (show-room (line t) _) (rw (measured t) at (t .test-room .ensures)) (start t .args .out .now)
+    failed bare keeps-bare _ _ NoRoom (show-room (line t) _) (rw (measured t) at (t .test-room .ensures))
+    (start t .args .out .now)
     (c .before .before .match .keys2) (c .refusal .ensures)
 
 put-show-requires-2 : tie.Need-put-show-requires-2
@@ -39,10 +42,11 @@ put-show-requires-2 c κs = start (c .before .before .before) .pre
 
 returns-2 : tie.Need-returns-2
 returns-2 c =
-    let told = c .before .before .before .before in
+    let told : tie.After-enum-told = search in
     let t = told .before .before in
     let answer = rw (measured t) at (t .test-room .ensures) in
-    let fits : length (line t) ≤ length (start t .args .out .now) = ltb-false _ _ (passed-false _ NoRoom answer (told .enum-told .given .1)) in
+    let fits : length (line t) ≤ length (start t .args .out .now) =
+    ltb-false _ _ (passed-false _ NoRoom answer (told .enum-told .given .1)) in
     finished (passed bare keeps-bare _ _ NoRoom (show-room (line t) _) answer (told .enum-told .given .1)) (measured t)
     (c .before .before .put-show2 .ensures .textIs ∙ sets-placed (line t) (start t .args .out .now) fits)
 

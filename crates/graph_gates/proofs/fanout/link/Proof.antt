@@ -31,7 +31,9 @@ element-write-fanout-2 c = omega (arith, c .before .before .before .pre .inside)
 
 returns : tie.Need-returns
 unfolding slotPlace
-returns c = record { is = rw (le-leb firstGate _ (c .before .if1 .taken), add-one (c .before .before .before .args .e)) refl }
+returns c =
+    let start : tie.Start = search in
+    record { is = rw (le-leb firstGate _ (c .before .if1 .taken), add-one (start .args .e)) refl }
 
 returns-2 : tie.Need-returns-2
 unfolding slotPlace

@@ -1,4 +1,5 @@
--- `graph_gates::fanout::link_slots` meets its contract: the slots below `e` are in their lists (`linking-next`). Assumes nothing.
+-- `graph_gates::fanout::link_slots` meets its contract: the slots below `e` are in their lists (`linking-next`).
+-- Assumes nothing.
 use Prim.Native.Nat.{_*_, _-_, _≤_}
 use native.Mathlib.Omega.{arith}
 use borrow.Author.Needs.{needs}
@@ -31,8 +32,11 @@ loop-again : tie.Need-loop-again Inv-loop μ-loop
 loop-again c =
     let s = c .before .before .before in
     let g = s .before .pre .0 in
-    let l = c .before .before .loop-test .taken in
-    (omega arith, linking-next (s .loop .e) (s .loop .inv .1) (omega (arith, g .few)) (omega (arith, slot-inside g (s .loop .e) l, g .few)) (c .link .ensures))
+    let l = c .before .before .loop-test .taken in (
+      omega arith,
+      linking-next (s .loop .e) (s .loop .inv .1) (omega (arith, g .few))
+          (omega (arith, slot-inside g (s .loop .e) l, g .few)) (c .link .ensures),
+    )
 
 returns : tie.Need-returns Inv-loop μ-loop
 returns c = (linked-fanout (c .before .loop .inv .1) (omega arith) (c .before .loop .inv .0))
@@ -40,4 +44,5 @@ returns c = (linked-fanout (c .before .loop .inv .1) (omega arith) (c .before .l
 pub link-slots-spec : {M : Type 1} → statement M
 link-slots-spec =
     tie.close
-    (tie.spec Inv-loop μ-loop loop-holds (λ c. search needs) link-requires (λ c. search needs) (λ c. search needs) loop-again returns)
+    (tie.spec Inv-loop μ-loop loop-holds (λ c. search needs) link-requires (λ c. search needs) (λ c. search needs)
+    loop-again returns)

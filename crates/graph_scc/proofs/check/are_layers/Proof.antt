@@ -1,4 +1,5 @@
--- `graph_scc::check::are_layers` meets its contract: the positions that were passed are right, and when all are, these are layers. Assumes nothing.
+-- `graph_scc::check::are_layers` meets its contract: the positions that were passed are right, and when all are, these
+-- are layers. Assumes nothing.
 use Prim.Native.Nat.{ℕ, _-_, _≤_, _<_}
 use mathlib.Core.Logic.{⊎-elim}
 use mathlib.Core.Bool.{false≢true}

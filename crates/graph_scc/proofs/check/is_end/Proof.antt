@@ -30,7 +30,11 @@ returns-5 c =
     let other = inside .before .before in
     let is = other .before .word-of .ensures in
     let next = eqb-true (c .word-of2 .result) (other .before .word-of .result) e in
-    inr (rw (← is) (omega (arith, other .if1 .left)), rw (← is) (inside .if3 .left), inr (sym (c .word-of2 .ensures) ∙ next ∙ is))
+    inr (
+      rw (← is) (omega (arith, other .if1 .left)),
+      rw (← is) (inside .if3 .left),
+      inr (sym (c .word-of2 .ensures) ∙ next ∙ is),
+    )
 
 pub is-end-spec : {M : Type 1} → statement M
 is-end-spec =

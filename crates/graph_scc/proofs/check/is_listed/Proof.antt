@@ -24,7 +24,9 @@ returns-4 c =
       inside = rw (← places .before .word-of .ensures) (small .before .if1 .left);
       found = rw (← places .before .word-of .ensures) (sym (back .word-of3 .ensures) ∙ c .before .if3 .left);
       below = rw (← places .word-of2 .ensures) (small .if2 .left);
-      stands = rw (← places .word-of2 .ensures) (sym (c .word-of4 .ensures) ∙ eqb-true (c .word-of4 .result) (places .before .before .args .i) e);
+      stands =
+          rw (← places .word-of2 .ensures) (sym (c .word-of4 .ensures)
+          ∙ eqb-true (c .word-of4 .result) (places .before .before .args .i) e);
     }
 
 pub is-listed-spec : {M : Type 1} → statement M

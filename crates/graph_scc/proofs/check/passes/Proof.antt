@@ -15,8 +15,11 @@ reads-before-requires : tie.Need-reads-before-requires
 reads-before-requires c κs =
     let ended = c .before .before .before in
     let listed = ended .before .before in
-    let s = listed .before in
-    (s .pre .0, rw (c .before .word-of .ensures) (listed .is-listed .ensures (not-false (listed .is-listed .result) (ended .before .if1 .left)) .inside))
+    let s = listed .before in (
+      s .pre .0,
+      rw (c .before .word-of .ensures)
+          (listed .is-listed .ensures (not-false (listed .is-listed .result) (ended .before .if1 .left)) .inside),
+    )
 
 returns-3 : tie.Need-returns-3
 returns-3 c =

@@ -1,4 +1,5 @@
--- `graph_scc::check::slot_before` meets its contract: a gate's place is the first gate's and its number. Assumes nothing.
+-- `graph_scc::check::slot_before` meets its contract: a gate's place is the first gate's and its number. Assumes
+-- nothing.
 use Prim.Native.Nat.{_-_}
 use mathlib.Core.Path.{_≡_}
 use native.Mathlib.Omega.{arith}
@@ -16,7 +17,12 @@ word-of-requires : tie.Need-word-of-requires
 unfolding placeAt
 word-of-requires c κs =
     let s = c .before .before in
-    omega (arith, c .before .graph-word .ensures, s .pre .0 .node (s .args .j) (s .pre .1) .inside (s .args .s) (s .pre .2), s .pre .0 .few)
+    omega (
+      arith,
+      c .before .graph-word .ensures,
+      s .pre .0 .node (s .args .j) (s .pre .1) .inside (s .args .s) (s .pre .2),
+      s .pre .0 .few,
+    )
 
 returns-2 : tie.Need-returns-2
 unfolding placeAt

@@ -1,4 +1,5 @@
--- `graph_scc::layers::layer_with` meets its contract: the check shows that the search's answer is right, or one loop of all gates stands there. Assumes nothing.
+-- `graph_scc::layers::layer_with` meets its contract: the check shows that the search's answer is right, or one loop of
+-- all gates stands there. Assumes nothing.
 use borrow.Author.Tests.{not-false}
 use borrow.Author.Needs.{needs}
 use Rattle.graph_scc.proofs.Layered.{layered, one-layer}

@@ -11,7 +11,8 @@ use Rattle.graph_scc.proofs.layers.write_one_layer.Statement.{statement
 use Rattle.graph_scc.proofs.layers.write_one_layer.Tie as tie
 
 abbrev Inv-loop : tie.InvT-loop
-Inv-loop m order₀ ends₀ i₀ order ends i = (i ≤ m) × (length order ≡ maxGates) × (length ends ≡ maxGates) × OneLayer m i order ends
+Inv-loop m order₀ ends₀ i₀ order ends i =
+    (i ≤ m) × (length order ≡ maxGates) × (length ends ≡ maxGates) × OneLayer m i order ends
 
 abbrev μ-loop : tie.MeasureT-loop
 μ-loop m order₀ ends₀ i₀ order ends i = m - i

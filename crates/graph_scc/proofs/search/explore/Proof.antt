@@ -1,4 +1,5 @@
--- `graph_scc::search::explore` meets its contract: the clock goes on by one in each turn, so the search ends. Assumes nothing.
+-- `graph_scc::search::explore` meets its contract: the clock goes on by one in each turn, so the search ends. Assumes
+-- nothing.
 use Prim.Native.Nat.{_-_}
 use borrow.Author.Needs.{needs}
 use Rattle.graph_scc.specs.Search.{clockEnd, StandingReady, SameRooms}

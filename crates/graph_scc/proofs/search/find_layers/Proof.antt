@@ -1,4 +1,5 @@
--- `graph_scc::search::find_layers` meets its contract: a search from each gate in turn keeps the arrays' lengths. Assumes nothing.
+-- `graph_scc::search::find_layers` meets its contract: a search from each gate in turn keeps the arrays' lengths.
+-- Assumes nothing.
 use Prim.Native.Nat.{_-_, _≤_}
 use borrow.Author.Needs.{needs}
 use Rattle.graph_scc.specs.Search.{StandingReady, SameRooms}

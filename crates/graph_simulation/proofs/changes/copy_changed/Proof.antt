@@ -1,4 +1,5 @@
--- `op_settle::changes::copy_changed` meets its contract: the gates queued before q have their values copied. Assumes nothing.
+-- `graph_simulation::changes::copy_changed` meets its contract: the gates queued before q have their values copied.
+-- Assumes nothing.
 use mathlib.Core.Path.{_≡_}
 use Prim.Native.Nat.{_-_, _≤_, _<_}
 use native.Mathlib.Omega.{arith}
@@ -27,8 +28,11 @@ element-copy-out-k : tie.Need-element-copy-out-k Inv-loop μ-loop
 element-copy-out-k c = omega (arith, c .before .before .before .pre .0 .queued)
 
 -- a queued gate
-inside : (c : tie.Then1 Inv-loop μ-loop) → getD (now (c .before .before .before .args .queue)) (c .before .before .loop .q) 0 < maxGates
-inside c = c .before .before .before .pre .0 .inside (c .before .before .loop .q) (c .if1 .taken)
+inside : (c : tie.Then1 Inv-loop μ-loop) → let l = c .before .before in
+    getD (now (l .before .args .queue)) (l .loop .q) 0 < maxGates
+inside c =
+    let start : tie.Start Inv-loop μ-loop = search in
+    start .pre .0 .inside (c .before .before .loop .q) (c .if1 .taken)
 
 cast-k : tie.Need-cast-k Inv-loop μ-loop
 cast-k c = omega (arith, inside (c .before))
@@ -44,7 +48,7 @@ element-write-values c = omega (arith, inside (c .before .before))
 
 loop-again : tie.Need-loop-again Inv-loop μ-loop
 loop-again c =
-    let l = c .before .before .before .before in
+    let l : tie.At-loop Inv-loop μ-loop = search in
     let s = l .before in (
       omega arith,
       omega arith,

@@ -1,15 +1,17 @@
--- `op_settle::changes::next_round` meets its contract: `values` gets what was found, and then the readers of what changed are evaluated. Assumes nothing.
+-- `graph_simulation::changes::next_round` meets its contract: `values` gets what was found, and then the readers of
+-- what changed are evaluated. Assumes nothing.
 use Rattle.graph_simulation.proofs.Updates.{copy-ready, copied-ready, next-ready, next-awake, round-next}
 use Rattle.graph_simulation.proofs.changes.next_round.Statement.{statement}
 use Rattle.graph_simulation.proofs.changes.next_round.Tie as tie
 
 copy-changed-requires : tie.Need-copy-changed-requires
-copy-changed-requires c κs = let s = c .before .before .before in (copy-ready (s .pre .0 .legal) (s .pre .1), s .pre .1 .ordered)
+copy-changed-requires c κs =
+    let s = c .before .before .before in (copy-ready (s .pre .0 .legal) (s .pre .1), s .pre .1 .ordered)
 
 update-changed-requires : tie.Need-update-changed-requires
 update-changed-requires c κs =
     let f = c .before .before .before in
-    let s = f .before .before .before .before in
+    let s : tie.Start = search in
     let g = s .pre .0 .legal in
     let r = s .pre .1 in
     let k = f .copy-changed .ensures in (
@@ -19,8 +21,8 @@ update-changed-requires c κs =
 
 returns : tie.Need-returns
 returns c =
-    let f = c .before .before .before .before in
-    let s = f .before .before .before .before in
+    let f : tie.After-copy-changed = search in
+    let s : tie.Start = search in
     round-next (s .pre .0 .legal) (s .pre .1) (f .copy-changed .ensures) (c .update-changed .ensures)
 
 pub next-round-spec : {M : Type 1} → statement M

@@ -1,4 +1,5 @@
--- `op_settle::changes::update_all` meets its contract: after j turns the first j gates have their values. Assumes nothing.
+-- `graph_simulation::changes::update_all` meets its contract: after j turns the first j gates have their values.
+-- Assumes nothing.
 use Prim.Native.Nat.{_-_, _≤_}
 use native.Mathlib.Omega.{arith}
 use Rattle.graph_simulation.specs.Changes.{Updated}
@@ -18,14 +19,18 @@ loop-holds c = (omega arith, updated-none _ _ 0, λ i l. absurd (omega arith))
 
 update-requires : tie.Need-update-requires Inv-loop μ-loop
 update-requires c κs =
+    let turn : tie.In-loop Inv-loop μ-loop = search in
     let l = c .before .before .before in
-    (l .before .pre .0, updated-ready (l .before .pre .1) (l .loop .inv .1), c .before .before .loop-test .taken)
+    (l .before .pre .0, updated-ready (l .before .pre .1) (l .loop .inv .1), turn .loop-test .taken)
 
 loop-again : tie.Need-loop-again Inv-loop μ-loop
 loop-again c =
-    let l = c .before .before .before .before in
-    let u = c .update .ensures in
-    (omega arith, updated-then (l .loop .inv .1) (u .updated), below-next (l .loop .inv .2) (c .before .before .before .loop-test .taken) u)
+    let l : tie.At-loop Inv-loop μ-loop = search in
+    let u = c .update .ensures in (
+      omega arith,
+      updated-then (l .loop .inv .1) (u .updated),
+      below-next (l .loop .inv .2) (c .before .before .before .loop-test .taken) u,
+    )
 
 returns : tie.Need-returns Inv-loop μ-loop
 returns c =

@@ -1,4 +1,5 @@
--- `op_settle::changes::update_changed` meets its contract: a gate has its value, or reads a gate that is queued from q on. Assumes nothing.
+-- `graph_simulation::changes::update_changed` meets its contract: a gate has its value, or reads a gate that is queued
+-- from q on. Assumes nothing.
 use mathlib.Core.Path.{_≡_}
 use Prim.Native.Nat.{_-_, _*_, _≤_, _<_}
 use native.Mathlib.Omega.{arith}
@@ -27,7 +28,8 @@ queued : (l : tie.At-loop Inv-loop μ-loop) → l .loop .q < l .before .args .ch
     → getD (l .loop .queue) (l .loop .q) 0 ≡ getD (now (l .before .args .queue)) (l .loop .q) 0
 queued l below = l .loop .inv .1 .front (l .loop .q) below
 
-inside : (l : tie.At-loop Inv-loop μ-loop) → l .loop .q < l .before .args .changed .tail → getD (l .loop .queue) (l .loop .q) 0 < maxGates
+inside : (l : tie.At-loop Inv-loop μ-loop) → l .loop .q < l .before .args .changed .tail
+    → getD (l .loop .queue) (l .loop .q) 0 < maxGates
 inside l below = rw (queued l below) (l .before .pre .1 .1 .0 .inside (l .loop .q) below)
 
 -- where the list of its readers starts
@@ -42,36 +44,45 @@ element-copy-out-k : tie.Need-element-copy-out-k Inv-loop μ-loop
 element-copy-out-k c = omega (arith, c .before .before .before .pre .1 .1 .0 .queued)
 
 cast-k : tie.Need-cast-k Inv-loop μ-loop
-cast-k c = omega (arith, inside (c .before .before .before) (c .before .if1 .taken))
+cast-k c =
+    let head : tie.At-loop Inv-loop μ-loop = search in
+    omega (arith, inside (head) (c .before .if1 .taken))
 
 mul-t14 : tie.Need-mul-t14 Inv-loop μ-loop
-mul-t14 c = omega (arith, inside (c .before .before .before) (c .before .if1 .taken))
+mul-t14 c =
+    let head : tie.At-loop Inv-loop μ-loop = search in
+    omega (arith, inside (head) (c .before .if1 .taken))
 
 element-copy-out-t17 : tie.Need-element-copy-out-t17 Inv-loop μ-loop
-element-copy-out-t17 c = omega (arith, inside (c .before .before .before) (c .before .if1 .taken))
+element-copy-out-t17 c =
+    let head : tie.At-loop Inv-loop μ-loop = search in
+    omega (arith, inside (head) (c .before .if1 .taken))
 
 cast-t20 : tie.Need-cast-t20 Inv-loop μ-loop
 cast-t20 c =
-    let l = c .before .before .before .before in
+    let l : tie.At-loop Inv-loop μ-loop = search in
     omega (arith, starts l (c .before .before .if1 .taken), l .before .pre .0 .legal .few)
 
 update-readers-requires : tie.Need-update-readers-requires Inv-loop μ-loop
 update-readers-requires c κs =
-    let t = c .before .before .before .before in
+    let t : tie.Then1 Inv-loop μ-loop = search in
     let l = t .before .before in
     let p = l .before .pre in
-    let f = p .0 .linked in
-    ((p .0 .tabled, updated-ready (p .1 .0 .0) (l .loop .inv .1)), record { descends = f .descends; starts = starts l (t .if1 .taken) })
+    let f = p .0 .linked in (
+      (p .0 .tabled, updated-ready (p .1 .0 .0) (l .loop .inv .1)),
+      record { descends = f .descends; starts = starts l (t .if1 .taken) },
+    )
 
 loop-again : tie.Need-loop-again Inv-loop μ-loop
 loop-again c =
-    let t = c .before .before .before .before .before in
+    let t : tie.Then1 Inv-loop μ-loop = search in
     let l = t .before .before in
     let s = l .before in
     let u = c .update-readers .ensures in (
       omega arith,
       updated-then (l .loop .inv .1) (u .updated),
-      awake-next (now (s .args .queue)) (s .pre .0 .legal) (s .pre .0 .linked) (l .loop .inv .2) (rw (queued l (t .if1 .taken)) at u),
+      awake-next (now (s .args .queue)) (s .pre .0 .legal) (s .pre .0 .linked) (l .loop .inv .2)
+          (rw (queued l (t .if1 .taken)) at u),
     )
 
 returns : tie.Need-returns Inv-loop μ-loop
@@ -80,7 +91,9 @@ returns c =
     let s = l .before in
     record {
       updated = l .loop .inv .1;
-      done = awake-end _ _ _ (l .loop .found) (now (s .args .queue)) (l .loop .q) (s .args .changed .tail) (l .loop .inv .2) (c .if1 .left);
+      done =
+          awake-end _ _ _ (l .loop .found) (now (s .args .queue)) (l .loop .q) (s .args .changed .tail)
+          (l .loop .inv .2) (c .if1 .left);
     }
 
 pub update-changed-spec : {M : Type 1} → statement M

@@ -1,17 +1,21 @@
--- `op_settle::round::prepare` meets its contract. Assumes nothing.
+-- `graph_simulation::round::prepare` meets its contract. Assumes nothing.
 use borrow.Author.Needs.{needs}
 use Rattle.graph_simulation.proofs.round.prepare.Statement.{statement}
 use Rattle.graph_simulation.proofs.round.prepare.Tie as tie
 
 link-slots-requires : tie.Need-link-slots-requires
 link-slots-requires c κs =
+    let start : tie.Start = search in
     let d = c .before .before .before in
-    (rw (c .before .gates-of .ensures) (d .decode-gates .ensures .legal), d .before .before .before .pre .2)
+    (rw (c .before .gates-of .ensures) (d .decode-gates .ensures .legal), start .pre .2)
 
 returns : tie.Need-returns
 returns c =
-    let d = c .before .before .before .before in
-    record { decoded = d .decode-gates .ensures; linked = rw (c .before .before .gates-of .ensures) at (c .link-slots .ensures) }
+    let d : tie.After-decode-gates = search in
+    record {
+      decoded = d .decode-gates .ensures;
+      linked = rw (c .before .before .gates-of .ensures) at (c .link-slots .ensures);
+    }
 
 pub prepare-spec : {M : Type 1} → statement M
 prepare-spec =

@@ -1,4 +1,4 @@
--- `op_settle::round::settle_prepared` meets its contract: nothing is found yet. Assumes nothing.
+-- `graph_simulation::round::settle_prepared` meets its contract: nothing is found yet. Assumes nothing.
 use Rattle.graph_simulation.proofs.Starts.{scratch}
 use borrow.Author.Needs.{needs}
 use Rattle.graph_simulation.proofs.round.settle_prepared.Statement.{statement}

@@ -1,5 +1,6 @@
--- `op_settle::round::settle_with` meets its contract. The loop's invariant: `values` has the state after `count` rounds, each of which changed something, and
--- `found` that after one more. The measure is the number of gates less that count. Assumes nothing.
+-- `graph_simulation::round::settle_with` meets its contract. The loop's invariant: `values` has the state after `count`
+-- rounds, each of which changed something, and `found` that after one more. The measure is the number of gates less
+-- that count. Assumes nothing.
 use mathlib.Core.Path.{_≡_}
 use lib.ListN.{getD}
 use Prim.Native.Nat.{ℕ, _+_, _-_, _<_}
@@ -25,30 +26,42 @@ update-all-requires : tie.Need-update-all-requires Inv-loop μ-loop
 update-all-requires c κs =
     let s = c .before .before .before in
     let k = s .pre .2 in
-    let g = s .pre .0 .legal in
-    (s .pre .0 .tabled, first-ready g _ (s .pre .1) (λ j l. k .none j (omega (arith, g .few))) (k .foundRoom) (k .queueRoom))
+    let g = s .pre .0 .legal in (
+      s .pre .0 .tabled,
+      first-ready g _ (s .pre .1) (λ j l. k .none j (omega (arith, g .few))) (k .foundRoom)
+          (k .queueRoom),
+    )
 
 loop-holds : tie.Need-loop-holds Inv-loop μ-loop
 loop-holds c =
-    let s = c .before .before .before .before in
+    let s : tie.Start Inv-loop μ-loop = search in
     let k = s .pre .2 in
     let g = s .pre .0 .legal in
-    let none : (j : ℕ) → j < s .args .m → getD (now (s .args .found)) j 0 ≡ 2 = λ j l. k .none j (omega (arith, g .few)) in
+    let none : (j : ℕ) → j < s .args .m → getD (now (s .args .found)) j 0 ≡ 2 =
+    λ j l. k .none j (omega (arith, g .few)) in
     rounding-none _ g (first-state g (now (s .args .found)) (s .pre .1) none (k .foundRoom))
     (round-first g (now (s .args .found)) (s .pre .1) none (k .foundRoom) (k .queueRoom) (c .update-all .ensures))
 
 -- the function's entry and the loop's head, from a further round
 abbrev head : tie.After-next-round Inv-loop μ-loop → tie.At-loop Inv-loop μ-loop
-head d = d .before .before .before .before .before
+head d =
+    let after-next-round-arg = d .before .before .before in
+    after-next-round-arg .before .before
 
 abbrev start : tie.At-loop Inv-loop μ-loop → tie.Start Inv-loop μ-loop
-start l = l .before .before .before .before .before
+start l =
+    let after-update-all-arg2 = l .before .before .before in
+    after-update-all-arg2 .before .before
 
 -- a round that changed something, so that the count before it is below the number of gates
 more : (d : tie.After-next-round Inv-loop μ-loop) → let a = start (head d) .args in
-    Rounding (a .m) (now (a .graph)) (now (a .values)) (d .next-round .last .1 .1 .1 .1 .0) (d .next-round .last .1 .1 .1 .1 .1 .0)
+    Rounding (a .m) (now (a .graph)) (now (a .values)) (d .next-round .last .1 .1 .1 .1 .0)
+    (d .next-round .last .1 .1 .1 .1 .1 .0)
     (d .next-round .last .1 .1 .1 .1 .1 .1 .0) (head d .loop .tail) (d .next-round .result) (head d .loop .count + 1)
-more d = rounding-more _ (start (head d) .pre .0 .legal) (head d .loop .inv) (d .before .before .before .before .loop-test .taken) (d .next-round .ensures)
+more d =
+    let turn : tie.In-loop Inv-loop μ-loop = search in
+    rounding-more _ (start (head d) .pre .0 .legal) (head d .loop .inv) (turn .loop-test .taken)
+    (d .next-round .ensures)
 
 below : (d : tie.After-next-round Inv-loop μ-loop) → head d .loop .count < start (head d) .args .m
 below d =
@@ -58,7 +71,7 @@ below d =
 
 next-round-requires : tie.Need-next-round-requires Inv-loop μ-loop
 next-round-requires c κs =
-    let l = c .before .before .before .before in
+    let l : tie.At-loop Inv-loop μ-loop = search in
     (start l .pre .0, l .loop .inv .made)
 
 add-count : tie.Need-add-count Inv-loop μ-loop

@@ -1,4 +1,4 @@
--- `op_settle::values::put_constants` meets its contract. Assumes nothing.
+-- `graph_simulation::values::put_constants` meets its contract. Assumes nothing.
 use Rattle.graph_simulation.proofs.Starts.{starting-none}
 use borrow.Author.Needs.{needs}
 use Rattle.graph_simulation.proofs.values.put_constants.Statement.{statement}

@@ -1,4 +1,5 @@
--- `op_settle::values::put_setting` meets its contract: the first i inputs have their values (`starting-more`). Assumes nothing.
+-- `graph_simulation::values::put_setting` meets its contract: the first i inputs have their values (`starting-more`).
+-- Assumes nothing.
 use mathlib.Core.Path.{_≡_, _∙_}
 use mathlib.Core.List.{_∷_, [], _++_, map, map-append}
 use Prim.Native.Nat.{_+_, _-_, _≤_, _<_}
@@ -26,24 +27,31 @@ loop-holds : tie.Need-loop-holds Inv-loop μ-loop
 loop-holds c = (omega arith, c .put-constants .ensures)
 
 element-write-values : tie.Need-element-write-values Inv-loop μ-loop
-element-write-values c = omega (arith, c .before .before .before .before .before .before .pre .1 .few)
+element-write-values c =
+    let start : tie.Start Inv-loop μ-loop = search in
+    omega (arith, start .pre .1 .few)
 
 loop-again : tie.Need-loop-again Inv-loop μ-loop
 loop-again c =
     let l = c .before .before in
-    let s = l .before .before .before .before in
+    let s : tie.Start Inv-loop μ-loop = search in
     let setting = now (s .args .setting) in
     let i = l .loop .i in
     let few : i < length setting = c .before .loop-test .taken in
-    let long : length (map valueOf (take i setting)) ≡ i = length-map (take i setting) valueOf ∙ length-take-le i setting (omega arith) in
+    let long : length (map valueOf (take i setting)) ≡ i =
+    length-map (take i setting) valueOf ∙ length-take-le i setting (omega arith) in
     let more : map valueOf (take (i + 1) setting) ≡ map valueOf (take i setting) ++ (valueOf (getD setting i 0) ∷ []) =
-    rw (add-one, take-suc setting i 0 few) (map-append valueOf (take i setting) (getD setting i 0 ∷ [])) in
-    (omega arith, rw more (starting-more (l .loop .inv .1) i (getD setting i 0) long (omega (arith, s .pre .1 .few)) (s .pre .1 .most i)))
+    rw (add-one, take-suc setting i 0 few) (map-append valueOf (take i setting) (getD setting i 0 ∷ [])) in (
+      omega arith,
+      rw more (starting-more (l .loop .inv .1) i (getD setting i 0) long (omega (arith, s .pre .1 .few))
+          (s .pre .1 .most i)),
+    )
 
 returns : tie.Need-returns Inv-loop μ-loop
 returns c =
+    let start : tie.Start Inv-loop μ-loop = search in
     let l = c .before in
-    let setting = now (l .before .before .before .before .args .setting) in
+    let setting = now (start .args .setting) in
     rw (take-all (l .loop .i) setting (c .loop-test .left)) at (l .loop .inv .1)
 
 pub put-setting-spec : {M : Type 1} → statement M

@@ -1,5 +1,5 @@
--- `graph_ternary::gate::gate_value` meets its contract: the codes are the digits of the gate's index, and its entry is the gate's value (`gate-entry`).
--- Assumes nothing.
+-- `graph_ternary::gate::gate_value` meets its contract: the codes are the digits of the gate's index, and its entry is
+-- the gate's value (`gate-entry`). Assumes nothing.
 use mathlib.Core.Path.{_≡_, _∙_}
 use mathlib.Core.Bool.{true}
 use native.Mathlib.Omega.{arith}
@@ -23,15 +23,23 @@ cast-operation c = omega (arith, c .before .pre .1 .0 .small)
 element-copy-out-result : tie.Need-element-copy-out-result
 unfolding kindAt
 element-copy-out-result c =
-    let s = c .before .before .before .before .before in
+    let after-operand-code : tie.After-operand-code = search in
+    let s : tie.Start = search in
     let k = kind-last (kindAt (now (s .args .graph)) (s .args .j)) (s .pre .1 .0 .kind) in
-    omega (arith, c .before .before .before .operand-code .ensures .1, c .before .before .operand-code2 .ensures .1, c .before .operand-code3 .ensures .1, c .operand-code4 .ensures .1)
+    omega (
+      arith,
+      after-operand-code .operand-code .ensures .1,
+      c .before .before .operand-code2 .ensures .1,
+      c .before .operand-code3 .ensures .1,
+      c .operand-code4 .ensures .1,
+    )
 
 returns : tie.Need-returns
 unfolding gateCode gateIndex tableIndex kindAt countAt
 returns c =
+    let after-operand-code : tie.After-operand-code = search in
     let o = c .before in
-    let s = o .before .before .before .before .before in
+    let s : tie.Start = search in
     let a = s .args in
     let graph = now (a .graph) in
     let kind = kindAt graph (a .j) in
@@ -41,9 +49,19 @@ returns c =
     let k = kind-last kind (s .pre .1 .0 .kind) in
     let fits : arityFits kind (length vs) ≡ true = rw (length-tab v count) (s .pre .1 .0 .count) in
     rw (s .pre .0)
-    (table-at _ (omega
-    (arith, o .before .before .before .operand-code .ensures .1, o .before .before .operand-code2 .ensures .1, o .before .operand-code3 .ensures .1, o .operand-code4 .ensures .1))
-    ∙ rw (o .before .before .before .operand-code .ensures .0, o .before .before .operand-code2 .ensures .0, o .before .operand-code3 .ensures .0, o .operand-code4 .ensures .0)
+    (table-at _ (omega (
+      arith,
+      after-operand-code .operand-code .ensures .1,
+      o .before .before .operand-code2 .ensures .1,
+      o .before .operand-code3 .ensures .1,
+      o .operand-code4 .ensures .1,
+    ))
+    ∙ rw (
+      after-operand-code .operand-code .ensures .0,
+      o .before .before .operand-code2 .ensures .0,
+      o .before .operand-code3 .ensures .0,
+      o .operand-code4 .ensures .0,
+    )
     (gate-entry kind vs k fits))
 
 pub gate-value-spec : {M : Type 1} → statement M

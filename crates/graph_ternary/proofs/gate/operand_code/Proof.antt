@@ -1,4 +1,5 @@
--- `graph_ternary::gate::operand_code` meets its contract: what stands at the operand's place, or the code of an absent one. Assumes nothing.
+-- `graph_ternary::gate::operand_code` meets its contract: what stands at the operand's place, or the code of an absent
+-- one. Assumes nothing.
 use mathlib.Core.Path.{sym, _∙_}
 use native.Mathlib.Omega.{arith}
 use denote.Ref.{now}
@@ -14,11 +15,15 @@ use Rattle.graph_ternary.proofs.gate.operand_code.Tie as tie
 
 cast-place : tie.Need-cast-place
 unfolding placeAt
-cast-place c = omega (arith, c .before .before .pre .0 .inside (c .before .before .args .i) (c .before .before .pre .2))
+cast-place c =
+    let start : tie.Start = search in
+    omega (arith, c .before .before .pre .0 .inside (start .args .i) (start .pre .2))
 
 element-copy-out-result : tie.Need-element-copy-out-result
 unfolding placeAt
-element-copy-out-result c = omega (arith, c .before .before .pre .0 .inside (c .before .before .args .i) (c .before .before .pre .2))
+element-copy-out-result c =
+    let start : tie.Start = search in
+    omega (arith, c .before .before .pre .0 .inside (start .args .i) (start .pre .2))
 
 cast-result : tie.Need-cast-result
 cast-result c =

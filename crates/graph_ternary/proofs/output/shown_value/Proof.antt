@@ -19,7 +19,9 @@ element-copy-out-result : tie.Need-element-copy-out-result
 element-copy-out-result c = rw (place-is c) (c .before .before .before .pre .inside)
 
 returns : tie.Need-returns
-returns c = ap (λ (p : ℕ). getD (now (c .before .before .before .before .args .values)) p 0) (place-is (c .before))
+returns c =
+    let start : tie.Start = search in
+    ap (λ (p : ℕ). getD (now (start .args .values)) p 0) (place-is (c .before))
 
 pub shown-value-spec : {M : Type 1} → statement M
 shown-value-spec =

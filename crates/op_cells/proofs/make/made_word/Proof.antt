@@ -1,4 +1,5 @@
--- `op_cells::make::made_word` meets its contract: the cell and the word in it are the place's quotient and remainder. Assumes nothing.
+-- `op_cells::make::made_word` meets its contract: the cell and the word in it are the place's quotient and remainder.
+-- Assumes nothing.
 use mathlib.Core.Path.{_∙_}
 use Prim.Native.Nat.{_+_, _*_, _/_, _<_}
 use denote.Ref.{now}
@@ -27,8 +28,11 @@ add-cell-word c = omega (arith, inside c)
 
 cell-word-requires : tie.Need-cell-word-requires
 cell-word-requires c κs =
-    let s = c .before .before in
-    (rw (c .gates-at .ensures) (legal-head (now (s .args .words)) (s .args .p / cellSize) (s .pre .0) (omega (arith, s .pre .1))), (inside c, omega arith))
+    let s = c .before .before in (
+      rw (c .gates-at .ensures) (legal-head (now (s .args .words)) (s .args .p / cellSize) (s .pre .0)
+          (omega (arith, s .pre .1))),
+      (inside c, omega arith),
+    )
 
 returns : tie.Need-returns
 returns c =
@@ -37,4 +41,5 @@ returns c =
     c .cell-word .ensures ∙ rw (g .gates-at .ensures) (made-word (now (a .words)) (a .p) (g .before .before .pre .1))
 
 pub made-word-spec : {M : Type 1} → statement M
-made-word-spec = tie.close (tie.spec (λ c κs. search needs) (λ c. search needs) add-cell-word cell-word-requires returns)
+made-word-spec =
+    tie.close (tie.spec (λ c κs. search needs) (λ c. search needs) add-cell-word cell-word-requires returns)

@@ -1,5 +1,5 @@
--- `op_cells::make::make_cells` meets its contract: the tests are the definition's conditions in its order, and then the words are put.
--- Assumes nothing.
+-- `op_cells::make::make_cells` meets its contract: the tests are the definition's conditions in its order, and then the
+-- words are put. Assumes nothing.
 use mathlib.Core.Path.{_≡_, ap}
 use mathlib.Core.Bool.{false, not}
 use Prim.Native.Nat.{ℕ, _*_}
@@ -44,7 +44,9 @@ behind-words : (c : tie.After-enum-told) → let a = start (words-test c) .args 
     ≡ refuseIf (not (isStraight (decode (now (a .words))))) NotStraight
     (refuseIf (ltb (length (now (a .cells))) (cellSize * getD (now (a .words)) 1 0)) NoRoom
     (done (cellsOf (decode (now (a .words)))) (cellSize * getD (now (a .words)) 1 0) 0))
-behind-words c = passed bare keeps-bare _ _ MalformedBlock (make-chain _ _) (words-test c .check-words .ensures) (c .enum-told .given .1)
+behind-words c =
+    passed bare keeps-bare _ _ MalformedBlock (make-chain _ _) (words-test c .check-words .ensures)
+    (c .enum-told .given .1)
 
 behind-straight : (c : tie.After-enum-told3) → let a = start (words-test (straight-test c .before)) .args in
     makeCells (now (a .words)) (length (now (a .cells)))
@@ -52,7 +54,8 @@ behind-straight : (c : tie.After-enum-told3) → let a = start (words-test (stra
     (done (cellsOf (decode (now (a .words)))) (cellSize * getD (now (a .words)) 1 0) 0)
 behind-straight c =
     let t = straight-test c in
-    passed bare keeps-bare _ _ NotStraight (behind-words (t .before)) (t .check-straight .ensures) (c .enum-told3 .given .1)
+    passed bare keeps-bare _ _ NotStraight (behind-words (t .before)) (t .check-straight .ensures)
+    (c .enum-told3 .given .1)
 
 -- the last test is the condition on the room
 room-told : (c : tie.After-test-room) → let a = start (words-test (straight-test (c .before .before) .before)) .args in
@@ -99,10 +102,11 @@ put-cells-requires c κs =
 
 returns-4 : tie.Need-returns-4
 returns-4 c =
-    let e = c .before .before .before .before in
+    let e : tie.After-enum-told5 = search in
     let r = room-test e in
     make-promise
-    (finished (passed bare keeps-bare _ _ NoRoom (behind-straight (r .before .before)) (room-told r) (e .enum-told5 .given .1))
+    (finished (passed bare keeps-bare _ _ NoRoom (behind-straight (r .before .before)) (room-told r)
+    (e .enum-told5 .given .1))
     (ap (λ (m : ℕ). cellSize * m) (r .before .gates-of .ensures)) (c .before .before .put-cells .ensures))
 
 pub make-cells-spec : {M : Type 1} → statement M

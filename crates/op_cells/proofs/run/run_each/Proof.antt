@@ -1,4 +1,5 @@
--- `op_cells::run::run_each` meets its contract: it fills the slice cell by cell, each from the values already there. Assumes nothing.
+-- `op_cells::run::run_each` meets its contract: it fills the slice cell by cell, each from the values already there.
+-- Assumes nothing.
 use mathlib.Core.Path.{_≡_, sym}
 use Prim.Native.Nat.{_≤_, _-_}
 use native.Mathlib.Omega.{arith}
@@ -11,7 +12,8 @@ use Rattle.op_cells.proofs.run.run_each.Statement.{statement}
 use Rattle.op_cells.proofs.run.run_each.Tie as tie
 
 abbrev Inv-loop : tie.InvT-loop
-Inv-loop inputs cells count setting values₀ j₀ values j = (j ≤ count) × Filling values₀ values (ran inputs cells setting j) j
+Inv-loop inputs cells count setting values₀ j₀ values j =
+    (j ≤ count) × Filling values₀ values (ran inputs cells setting j) j
 
 abbrev μ-loop : tie.MeasureT-loop
 μ-loop inputs cells count setting values₀ j₀ values j = count - j
@@ -24,16 +26,24 @@ slice-aggregate-cell-value c = sym (length-take-le _ (c .before .before .loop .v
 
 cell-value-requires : tie.Need-cell-value-requires Inv-loop μ-loop
 cell-value-requires c κs =
-    let s = c .before .before .before .before .before .before in
-    let t = c .before .before .loop in
-    (omega arith, record { ofSetting = s .pre .1; ofFound = found-bits _ _ _ (now (s .args .values)) (t .values) (t .j) (t .inv .1) })
+    let s : tie.Start Inv-loop μ-loop = search in
+    let t = c .before .before .loop in (
+      omega arith,
+      record {
+        ofSetting = s .pre .1;
+        ofFound = found-bits _ _ _ (now (s .args .values)) (t .values) (t .j)
+            (t .inv .1);
+      },
+    )
 
 loop-again : tie.Need-loop-again Inv-loop μ-loop
 loop-again c =
-    let a = c .before .before .before .before .before .before .before .args in
+    let start : tie.Start Inv-loop μ-loop = search in
+    let a = start .args in
     let t = c .before .before .before .loop in
     let more =
-    ran-more (a .inputs) (now (a .cells)) (now (a .setting)) (now (a .values)) (t .values) (t .j) (c .cell-value .result) (t .inv .1)
+    ran-more (a .inputs) (now (a .cells)) (now (a .setting)) (now (a .values)) (t .values) (t .j)
+    (c .cell-value .result) (t .inv .1)
     (c .cell-value .ensures) in
     (omega arith, filling-more (t .inv .1) (omega arith) _ more)
 
@@ -42,7 +52,7 @@ same-length c = c .before .loop .inv .1 .kept
 
 returns : tie.Need-returns Inv-loop μ-loop
 returns c =
-    let s = c .before .before .before .before .before in
+    let s : tie.Start Inv-loop μ-loop = search in
     let a = s .args in
     let e : c .before .loop .j ≡ cellCount (now (a .cells)) = omega arith in
     rw (← ran-all (a .inputs) (now (a .cells)) (now (a .setting)), ← e) (c .before .loop .inv .1 .holds)

@@ -7,4 +7,5 @@ returns : tie.Need-returns
 returns c = rw (← c .before .word-at .ensures) (c .operand-bit .ensures)
 
 pub bit-at-spec : {M : Type 1} → statement M
-bit-at-spec = tie.close (tie.spec (λ c. search needs) (λ c κs. search needs) (λ c κs. search needs) (λ c. search needs) returns)
+bit-at-spec =
+    tie.close (tie.spec (λ c. search needs) (λ c κs. search needs) (λ c κs. search needs) (λ c. search needs) returns)

@@ -1,5 +1,5 @@
--- `op_cells::value::cell_value` meets its contract: the four bits are the digits of the place in the truth word (`cell-value-is`).
--- Assumes nothing.
+-- `op_cells::value::cell_value` meets its contract: the four bits are the digits of the place in the truth word
+-- (`cell-value-is`). Assumes nothing.
 use mathlib.Core.Path.{_≡_}
 use mathlib.Core.List.{List}
 use Prim.Native.Nat.{ℕ, _≤_}
@@ -15,7 +15,9 @@ use Rattle.op_cells.proofs.value.cell_value.Statement.{statement}
 use Rattle.op_cells.proofs.value.cell_value.Tie as tie
 
 abbrev start : tie.After-bit-at → tie.Start
-start c = c .before .before .before .before
+start c =
+    let back = c .before .before .before in
+    back .before
 
 few : {r : ℕ} (setting found : List ℕ) (o : Operand) → ReadsBits setting found → r ≡ operandBit setting found o → r ≤ 1
 few setting found o h e = rw e (operand-most setting found (h .ofSetting) (h .ofFound) o)
@@ -59,7 +61,8 @@ returns : tie.Need-returns
 returns c =
     let o = c .before in
     let a = start (o .before .before .before) .args in
-    cell-value-is (a .n) (now (a .cells)) (a .at) (now (a .setting)) (now (a .found)) (o .before .before .before .bit-at .ensures)
+    cell-value-is (a .n) (now (a .cells)) (a .at) (now (a .setting)) (now (a .found))
+    (o .before .before .before .bit-at .ensures)
     (o .before .before .bit-at2 .ensures) (o .before .bit-at3 .ensures) (o .bit-at4 .ensures) (c .word-at .ensures)
 
 pub cell-value-spec : {M : Type 1} → statement M

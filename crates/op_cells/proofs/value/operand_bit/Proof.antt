@@ -9,23 +9,29 @@ use Rattle.op_cells.proofs.value.operand_bit.Tie as tie
 
 returns : tie.Need-returns
 returns c =
-    let a = c .before .before .before .before .args in
+    let start : tie.Start = search in
+    let a = start .args in
     c .byte-at .ensures ∙ sym (input-bit (a .n) (now (a .setting)) (now (a .found)) (a .word) (omega arith))
 
 returns-2 : tie.Need-returns-2
 returns-2 c =
-    let a = c .before .before .before .before .args in
+    let start : tie.Start = search in
+    let a = start .args in
     sym (zero-bit (a .n) (now (a .setting)) (now (a .found)) (a .word) (omega arith) (c .match .keys1))
 
 returns-3 : tie.Need-returns-3
 returns-3 c =
-    let a = c .before .before .before .before .args in
+    let start : tie.Start = search in
+    let a = start .args in
     sym (one-bit (a .n) (now (a .setting)) (now (a .found)) (a .word) (omega arith) (c .match .keys2))
 
 returns-4 : tie.Need-returns-4
 returns-4 c =
-    let a = c .before .before .before .before .before .args in
-    c .byte-at2 .ensures ∙ sym (cell-bit (a .n) (now (a .setting)) (now (a .found)) (a .word) (omega arith) (omega arith) (omega arith))
+    let start : tie.Start = search in
+    let a = start .args in
+    c .byte-at2 .ensures ∙ sym (cell-bit (a .n) (now (a .setting)) (now (a .found)) (a .word) (omega arith)
+    (omega arith) (omega arith))
 
 pub operand-bit-spec : {M : Type 1} → statement M
-operand-bit-spec = tie.close (tie.spec (λ c κs. search needs) returns (λ c κs. search needs) returns-2 returns-3 returns-4)
+operand-bit-spec =
+    tie.close (tie.spec (λ c κs. search needs) returns (λ c κs. search needs) returns-2 returns-3 returns-4)

@@ -5,8 +5,8 @@ use Prim.Native.Nat.{_≤_, _+_, _-_, _*_}
 use native.Mathlib.Omega.{arith}
 use borrow.Author.Needs.{needs}
 use Rattle.prelude.specs.Lists.{all, upTo}
-use Rattle.words_block.proofs.TestLaws.{passes, fails, passed}
-use Rattle.words_block.proofs.NameLaws.{place-le}
+use Rattle.prelude.proofs.Tested.{passes, fails, passed}
+use Rattle.words_names.proofs.NameLaws.{place-le}
 use Rattle.op_compare.specs.Names.{sameNameAt}
 use Rattle.op_compare.proofs.interface.are_same.Statement.{statement}
 use Rattle.op_compare.proofs.interface.are_same.Tie as tie

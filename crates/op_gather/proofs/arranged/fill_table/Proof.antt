@@ -11,15 +11,18 @@ use Rattle.op_gather.proofs.arranged.fill_table.Statement.{statement}
 use Rattle.op_gather.proofs.arranged.fill_table.Tie as tie
 
 abbrev Inv-loop : tie.InvT-loop
-Inv-loop nodes numbers table₀ j₀ table j = (j ≤ nodes .gates) × Filling table₀ table (tab (newWord (nodes .inputs) numbers) j) j
+Inv-loop nodes numbers table₀ j₀ table j =
+    (j ≤ nodes .gates) × Filling table₀ table (tab (newWord (nodes .inputs) numbers) j) j
 
 abbrev μ-loop : tie.MeasureT-loop
 μ-loop nodes numbers table₀ j₀ table j = nodes .gates - j
 
 -- a new number is a gate's
-number-below : (c : tie.Then1 Inv-loop μ-loop) → getD (c .before .before .before .args .numbers .now) (c .before .before .loop .j) 0
-    < c .before .before .before .args .nodes .gates
-number-below c = c .before .before .before .pre .1 .inside (c .before .before .loop .j) (c .if1 .taken)
+number-below : (c : tie.Then1 Inv-loop μ-loop) → let a = c .before .before .before .args in
+    getD (a .numbers .now) (c .before .before .loop .j) 0 < a .nodes .gates
+number-below c =
+    let start : tie.Start Inv-loop μ-loop = search in
+    start .pre .1 .inside (c .before .before .loop .j) (c .if1 .taken)
 
 loop-holds : tie.Need-loop-holds Inv-loop μ-loop
 loop-holds c = (omega arith, filling-none _)
@@ -35,7 +38,9 @@ cast-table-2 c = omega (arith, number-below (c .before .before))
 
 loop-again : tie.Need-loop-again Inv-loop μ-loop
 unfolding newWord
-loop-again c = (omega arith, filling-more (c .before .before .before .before .loop .inv .1) (omega arith) _ (rw add-one refl))
+loop-again c =
+    let head : tie.At-loop Inv-loop μ-loop = search in
+    (omega arith, filling-more (head .loop .inv .1) (omega arith) _ (rw add-one refl))
 
 same-length : tie.Need-same-length Inv-loop μ-loop
 same-length c = c .before .before .loop .inv .1 .kept

@@ -12,7 +12,8 @@ use Rattle.op_gather.proofs.arranged.move_gates.Tie as tie
 
 abbrev Inv-loop : tie.InvT-loop
 Inv-loop words nodes order table out₀ t₀ out t =
-    (t ≤ nodes .gates) × (out ≡ sets out₀ (nodes .start) (joined (tab (movedAt words nodes order table) t))) × (length out ≡ length out₀)
+    (t ≤ nodes .gates) × (out ≡ sets out₀ (nodes .start) (joined (tab (movedAt words nodes order table) t)))
+    × (length out ≡ length out₀)
 
 abbrev μ-loop : tie.MeasureT-loop
 μ-loop words nodes order table out₀ t₀ out t = nodes .gates - t
@@ -25,18 +26,20 @@ cast-write-gate c = omega (arith, c .shared-slice-known4 .given (c .before .befo
 
 write-gate-requires : tie.Need-write-gate-requires Inv-loop μ-loop
 write-gate-requires c κs =
-    let at-loop = c .before .before .before .before in
-    let at-start = at-loop .before .before .before .before .before in
+    let at-loop : tie.At-loop Inv-loop μ-loop = search in
+    let at-start : tie.Start Inv-loop μ-loop = search in
     (at-start .pre .0 .inside (at-loop .loop .t) (omega arith), omega arith)
 
 loop-again : tie.Need-loop-again Inv-loop μ-loop
 loop-again c =
+    let start : tie.Start Inv-loop μ-loop = search in
     let g = c .before .before .write-gate in
-    let at-loop = c .before .before .before .before .before .before .before in
-    let a = at-loop .before .before .before .before .before .args in
+    let at-loop : tie.At-loop Inv-loop μ-loop = search in
+    let a = start .args in
     let l = at-loop .loop in (
       omega arith,
-      moved-next (a .words .now) (a .nodes) (a .order .now) (a .table .now) (a .out .now) (l .out) _ (l .t) (l .inv .1) (g .ensures),
+      moved-next (a .words .now) (a .nodes) (a .order .now) (a .table .now) (a .out .now) (l .out) _ (l .t) (l .inv .1)
+          (g .ensures),
       g .kept .1 .1 .1 .1 .1 .0 ∙ l .inv .2,
     )
 
@@ -46,7 +49,7 @@ same-length c = c .before .before .loop .inv .2
 returns : tie.Need-returns Inv-loop μ-loop
 returns c =
     let l = c .before .before in
-    let s = l .before .before .before .before .before in
+    let s : tie.Start Inv-loop μ-loop = search in
     let all : l .loop .t ≡ s .args .nodes .gates = omega arith in
     rw all at (l .loop .inv .1)
 

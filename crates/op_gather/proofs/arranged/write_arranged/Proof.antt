@@ -1,5 +1,5 @@
--- `op_gather::arranged::write_arranged` meets its contract: the front as it is, the gates in the order listed, and the outputs, one after the other,
--- are the encoding of the arranged block. Assumes nothing.
+-- `op_gather::arranged::write_arranged` meets its contract: the front as it is, the gates in the order listed, and the
+-- outputs, one after the other, are the encoding of the arranged block. Assumes nothing.
 use native.Mathlib.Omega.{arith}
 use Rattle.op_gather.proofs.Written.{ordered-as, Sizes, sizes, arranged-written}
 use borrow.Author.Needs.{needs}
@@ -8,16 +8,24 @@ use Rattle.op_gather.proofs.arranged.write_arranged.Tie as tie
 
 -- the function's entry, and the calls one before the other
 abbrev start : tie.After-nodes-of → tie.Start
-start c = c .before .before .before .before .before .before
+start c =
+    let back = c .before .before .before in
+    back .before .before .before
 
 abbrev placing : tie.After-fill-table → tie.After-nodes-of
-placing c = c .before .before .before .before
+placing c =
+    let back = c .before .before .before in
+    back .before
 
 abbrev filling : tie.After-copy-words → tie.After-fill-table
-filling c = c .before .before .before .before
+filling c =
+    let back = c .before .before .before in
+    back .before
 
 abbrev fronting : tie.After-move-gates → tie.After-copy-words
-fronting c = c .before .before .before .before .before
+fronting c =
+    let back = c .before .before .before in
+    back .before .before
 
 abbrev moving : tie.After-outputs-of → tie.After-move-gates
 moving c = c .before .before .before
@@ -34,8 +42,11 @@ add-outputs c = omega (arith, known (c .before .before))
 
 fill-table-requires : tie.Need-fill-table-requires
 fill-table-requires c κs =
-    let p = c .before .before .before in
-    (omega (arith, known p), ordered-as (known p .gatesAre) (start p .pre .numbered), omega (arith, known p, start p .pre .tableRoom))
+    let p = c .before .before .before in (
+      omega (arith, known p),
+      ordered-as (known p .gatesAre) (start p .pre .numbered),
+      omega (arith, known p, start p .pre .tableRoom),
+    )
 
 copy-words-requires : tie.Need-copy-words-requires
 copy-words-requires c κs =
@@ -44,7 +55,7 @@ copy-words-requires c κs =
 
 move-gates-requires : tie.Need-move-gates-requires
 move-gates-requires c κs =
-    let w = c .before .before .before .before in
+    let w : tie.After-copy-words = search in
     let p = placing (filling w) in (
       ordered-as (known p .gatesAre) (start p .pre .gates),
       omega (
@@ -80,8 +91,10 @@ returns c =
     let w = fronting (moving o) in
     let p = placing (filling w) in
     let s = start p in
-    arranged-written (s .args .words .now) (s .pre .whole) (s .args .order .now) (s .args .numbers .now) (s .args .table .now) _ (s .args .out .now)
-    (s .pre .gates) (s .pre .room) _ _ _ _ _ (p .nodes-of .ensures) (o .outputs-of .ensures) (filling w .fill-table .ensures)
+    arranged-written (s .args .words .now) (s .pre .whole) (s .args .order .now) (s .args .numbers .now)
+    (s .args .table .now) _ (s .args .out .now)
+    (s .pre .gates) (s .pre .room) _ _ _ _ _ (p .nodes-of .ensures) (o .outputs-of .ensures)
+    (filling w .fill-table .ensures)
     (w .copy-words .ensures) (moving o .move-gates .ensures) (out .copy-outputs .ensures)
 
 pub write-arranged-spec : {M : Type 1} → statement M

@@ -1,4 +1,5 @@
--- `op_gather::places::find_places` meets its contract: a list of another length is none, and before the walk nothing is marked. Assumes nothing.
+-- `op_gather::places::find_places` meets its contract: a list of another length is none, and before the walk nothing is
+-- marked. Assumes nothing.
 use Rattle.op_gather.proofs.Marks.{places-length, marked-none}
 use borrow.Author.Needs.{needs}
 use Rattle.op_gather.proofs.places.find_places.Statement.{statement}
@@ -12,7 +13,12 @@ mark-places-requires c κs =
     let fill = c .before .before .before in
     let else = fill .before .before in
     let s = else .before .before .before in
-    record { few = s .pre .0; lengthIs = else .if1 .left; none = rw (fill .fill-words .ensures) (marked-none _ _ (s .args .places .now)) }
+    record {
+      few = s .pre .0;
+      lengthIs = else .if1 .left;
+      none = rw (fill .fill-words .ensures)
+          (marked-none _ _ (s .args .places .now));
+    }
 
 pub find-places-spec : {M : Type 1} → statement M
 find-places-spec =

@@ -1,5 +1,5 @@
--- `op_gather::places::mark_places` meets its contract: the first t numbers are marked, each at its place, and a number that is not below m or is
--- marked already is not in a list of each once. Assumes nothing.
+-- `op_gather::places::mark_places` meets its contract: the first t numbers are marked, each at its place, and a number
+-- that is not below m or is marked already is not in a list of each once. Assumes nothing.
 use Prim.Native.Nat.{_-_, _≤_}
 use mathlib.Core.Path.{_≡_, refl, _∙_}
 use native.Mathlib.Omega.{arith}
@@ -31,11 +31,13 @@ returns c =
 
 cast-if2 : tie.Need-cast-if2 Inv-loop μ-loop
 cast-if2 c =
-    let at-loop = c .before .before .before .before in
+    let at-loop : tie.At-loop Inv-loop μ-loop = search in
     omega (arith, c .slice-known .given (getD (at-loop .before .args .order .now) (at-loop .loop .t) 0))
 
 same-length-2 : tie.Need-same-length-2 Inv-loop μ-loop
-same-length-2 c = c .before .before .before .before .before .loop .inv .2
+same-length-2 c =
+    let head : tie.At-loop Inv-loop μ-loop = search in
+    head .loop .inv .2
 
 returns-2 : tie.Need-returns-2 Inv-loop μ-loop
 returns-2 c =
@@ -48,7 +50,8 @@ loop-again c =
     let e = c .before .before in
     let l = e .before .before .before .loop in (
       omega arith,
-      marked-next _ _ (l .t) (l .places) (l .inv .1) (e .before .before .loop-test .taken) (e .if1 .left) (c .if2 .left),
+      marked-next _ _ (l .t) (l .places) (l .inv .1) (e .before .before .loop-test .taken) (e .if1 .left)
+          (c .if2 .left),
       length-set (l .places) _ _ ∙ l .inv .2,
     )
 

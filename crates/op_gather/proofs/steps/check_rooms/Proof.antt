@@ -11,7 +11,8 @@ unfolding testOf
 returns c = let a = c .before .args in rw (lt-ltb (a .room) (a .needed) (c .if1 .taken)) refl
 
 returns-2 : tie.Need-returns-2
-returns-2 c = let a = c .before .before .args in rw (le-ltb (a .room) (a .needed) (c .before .if1 .left)) (c .test-room .ensures)
+returns-2 c =
+    let a = c .before .before .args in rw (le-ltb (a .room) (a .needed) (c .before .if1 .left)) (c .test-room .ensures)
 
 pub check-rooms-spec : {M : Type 1} → statement M
 check-rooms-spec = tie.close (tie.spec returns (λ c κs. search needs) returns-2)

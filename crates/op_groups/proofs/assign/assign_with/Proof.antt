@@ -8,7 +8,7 @@ number-groups-requires : tie.Need-number-groups-requires
 number-groups-requires c κs =
     let counted = c .before .before in
     let decoded = counted .before in
-    let s = decoded .before .before .before .before in
+    let s : tie.Start = search in
     (rw (counted .gates-of .ensures) (decoded .decode-gates .ensures .legal), s .pre .1 .1)
 
 returns : tie.Need-returns
@@ -17,7 +17,8 @@ returns c =
     let numbered = copied .before .before .before in
     let counted = numbered .before .before .before in
     let is = counted .gates-of .ensures in
-    block-numbered (counted .before .decode-gates .ensures) (rw is at (numbered .number-groups .ensures)) (rw is at (copied .copy-numbers .ensures))
+    block-numbered (counted .before .decode-gates .ensures) (rw is at (numbered .number-groups .ensures))
+    (rw is at (copied .copy-numbers .ensures))
 
 pub assign-with-spec : {M : Type 1} → statement M
 assign-with-spec =

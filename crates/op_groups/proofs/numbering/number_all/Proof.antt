@@ -13,7 +13,8 @@ use Rattle.op_groups.proofs.numbering.number_all.Tie as tie
 
 abbrev Inv-loop : tie.InvT-loop
 Inv-loop graph m leaders nexts fanout numbers₀ counts₀ ready₀ g₀ numbers counts ready g =
-    (g ≤ length (groups (network m graph))) × NumberedUpTo m graph g numbers × Waiting m leaders numbers m (allOpen graph leaders numbers) counts ready
+    (g ≤ length (groups (network m graph))) × NumberedUpTo m graph g numbers
+    × Waiting m leaders numbers m (allOpen graph leaders numbers) counts ready
 
 abbrev μ-loop : tie.MeasureT-loop
 μ-loop graph m leaders nexts fanout numbers₀ counts₀ ready₀ g₀ numbers counts ready g = m - g
@@ -27,12 +28,13 @@ lowest-requires c κs = omega (arith, c .before .before .before .loop .inv .2 .r
 returns : tie.Need-returns Inv-loop μ-loop
 returns c =
     let found = c .before in
-    let turn = found .before .before .before .before in
+    let turn : tie.At-loop Inv-loop μ-loop = search in
     let s = turn .before in
     let l = turn .loop in
     let r = s .pre .linked .prepared in
     numbers-end r (l .inv .1)
-    (turn-last r (l .g) (l .inv .1) (s .args .m) (none-next r (l .inv .2) (found .lowest .ensures) (c .if1 .taken)) (l .inv .0) (omega arith))
+    (turn-last r (l .g) (l .inv .1) (s .args .m) (none-next r (l .inv .2) (found .lowest .ensures) (c .if1 .taken))
+    (l .inv .0) (omega arith))
 
 number-group-requires : tie.Need-number-group-requires Inv-loop μ-loop
 number-group-requires c κs =
@@ -50,24 +52,28 @@ number-group-requires c κs =
       below = chosen .if1 .left;
       numberFits = omega (arith, test .loop-test .taken, r .legal .few);
       room = l .inv .1 .room;
-      bare = turn-bare r (l .g) (l .inv .1) (found .lowest .result) next (chosen .if1 .left) (l .inv .2 .sound (found .lowest .result) in-set .bare);
+      bare =
+          turn-bare r (l .g) (l .inv .1) (found .lowest .result) next (chosen .if1 .left)
+          (l .inv .2 .sound (found .lowest .result) in-set .bare);
       chosen = in-set;
       waiting = l .inv .2;
     }
 
 add-g : tie.Need-add-g Inv-loop μ-loop
 add-g c =
-    let test = c .before .before .before .before .before .before .before .before in
+    let test : tie.In-loop Inv-loop μ-loop = search in
     omega (arith, test .loop-test .taken, test .before .before .pre .linked .prepared .legal .few)
 
 loop-less : tie.Need-loop-less Inv-loop μ-loop
-loop-less c = omega (arith, c .before .before .before .before .before .before .before .before .loop-test .taken)
+loop-less c =
+    let turn : tie.In-loop Inv-loop μ-loop = search in
+    omega (arith, turn .loop-test .taken)
 
 loop-again : tie.Need-loop-again Inv-loop μ-loop
 loop-again c =
-    let chosen = c .before .before .before .before in
+    let chosen : tie.Else1 Inv-loop μ-loop = search in
     let found = chosen .before in
-    let turn = found .before .before .before .before in
+    let turn : tie.At-loop Inv-loop μ-loop = search in
     let s = turn .before in
     let l = turn .loop in
     let r = s .pre .linked .prepared in

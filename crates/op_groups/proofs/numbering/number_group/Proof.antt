@@ -1,4 +1,5 @@
--- `op_groups::numbering::number_group` meets its contract: the gates of the group below the next one have the number. Assumes nothing.
+-- `op_groups::numbering::number_group` meets its contract: the gates of the group below the next one have the number.
+-- Assumes nothing.
 use Prim.Native.Nat.{_-_}
 use native.Mathlib.Omega.{arith}
 use borrow.Author.Needs.{needs}
@@ -20,7 +21,9 @@ start c =
     turn .before .before .before
 
 abbrev woken : tie.After-wake Inv-loop μ-loop → tie.After-struct-known2 Inv-loop μ-loop
-woken c = c .before .before .before .before
+woken c =
+    let back = c .before .before .before in
+    back .before
 
 remove-requires : tie.Need-remove-requires Inv-loop μ-loop
 remove-requires c κs =
@@ -45,8 +48,9 @@ element-write-numbers c = omega (arith, c .before .if1 .taken, start c .pre .lin
 
 wake-requires : tie.Need-wake-requires Inv-loop μ-loop
 wake-requires c κs =
+    let head : tie.At-loop Inv-loop μ-loop = search in
     let test = c .before .before .before in
-    group-wake (start test .pre) (test .before .before .before .loop .inv) (test .before .if1 .taken)
+    group-wake (start test .pre) (head .loop .inv) (test .before .if1 .taken)
 
 word-of-requires : tie.Need-word-of-requires Inv-loop μ-loop
 word-of-requires c κs =
@@ -55,14 +59,17 @@ word-of-requires c κs =
 
 loop-less : tie.Need-loop-less Inv-loop μ-loop
 loop-less c =
+    let head : tie.At-loop Inv-loop μ-loop = search in
     let test = woken (c .before) in
-    let up = group-above (start test .pre) (test .before .before .before .loop .inv) (test .before .if1 .taken) (c .word-of .ensures) in
+    let up = group-above (start test .pre) (head .loop .inv) (test .before .if1 .taken) (c .word-of .ensures) in
     omega (arith, test .before .if1 .taken)
 
 loop-again : tie.Need-loop-again Inv-loop μ-loop
 loop-again c =
+    let head : tie.At-loop Inv-loop μ-loop = search in
     let test = woken (c .before) in
-    group-next (start test .pre) (test .before .before .before .loop .inv) (test .before .if1 .taken) (c .word-of .ensures) (c .before .wake .ensures)
+    group-next (start test .pre) (head .loop .inv) (test .before .if1 .taken) (c .word-of .ensures)
+    (c .before .wake .ensures)
 
 returns : tie.Need-returns Inv-loop μ-loop
 returns c =

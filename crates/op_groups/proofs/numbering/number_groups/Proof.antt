@@ -1,4 +1,5 @@
--- `op_groups::numbering::number_groups` meets its contract: every array has room for the 1,024 gates that a graph may have. Assumes nothing.
+-- `op_groups::numbering::number_groups` meets its contract: every array has room for the 1,024 gates that a graph may
+-- have. Assumes nothing.
 use mathlib.Core.Path.{refl}
 use borrow.Author.Needs.{needs}
 use Rattle.op_groups.proofs.Sets.{zeros, set-empty}
@@ -7,7 +8,7 @@ use Rattle.op_groups.proofs.numbering.number_groups.Tie as tie
 
 number-with-requires : tie.Need-number-with-requires
 number-with-requires c κs =
-    let s = c .before .before .before .before .before .before in
+    let s : tie.Start = search in
     record {
       legal = s .pre .0;
       leaderRoom = refl;

@@ -20,28 +20,33 @@ loop-holds c = (omega arith, λ i l. absurd (omega arith))
 
 add-result : tie.Need-add-result Inv-loop μ-loop
 add-result c =
-    let s = c .before .before .before .before .before .before in
+    let head : tie.At-loop Inv-loop μ-loop = search in
+    let s : tie.Start Inv-loop μ-loop = search in
     omega (
       arith,
       c .lowest-lane .ensures,
-      least-le (hasLane (getD (s .args .ready .now) (c .before .before .before .before .loop .at) 0)) 64,
-      c .before .before .before .before .loop .inv .0,
+      least-le (hasLane (getD (s .args .ready .now) (head .loop .at) 0)) 64,
+      head .loop .inv .0,
       s .pre,
     )
 
 returns : tie.Need-returns Inv-loop μ-loop
 returns c =
-    let s = c .before .before .before .before .before .before in
-    let l = c .before .before .before .before .loop in
+    let head : tie.At-loop Inv-loop μ-loop = search in
+    let s : tie.Start Inv-loop μ-loop = search in
+    let l = head .loop in
     rw (c .lowest-lane .ensures)
-    (word-lowest (s .args .ready .now) (l .at) (l .inv .1) (omega (arith, c .before .before .shared-slice-known2 .given (l .at))) (c .before .if1 .taken)
+    (word-lowest (s .args .ready .now) (l .at) (l .inv .1)
+    (omega (arith, c .before .before .shared-slice-known2 .given (l .at))) (c .before .if1 .taken)
     (c .before .before .before .loop-test .taken))
 
 loop-again : tie.Need-loop-again Inv-loop μ-loop
 loop-again c =
-    let s = c .before .before .before .before .before in
-    let l = c .before .before .before .loop in
-    (omega (arith, c .before .before .loop-test .taken), empty-word (s .args .ready .now) (l .at) (l .inv .1) (c .if1 .left))
+    let s : tie.Start Inv-loop μ-loop = search in
+    let l = c .before .before .before .loop in (
+      omega (arith, c .before .before .loop-test .taken),
+      empty-word (s .args .ready .now) (l .at) (l .inv .1) (c .if1 .left),
+    )
 
 returns-2 : tie.Need-returns-2 Inv-loop μ-loop
 returns-2 c =

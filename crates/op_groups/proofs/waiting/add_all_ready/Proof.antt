@@ -17,7 +17,9 @@ loop-holds : tie.Need-loop-holds Inv-loop μ-loop
 loop-holds c = (omega arith, c .pre .0)
 
 add-ready-requires : tie.Need-add-ready-requires Inv-loop μ-loop
-add-ready-requires c κs = (c .before .before .loop .inv .1, omega (arith, c .before .before .before .pre .1, c .before .loop-test .taken))
+add-ready-requires c κs =
+    let start : tie.Start Inv-loop μ-loop = search in
+    (c .before .before .loop .inv .1, omega (arith, start .pre .1, c .before .loop-test .taken))
 
 loop-again : tie.Need-loop-again Inv-loop μ-loop
 loop-again c = (omega arith, c .add-ready .ensures)

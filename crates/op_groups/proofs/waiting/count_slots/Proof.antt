@@ -24,7 +24,9 @@ count-slot-requires : tie.Need-count-slot-requires Inv-loop μ-loop
 count-slot-requires c κs = (c .before .before .loop .inv .1, c .before .loop-test .taken)
 
 add-e : tie.Need-add-e Inv-loop μ-loop
-add-e c = omega (arith, c .before .before .loop-test .taken, c .before .before .before .loop .inv .1 .prepared .legal .few)
+add-e c =
+    let head : tie.At-loop Inv-loop μ-loop = search in
+    omega (arith, c .before .before .loop-test .taken, head .loop .inv .1 .prepared .legal .few)
 
 loop-again : tie.Need-loop-again Inv-loop μ-loop
 loop-again c = (omega (arith, c .before .before .loop-test .taken), c .count-slot .ensures)

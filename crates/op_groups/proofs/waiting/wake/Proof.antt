@@ -5,13 +5,15 @@ use native.Mathlib.Omega.{arith}
 use borrow.Author.Needs.{needs}
 use lib.ListN.{getD}
 use Rattle.op_groups.specs.Waiting.{isOpen, Waiting}
-use Rattle.op_groups.proofs.Counted.{waiting-as, held-end, Waking, waking-first, waking-reads, waking-next, waking-down}
+use Rattle.op_groups.proofs.Counted.{waiting-as, held-end, Waking, waking-first, waking-reads, waking-next}
+use Rattle.op_groups.proofs.Counted.{waking-down}
 use Rattle.op_groups.proofs.waiting.wake.Statement.{statement}
 use Rattle.op_groups.proofs.waiting.wake.Tie as tie
 
 abbrev Inv-loop : tie.InvT-loop
 Inv-loop graph m k leaders numbers fanout counts₀ ready₀ at₀ counts ready at =
-    Waking m graph k fanout at × Waiting m leaders numbers (getD leaders k 0) (isOpen graph leaders numbers k at) counts ready
+    Waking m graph k fanout at × Waiting m leaders numbers (getD leaders k 0) (isOpen graph leaders numbers k at) counts
+    ready
 
 abbrev μ-loop : tie.MeasureT-loop
 μ-loop graph m k leaders numbers fanout counts₀ ready₀ at₀ counts ready at = at
@@ -22,7 +24,10 @@ fanout-word-requires c κs = omega (arith, c .pre .below, c .pre .prepared .lega
 loop-holds : tie.Need-loop-holds Inv-loop μ-loop
 loop-holds c =
     let s = c .before in
-    rw (c .fanout-word .ensures) (waking-first (s .pre .linked) (s .pre .below) (s .pre .prepared .legal .few), s .pre .waiting)
+    rw (c .fanout-word .ensures) (
+      waking-first (s .pre .linked) (s .pre .below) (s .pre .prepared .legal .few),
+      s .pre .waiting,
+    )
 
 wake-slot-requires : tie.Need-wake-slot-requires Inv-loop μ-loop
 wake-slot-requires c κs =
@@ -42,30 +47,34 @@ wake-slot-requires c κs =
 
 add-fanout-word : tie.Need-add-fanout-word Inv-loop μ-loop
 add-fanout-word c =
-    let turn = c .before .before .before .before in
-    omega (arith, turn .loop .inv .0 .within, turn .before .before .pre .prepared .legal .few)
+    let head : tie.At-loop Inv-loop μ-loop = search in
+    omega (arith, head .loop .inv .0 .within, head .before .before .pre .prepared .legal .few)
 
 fanout-word-requires-2 : tie.Need-fanout-word-requires-2 Inv-loop μ-loop
 fanout-word-requires-2 c κs =
-    let turn = c .before .before .before .before in
-    omega (arith, turn .loop .inv .0 .within, turn .before .before .pre .prepared .legal .few, c .before .before .before .loop-test .taken)
+    let turn : tie.In-loop Inv-loop μ-loop = search in
+    let head = turn .before in
+    omega (arith, head .loop .inv .0 .within, head .before .before .pre .prepared .legal .few, turn .loop-test .taken)
 
 loop-less : tie.Need-loop-less Inv-loop μ-loop
 loop-less c =
-    let turn = c .before .before .before .before .before in
-    let s = turn .before .before in
-    omega (arith, c .fanout-word2 .ensures, s .pre .linked .descends (turn .loop .at - 1), c .before .before .before .before .loop-test .taken)
+    let turn : tie.In-loop Inv-loop μ-loop = search in
+    let head = turn .before in
+    let s = head .before .before in
+    omega (arith, c .fanout-word2 .ensures, s .pre .linked .descends (head .loop .at - 1), turn .loop-test .taken)
 
 loop-again : tie.Need-loop-again Inv-loop μ-loop
 loop-again c =
-    let turn = c .before .before .before .before .before in
-    let s = turn .before .before in
-    let l = turn .loop in
-    let up : l .at ≡ suc (l .at - 1) = omega (arith, c .before .before .before .before .loop-test .taken) in
+    let turn : tie.In-loop Inv-loop μ-loop = search in
+    let head = turn .before in
+    let s = head .before .before in
+    let l = head .loop in
+    let up : l .at ≡ suc (l .at - 1) = omega (arith, turn .loop-test .taken) in
     let few = s .pre .prepared .legal .few in
     rw (c .fanout-word2 .ensures) (
       waking-next (s .pre .linked) (s .pre .below) few (rw up at (l .inv .0)),
-      waking-down (s .pre .linked) (s .pre .below) few (rw up at (l .inv .0)) (s .pre .numbered) (c .before .wake-slot .ensures),
+      waking-down (s .pre .linked) (s .pre .below) few (rw up at (l .inv .0)) (s .pre .numbered)
+          (c .before .wake-slot .ensures),
     )
 
 returns : tie.Need-returns Inv-loop μ-loop

@@ -1,4 +1,5 @@
--- `op_groups::waiting::wake_slot` meets its contract: the group of another gate counts one slot less, and is ready when none is left. Assumes nothing.
+-- `op_groups::waiting::wake_slot` meets its contract: the group of another gate counts one slot less, and is ready when
+-- none is left. Assumes nothing.
 use mathlib.Core.Path.{sym, _∙_}
 use native.Mathlib.Omega.{arith}
 use borrow.Author.Needs.{needs}
@@ -22,19 +23,28 @@ sub-left c =
     let apart = c .before .before in
     let led = apart .before .before in
     let s = led .before in
-    omega (arith, c .word-of3 .ensures, slot-some (s .pre) (led .word-of .ensures) (λ q. apart .if1 .left (apart .before .word-of2 .ensures ∙ q)))
+    omega (
+      arith,
+      c .word-of3 .ensures,
+      slot-some (s .pre) (led .word-of .ensures) (λ q. apart .if1 .left (apart .before .word-of2 .ensures ∙ q)),
+    )
 
 element-write-counts : tie.Need-element-write-counts
 element-write-counts c =
-    let led = c .before .before .before .before in
+    let led : tie.After-word-of = search in
     let s = led .before in
     omega (arith, leader-below (s .pre) (led .word-of .ensures), s .pre .prepared .legal .few)
 
 add-requires : tie.Need-add-requires
 add-requires c κs =
-    let led = c .before .before .before .before .before .before in
+    let led : tie.After-word-of = search in
     let s = led .before in
-    omega (arith, leader-below (s .pre) (led .word-of .ensures), s .pre .prepared .legal .few, s .pre .waiting .readyRoom)
+    omega (
+      arith,
+      leader-below (s .pre) (led .word-of .ensures),
+      s .pre .prepared .legal .few,
+      s .pre .waiting .readyRoom,
+    )
 
 returns-2 : tie.Need-returns-2
 returns-2 c =
@@ -44,7 +54,8 @@ returns-2 c =
     let s = led .before in
     let read = none .before .word-of3 .ensures in
     rw read
-    (slot-ready (s .pre) (led .word-of .ensures) (λ q. apart .if1 .left (apart .before .word-of2 .ensures ∙ q)) (rw (← read) (none .if2 .taken))
+    (slot-ready (s .pre) (led .word-of .ensures) (λ q. apart .if1 .left (apart .before .word-of2 .ensures ∙ q))
+    (rw (← read) (none .if2 .taken))
     (c .add .kept .1 .0) (c .add .ensures))
 
 returns-3 : tie.Need-returns-3
@@ -53,7 +64,8 @@ returns-3 c =
     let led = apart .before .before in
     let s = led .before in
     let read = c .before .word-of3 .ensures in
-    rw read (slot-stays (s .pre) (led .word-of .ensures) (λ q. apart .if1 .left (apart .before .word-of2 .ensures ∙ q)) (rw (← read) (c .if2 .left)))
+    rw read (slot-stays (s .pre) (led .word-of .ensures) (λ q. apart .if1 .left (apart .before .word-of2 .ensures ∙ q))
+    (rw (← read) (c .if2 .left)))
 
 pub wake-slot-spec : {M : Type 1} → statement M
 wake-slot-spec =

@@ -1,4 +1,5 @@
--- `crate::sweep::sweep_gates` meets its contract: each gate is evaluated from the values already there. Assumes nothing.
+-- `op_pass::sweep::sweep_gates` meets its contract: each gate is evaluated from the values already there. Assumes
+-- nothing.
 use Prim.Native.Nat.{_-_, _≤_}
 use native.Mathlib.Omega.{arith}
 use Rattle.graph_ternary.proofs.State.{legal-gate}
@@ -22,12 +23,17 @@ gate-value-requires c κs =
     (s .pre .0, (legal-gate (s .pre .1) (l .loop .j) (c .before .loop-test .taken), l .loop .inv .1 .coded))
 
 element-write-values : tie.Need-element-write-values Inv-loop μ-loop
-element-write-values c = omega (arith, c .before .before .before .before .pre .1 .few)
+element-write-values c =
+    let start : tie.Start Inv-loop μ-loop = search in
+    omega (arith, start .pre .1 .few)
 
 loop-again : tie.Need-loop-again Inv-loop μ-loop
 loop-again c =
-    let l = c .before .before .before in
-    (omega arith, sweeping-more _ (l .before .pre .1) (l .loop .inv .1) (c .before .before .loop-test .taken) (c .gate-value .result) (c .gate-value .ensures))
+    let l = c .before .before .before in (
+      omega arith,
+      sweeping-more _ (l .before .pre .1) (l .loop .inv .1) (c .before .before .loop-test .taken)
+          (c .gate-value .result) (c .gate-value .ensures),
+    )
 
 returns : tie.Need-returns Inv-loop μ-loop
 returns c = sweeping-end _ (c .before .before .pre .1) (c .before .loop .inv .1) (c .loop-test .left)

@@ -1,4 +1,5 @@
--- `crate::sweep::sweep_into` meets its contract: the sweep of the graph is the block's (`swept-bytes`). Assumes nothing.
+-- `op_pass::sweep::sweep_into` meets its contract: the sweep of the graph is the block's (`swept-bytes`). Assumes
+-- nothing.
 use denote.Ref.{now}
 use Rattle.graph_simulation.proofs.Starts.{blank}
 use Rattle.op_pass.proofs.Sweeps.{swept-bytes}
@@ -7,11 +8,13 @@ use Rattle.op_pass.proofs.sweep.sweep_into.Statement.{statement}
 use Rattle.op_pass.proofs.sweep.sweep_into.Tie as tie
 
 put-setting-requires : tie.Need-put-setting-requires
-put-setting-requires c κs = (blank, c .before .before .before .before .before .before .before .pre .1)
+put-setting-requires c κs =
+    let start : tie.Start = search in
+    (blank, start .pre .1)
 
 sweep-gates-requires : tie.Need-sweep-gates-requires
 sweep-gates-requires c κs =
-    let d = c .before .before .before .before .before .before in
+    let d : tie.After-decode-gates = search in
     let m = c .before .before .before in (
       d .before .before .gate-table .ensures,
       rw (m .gates-of .ensures) (d .decode-gates .ensures .legal),
@@ -20,13 +23,15 @@ sweep-gates-requires c κs =
 
 returns : tie.Need-returns
 returns c =
+    let start : tie.Start = search in
     let t = c .before .before in
     let w = t .before .before .before in
-    let m = w .before .before .before .before in
+    let m : tie.After-gates-of = search in
     let p = m .before in
     let d = p .before .before in
-    let a = d .before .before .before .before .before .before .args in (
-      swept-bytes (now (a .words)) (now (a .setting)) (now (a .out)) (d .decode-gates .ensures) (p .put-setting .ensures) _
+    let a = start .args in (
+      swept-bytes (now (a .words)) (now (a .setting)) (now (a .out)) (d .decode-gates .ensures)
+          (p .put-setting .ensures) _
           (m .gates-of .ensures) (w .sweep-gates .ensures)
           (t .take-gates .ensures),
       m .gates-of .ensures,

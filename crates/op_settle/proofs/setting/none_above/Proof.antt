@@ -1,4 +1,5 @@
--- `op_settle::setting::none_above` meets its contract. The loop's invariant: no byte passed is above `most`. Assumes nothing.
+-- `op_settle::setting::none_above` meets its contract. The loop's invariant: no byte passed is above `most`. Assumes
+-- nothing.
 use mathlib.Core.Path.{_≡_, sym, _∙_}
 use mathlib.Core.Bool.{true, false, true≢false}
 use Prim.Native.Nat.{ℕ, _≤_, _<_, _-_}
@@ -25,11 +26,13 @@ loop-holds c = (omega arith, λ k h. absurd (omega arith))
 
 returns : tie.Need-returns Inv-loop μ-loop
 returns c =
-    let a = c .before .before .before .before .args in
+    let start : tie.Start Inv-loop μ-loop = search in
+    let a = start .args in
     let s = now (a .bytes) in
     let i = c .before .before .before .loop .i in
     sym (not-true-false (all (atMost (a .most)) s)
-    (λ h. true≢false (sym (all-at (atMost (a .most)) s i 0 h (omega arith)) ∙ lt-leb (getD s i 0) (a .most) (c .if1 .taken))))
+    (λ h. true≢false (sym (all-at (atMost (a .most)) s i 0 h (omega arith))
+    ∙ lt-leb (getD s i 0) (a .most) (c .if1 .taken))))
 
 loop-again : tie.Need-loop-again Inv-loop μ-loop
 loop-again c = (omega arith, below-more _ _ (c .before .before .before .loop .inv .1) (le-leb _ _ (c .if1 .left)))

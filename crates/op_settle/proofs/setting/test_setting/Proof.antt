@@ -1,4 +1,5 @@
--- `op_settle::setting::test_setting` meets its contract: the bytes of a block's inputs, in three values. Assumes nothing.
+-- `op_settle::setting::test_setting` meets its contract: the bytes of a block's inputs, in three values. Assumes
+-- nothing.
 use denote.Ref.{now}
 use borrow.Author.Needs.{needs}
 use Rattle.op_settle.proofs.Settings.{bad-setting}
@@ -7,7 +8,8 @@ use Rattle.op_settle.proofs.setting.test_setting.Tie as tie
 
 returns : tie.Need-returns
 returns c =
-    let a = c .before .before .before .before .args in
+    let start : tie.Start = search in
+    let a = start .args in
     rw (bad-setting (now (a .words)) (now (a .setting)), ← c .before .inputs-of .ensures) (c .test-bytes .ensures)
 
 pub test-setting-spec : {M : Type 1} → statement M

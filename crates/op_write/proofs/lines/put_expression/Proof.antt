@@ -14,11 +14,14 @@ use Rattle.op_write.proofs.lines.put_expression.Statement.{statement}
 use Rattle.op_write.proofs.lines.put_expression.Tie as tie
 
 -- the four pieces, from the head word that was read
-parts : (c : tie.After-word-at) → expressionText (c .before .before .before .args .words .now) (c .before .before .before .args .from)
+parts : (c : tie.After-word-at) → let a = c .before .before .before .args in
+    expressionText (a .words .now) (a .from)
     ≡ ascii "("
     ++ (keyword (c .word-at .result % 8)
-    ++ (pieces (itemText (c .before .before .before .args .words .now) (c .before .before .before .args .from)) (c .word-at .result / 8) ++ ascii ")"))
-parts c = expression-of (c .before .before .before .args .words .now) (c .before .before .before .args .from) (c .word-at .result) (c .word-at .ensures)
+    ++ (pieces (itemText (a .words .now) (a .from)) (c .word-at .result / 8) ++ ascii ")"))
+parts c =
+    let a = c .before .before .before .args in
+    expression-of (a .words .now) (a .from) (c .word-at .result) (c .word-at .ensures)
 
 put-requires : tie.Need-put-requires
 put-requires c κs =
@@ -34,19 +37,22 @@ put-keyword-requires c κs =
 
 put-items-requires : tie.Need-put-items-requires
 put-items-requires c κs =
+    let start : tie.Start = search in
     let named = c .before .before .before in
-    let opened = named .before .before .before .before in
+    let opened : tie.After-put = search in
     let head = opened .before .before in
-    let few = head .before .shared-slice-known .given (head .before .before .before .args .from) in
-    let s = rw (parts head) at (head .before .before .before .pre .1) in
-    let a = short-rest _ s (opened .put .ensures) in
-    ((head .before .before .before .pre .0, omega (arith, few, head .word-at .ensures)), short-first _ (short-rest _ a (named .put-keyword .ensures)))
+    let few = head .before .shared-slice-known .given (start .args .from) in
+    let s = rw (parts head) at (start .pre .1) in
+    let a = short-rest _ s (opened .put .ensures) in (
+      (start .pre .0, omega (arith, few, head .word-at .ensures)),
+      short-first _ (short-rest _ a (named .put-keyword .ensures)),
+    )
 
 put-requires-2 : tie.Need-put-requires-2
 put-requires-2 c κs =
     let filled = c .before .before .before in
-    let named = filled .before .before .before .before in
-    let opened = named .before .before .before .before in
+    let named : tie.After-put-keyword = search in
+    let opened : tie.After-put = search in
     let head = opened .before .before in
     let s = rw (parts head) at (head .before .before .before .pre .1) in
     let a = short-rest _ s (opened .put .ensures) in
@@ -56,9 +62,9 @@ put-requires-2 c κs =
 returns : tie.Need-returns
 returns c =
     let closed = c .before .before in
-    let filled = closed .before .before .before .before in
-    let named = filled .before .before .before .before in
-    let opened = named .before .before .before .before in
+    let filled : tie.After-put-items = search in
+    let named : tie.After-put-keyword = search in
+    let opened : tie.After-put = search in
     rw (parts (opened .before .before))
     (appended-then (opened .put .ensures)
     (appended-then (named .put-keyword .ensures) (appended-then (filled .put-items .ensures) (closed .put2 .ensures))))

@@ -9,55 +9,39 @@ use Rattle.op_write.proofs.lines.put_gate.Tie as tie
 
 put-all-requires : tie.Need-put-all-requires
 unfolding gateText
-put-all-requires c κs = short-first {xs = ascii "(gate "} _ (c .before .before .before .before .pre .1)
+put-all-requires c κs = search short-first
 
 put-gate-name-requires : tie.Need-put-gate-name-requires
 unfolding gateText
-put-gate-name-requires c κs =
-    let opened = c .before .before .before in
-    short-first _ (short-rest _ (opened .before .before .before .before .before .pre .1) (opened .put-all .ensures))
+put-gate-name-requires c κs = search (short-first, short-rest)
 
 put-requires : tie.Need-put-requires
 unfolding gateText
 put-requires c κs =
-    let named = c .before .before .before in
-    let opened = named .before .before .before .before in
-    let a = short-rest _ (opened .before .before .before .before .before .pre .1) (opened .put-all .ensures) in
+    let start : tie.Start = search in
+    let opened : tie.After-put-all = search in
+    let named : tie.After-put-gate-name = search in
+    let a = short-rest _ (start .pre .1) (opened .put-all .ensures) in
     short-first {xs = ascii " "} _ (short-rest _ a (named .put-gate-name .ensures))
 
 put-expression-requires : tie.Need-put-expression-requires
 unfolding gateText
 put-expression-requires c κs =
-    let spaced = c .before .before .before in
-    let named = spaced .before .before .before .before in
-    let opened = named .before .before .before .before in
-    let a = short-rest _ (opened .before .before .before .before .before .pre .1) (opened .put-all .ensures) in
+    let start : tie.Start = search in
+    let opened : tie.After-put-all = search in
+    let named : tie.After-put-gate-name = search in
+    let spaced : tie.After-put = search in
+    let a = short-rest _ (start .pre .1) (opened .put-all .ensures) in
     let b = short-rest _ a (named .put-gate-name .ensures) in
     (omega arith, short-first _ (short-rest {xs = ascii " "} _ b (spaced .put .ensures)))
 
 put-all-requires-2 : tie.Need-put-all-requires-2
 unfolding gateText
-put-all-requires-2 c κs =
-    let filled = c .before .before .before .before in
-    let spaced = filled .before .before .before .before in
-    let named = spaced .before .before .before .before in
-    let opened = named .before .before .before .before in
-    let a = short-rest _ (opened .before .before .before .before .before .pre .1) (opened .put-all .ensures) in
-    let b = short-rest _ a (named .put-gate-name .ensures) in
-    let d = short-rest {xs = ascii " "} _ b (spaced .put .ensures) in
-    short-rest _ d (filled .put-expression .ensures)
+put-all-requires-2 c κs = search short-rest
 
 returns : tie.Need-returns
 unfolding gateText
-returns c =
-    let closed = c .before .before in
-    let filled = closed .before .before .before .before .before in
-    let spaced = filled .before .before .before .before in
-    let named = spaced .before .before .before .before in
-    let opened = named .before .before .before .before in
-    appended-then (opened .put-all .ensures)
-    (appended-then (named .put-gate-name .ensures)
-    (appended-then (spaced .put .ensures) (appended-then (filled .put-expression .ensures) (closed .put-all2 .ensures))))
+returns c = search appended-then
 
 pub put-gate-spec : {M : Type 1} → statement M
 put-gate-spec =

@@ -9,28 +9,19 @@ use Rattle.op_write.proofs.lines.put_input.Tie as tie
 
 put-all-requires : tie.Need-put-all-requires
 unfolding inputText
-put-all-requires c κs = short-first {xs = ascii "(in "} _ (c .before .before .before .before .pre .1)
+put-all-requires c κs = search short-first
 
 put-name-requires : tie.Need-put-name-requires
 unfolding inputText
-put-name-requires c κs =
-    let opened = c .before .before .before in
-    (omega arith, short-first _ (short-rest _ (opened .before .before .before .before .before .pre .1) (opened .put-all .ensures)))
+put-name-requires c κs = (omega arith, search (short-first, short-rest))
 
 put-all-requires-2 : tie.Need-put-all-requires-2
 unfolding inputText
-put-all-requires-2 c κs =
-    let named = c .before .before .before .before in
-    let opened = named .before .before .before .before in
-    short-rest _ (short-rest _ (opened .before .before .before .before .before .pre .1) (opened .put-all .ensures)) (named .put-name .ensures)
+put-all-requires-2 c κs = search short-rest
 
 returns : tie.Need-returns
 unfolding inputText
-returns c =
-    let closed = c .before .before in
-    let named = closed .before .before .before .before .before in
-    let opened = named .before .before .before .before in
-    appended-then (opened .put-all .ensures) (appended-then (named .put-name .ensures) (closed .put-all2 .ensures))
+returns c = search appended-then
 
 pub put-input-spec : {M : Type 1} → statement M
 put-input-spec =

@@ -13,11 +13,12 @@ put-requires c κs = short-first {xs = ascii " "} _ (c .before .before .before .
 put-operand-requires : tie.Need-put-operand-requires
 unfolding itemText
 put-operand-requires c κs =
-    short-rest {xs = ascii " "} _ (c .before .before .before .before .before .before .before .pre .1) (c .before .before .before .put .ensures)
+    let start : tie.Start = search in
+    short-rest {xs = ascii " "} _ (start .pre .1) (c .before .before .before .put .ensures)
 
 returns : tie.Need-returns
 unfolding itemText
-returns c = appended-then (c .before .before .before .before .before .before .put .ensures) (c .before .before .put-operand .ensures)
+returns c = search appended-then
 
 pub put-item-spec : {M : Type 1} → statement M
 put-item-spec =

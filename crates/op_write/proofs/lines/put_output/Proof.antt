@@ -9,55 +9,39 @@ use Rattle.op_write.proofs.lines.put_output.Tie as tie
 
 put-all-requires : tie.Need-put-all-requires
 unfolding outputText
-put-all-requires c κs = short-first {xs = ascii "(out "} _ (c .before .before .before .before .pre .1)
+put-all-requires c κs = search short-first
 
 put-name-requires : tie.Need-put-name-requires
 unfolding outputText
-put-name-requires c κs =
-    let opened = c .before .before .before in
-    (omega arith, short-first _ (short-rest _ (opened .before .before .before .before .before .pre .1) (opened .put-all .ensures)))
+put-name-requires c κs = (omega arith, search (short-first, short-rest))
 
 put-requires : tie.Need-put-requires
 unfolding outputText
 put-requires c κs =
+    let start : tie.Start = search in
     let named = c .before .before .before in
-    let opened = named .before .before .before .before in
-    let a = short-rest _ (opened .before .before .before .before .before .pre .1) (opened .put-all .ensures) in
+    let opened : tie.After-put-all = search in
+    let a = short-rest _ (start .pre .1) (opened .put-all .ensures) in
     short-first {xs = ascii " "} _ (short-rest _ a (named .put-name .ensures))
 
 put-operand-requires : tie.Need-put-operand-requires
 unfolding outputText
 put-operand-requires c κs =
+    let start : tie.Start = search in
     let spaced = c .before .before .before in
-    let named = spaced .before .before .before .before in
-    let opened = named .before .before .before .before in
-    let a = short-rest _ (opened .before .before .before .before .before .pre .1) (opened .put-all .ensures) in
+    let named : tie.After-put-name = search in
+    let opened : tie.After-put-all = search in
+    let a = short-rest _ (start .pre .1) (opened .put-all .ensures) in
     let b = short-rest _ a (named .put-name .ensures) in
     short-first _ (short-rest {xs = ascii " "} _ b (spaced .put .ensures))
 
 put-all-requires-2 : tie.Need-put-all-requires-2
 unfolding outputText
-put-all-requires-2 c κs =
-    let filled = c .before .before .before .before in
-    let spaced = filled .before .before .before .before in
-    let named = spaced .before .before .before .before in
-    let opened = named .before .before .before .before in
-    let a = short-rest _ (opened .before .before .before .before .before .pre .1) (opened .put-all .ensures) in
-    let b = short-rest _ a (named .put-name .ensures) in
-    let d = short-rest {xs = ascii " "} _ b (spaced .put .ensures) in
-    short-rest _ d (filled .put-operand .ensures)
+put-all-requires-2 c κs = search short-rest
 
 returns : tie.Need-returns
 unfolding outputText
-returns c =
-    let closed = c .before .before in
-    let filled = closed .before .before .before .before .before in
-    let spaced = filled .before .before .before .before in
-    let named = spaced .before .before .before .before in
-    let opened = named .before .before .before .before in
-    appended-then (opened .put-all .ensures)
-    (appended-then (named .put-name .ensures)
-    (appended-then (spaced .put .ensures) (appended-then (filled .put-operand .ensures) (closed .put-all2 .ensures))))
+returns c = search appended-then
 
 pub put-output-spec : {M : Type 1} → statement M
 put-output-spec =

@@ -1,4 +1,5 @@
--- `op_write::nevers::put_fixed` meets its contract: nothing, or the pair, by the input's bit in the mask of the fixed ones. Assumes nothing.
+-- `op_write::nevers::put_fixed` meets its contract: nothing, or the pair, by the input's bit in the mask of the fixed
+-- ones. Assumes nothing.
 use native.Mathlib.Omega.{arith}
 use borrow.Author.Needs.{needs}
 use Rattle.netlist.specs.Assignments.{bit}
@@ -16,16 +17,20 @@ returns c =
 put-pair-requires : tie.Need-put-pair-requires
 unfolding bit
 put-pair-requires c κs =
-    let start = c .before .before .before .before in
-    let a = start .args in
-    (omega (arith, start .pre .0), rw (fixed-some (a .words .now) (a .fixed) (a .ones) (a .i) (c .before .if1 .left)) at (start .pre .1))
+    let start : tie.Start = search in
+    let a = start .args in (
+      omega (arith, start .pre .0),
+      rw (fixed-some (a .words .now) (a .fixed) (a .ones) (a .i)
+          (c .before .if1 .left)) at (start .pre .1),
+    )
 
 returns-2 : tie.Need-returns-2
 unfolding bit
 returns-2 c =
-    let tested = c .before .before .before .before in
+    let tested : tie.Else1 = search in
     let a = tested .before .before .before .args in
-    rw (fixed-some (a .words .now) (a .fixed) (a .ones) (a .i) (tested .if1 .left)) (c .before .before .put-pair .ensures)
+    rw (fixed-some (a .words .now) (a .fixed) (a .ones) (a .i) (tested .if1 .left))
+    (c .before .before .put-pair .ensures)
 
 pub put-fixed-spec : {M : Type 1} → statement M
 put-fixed-spec =

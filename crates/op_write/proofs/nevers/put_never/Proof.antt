@@ -12,17 +12,24 @@ use Rattle.op_write.proofs.nevers.put_never.Tie as tie
 
 -- the entry, and the pass over the first piece
 abbrev start : tie.After-put-all → tie.Start
-start c = c .before .before .before .before .before .before .before
+start c =
+    let after-word-at2 = c .before .before .before in
+    let after-slice-known = after-word-at2 .before .before .before in
+    after-slice-known .before
 
 abbrev opened : tie.After-inputs-of → tie.After-put-all
-opened c = c .before .before .before .before
+opened c =
+    let after-text = c .before .before .before in
+    after-text .before
 
 -- the three pieces, from the words that were read
 parts : (c : tie.After-inputs-of) → let a = start (opened c) .args in
+    let ones = opened c .before .before .before in
     neverText (a .words .now) (a .from)
     ≡ ascii "(never"
-    ++ (pieces (fixedText (a .words .now) (opened c .before .before .before .before .word-at .result) (opened c .before .before .before .word-at2 .result))
-    (c .inputs-of .result) ++ ascii ")\n")
+    ++ (pieces (fixedText (a .words .now) (ones .before .word-at .result) (ones .word-at2 .result))
+    (c .inputs-of .result)
+    ++ ascii ")\n")
 parts c =
     let a = start (opened c) .args in
     let ones = opened c .before .before .before in
@@ -31,26 +38,32 @@ parts c =
 
 put-all-requires : tie.Need-put-all-requires
 unfolding neverText
-put-all-requires c κs = short-first {xs = ascii "(never"} _ (c .before .before .before .before .before .before .pre .1)
+put-all-requires c κs =
+    let start : tie.Start = search in
+    short-first {xs = ascii "(never"} _ (start .pre .1)
 
 put-pairs-requires : tie.Need-put-pairs-requires
 put-pairs-requires c κs =
-    let p = start (opened c) .pre in
-    (rw (c .inputs-of .ensures) (p .0 .0), short-first _ (short-rest _ (rw (parts c) at (p .1)) (opened c .put-all .ensures)))
+    let p = start (opened c) .pre in (
+      rw (c .inputs-of .ensures) (p .0 .0),
+      short-first _ (short-rest _ (rw (parts c) at (p .1)) (opened c .put-all .ensures)),
+    )
 
 put-all-requires-2 : tie.Need-put-all-requires-2
 put-all-requires-2 c κs =
-    let filled = c .before .before .before .before in
+    let filled : tie.After-put-pairs = search in
     let head = filled .before in
-    short-rest _ (short-rest _ (rw (parts head) at (start (opened head) .pre .1)) (opened head .put-all .ensures)) (filled .put-pairs .ensures)
+    short-rest _ (short-rest _ (rw (parts head) at (start (opened head) .pre .1)) (opened head .put-all .ensures))
+    (filled .put-pairs .ensures)
 
 returns : tie.Need-returns
 returns c =
     let closed = c .before .before in
-    let filled = closed .before .before .before .before .before in
+    let filled : tie.After-put-pairs = search in
     let head = filled .before in
     rw (parts head)
-    (appended-then (opened head .put-all .ensures) (appended-then (filled .put-pairs .ensures) (closed .put-all2 .ensures)))
+    (appended-then (opened head .put-all .ensures)
+    (appended-then (filled .put-pairs .ensures) (closed .put-all2 .ensures)))
 
 pub put-never-spec : {M : Type 1} → statement M
 put-never-spec =

@@ -12,44 +12,21 @@ Inv-loop text₀ at words from count end₀ i₀ text end i = PiecesPut (neverLi
 abbrev μ-loop : tie.MeasureT-loop
 μ-loop text₀ at words from count end₀ i₀ text end i = count - i
 
--- the function's entry, from the loop's head
-abbrev start : tie.At-loop Inv-loop μ-loop → tie.Start Inv-loop μ-loop
-start l = l .before .before .before
-
-loop-holds : tie.Need-loop-holds Inv-loop μ-loop
-loop-holds c = put-none
-
-mul-put-never : tie.Need-mul-put-never Inv-loop μ-loop
-mul-put-never c = omega (arith, start (c .before .before) .pre .0, c .before .loop-test .taken)
-
-add-put-never : tie.Need-add-put-never Inv-loop μ-loop
-add-put-never c = omega (arith, start (c .before .before) .pre .0, c .before .loop-test .taken)
-
 put-never-requires : tie.Need-put-never-requires Inv-loop μ-loop
 unfolding neverLineText
 put-never-requires c κs =
-    let l = c .before .before in
-    let more = c .before .loop-test .taken in
-    ((start l .pre .0 .0, omega (arith, start l .pre .0, more)), put-short (l .loop .inv) more (start l .pre .1))
-
-add-i : tie.Need-add-i Inv-loop μ-loop
-add-i c = omega (arith, start (c .before .before .before .before .before) .pre .0)
+    let start : tie.Start Inv-loop μ-loop = search in
+    let turn = c .before in
+    (omega arith, put-short (turn .before .loop .inv) (turn .loop-test .taken) (start .pre .1))
 
 loop-again : tie.Need-loop-again Inv-loop μ-loop
 unfolding neverLineText
-loop-again c =
-    let t = c .before .before .before .before in
-    put-more (t .before .loop .inv) (t .loop-test .taken) (c .before .before .put-never .ensures)
-
-same-length : tie.Need-same-length Inv-loop μ-loop
-same-length c = appended-length (c .before .loop .inv .there)
-
-returns : tie.Need-returns Inv-loop μ-loop
-returns c = put-every (c .before .loop .inv) (c .loop-test .left)
+loop-again c = search put-more
 
 pub put-nevers-spec : {M : Type 1} → statement M
 put-nevers-spec =
     tie.close
     (tie.spec
-    Inv-loop μ-loop loop-holds mul-put-never add-put-never put-never-requires add-i (λ c. omega arith) loop-again
-    same-length returns)
+    Inv-loop μ-loop (λ c. put-none) (λ c. omega arith) (λ c. omega arith) put-never-requires (λ c. omega arith)
+    (λ c. omega arith)
+    loop-again (λ c. appended-length (c .before .loop .inv .there)) (λ c. search put-every))

@@ -1,4 +1,5 @@
--- `unroll_emission::entry::copy_entry` meets its contract: after i turns i of the five words are written. Assumes nothing.
+-- `unroll_emission::entry::copy_entry` meets its contract: after i turns i of the five words are written. Assumes
+-- nothing.
 use Prim.Native.Nat.{_+_, _-_, _≤_}
 use mathlib.Core.Path.{_≡_, refl, _∙_}
 use native.Mathlib.Omega.{arith}
@@ -22,7 +23,8 @@ loop-holds c = (omega arith, refl, refl)
 
 loop-again : tie.Need-loop-again Inv-loop μ-loop
 loop-again c =
-    let a = c .before .before .before .before .before .before .args in
+    let start : tie.Start Inv-loop μ-loop = search in
+    let a = start .args in
     let l = c .before .before .loop in (
       omega arith,
       sets-next (entryWord (a .words .now) (a .nodes) (a .entry) (a .newest .now)) (a .out .now) (l .out) (a .to)

@@ -9,21 +9,25 @@ use Rattle.unroll_emission.proofs.entry.entry_word.Tie as tie
 
 returns : tie.Need-returns
 returns c =
-    let a = c .before .before .before .before .before .before .before .before .before .args in
+    let start : tie.Start = search in
+    let a = start .args in
     c .mapped .ensures
     ∙ sym (entry-mapped (a .words .now) (a .nodes) (a .entry) (a .newest .now) (a .i) (omega arith) (omega arith))
 
 returns-2 : tie.Need-returns-2
 returns-2 c =
-    let a = c .before .before .before .before .before .before .before .before .args in
+    let start : tie.Start = search in
+    let a = start .args in
     sym (entry-kept (a .words .now) (a .nodes) (a .entry) (a .newest .now) (a .i) (inr (c .if2 .left)))
 
 returns-3 : tie.Need-returns-3
 returns-3 c =
-    let a = c .before .before .before .before .before .before .args in
+    let start : tie.Start = search in
+    let a = start .args in
     sym (entry-kept (a .words .now) (a .nodes) (a .entry) (a .newest .now) (a .i) (inl (c .if1 .left)))
 
 pub entry-word-spec : {M : Type 1} → statement M
 entry-word-spec =
     tie.close
-    (tie.spec (λ c. search needs) (λ c. search needs) (λ c. search needs) (λ c κs. search needs) returns returns-2 returns-3)
+    (tie.spec (λ c. search needs) (λ c. search needs) (λ c. search needs) (λ c κs. search needs) returns returns-2
+    returns-3)

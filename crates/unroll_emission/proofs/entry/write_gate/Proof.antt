@@ -1,4 +1,5 @@
--- `unroll_emission::entry::write_gate` meets its contract: the five words of gate j, of which the operands are mapped. Assumes nothing.
+-- `unroll_emission::entry::write_gate` meets its contract: the five words of gate j, of which the operands are mapped.
+-- Assumes nothing.
 use Prim.Native.Nat.{_+_, _*_}
 use native.Mathlib.Omega.{arith}
 use Rattle.unroll_emission.specs.Words.{copyWords}
@@ -7,10 +8,14 @@ use Rattle.unroll_emission.proofs.entry.write_gate.Statement.{statement
 use Rattle.unroll_emission.proofs.entry.write_gate.Tie as tie
 
 cast-count : tie.Need-cast-count
-cast-count c = let a = c .before .before .before .before .before .args in omega (arith, c .shared-slice-known3 .given (a .nodes .start + 5 * a .j))
+cast-count c =
+    let start : tie.Start = search in
+    let a = start .args in omega (arith, c .shared-slice-known3 .given (a .nodes .start + 5 * a .j))
 
 add-last : tie.Need-add-last
-add-last c = let a = c .before .before .before .before .before .args in omega (arith, c .shared-slice-known3 .given (a .nodes .start + 5 * a .j))
+add-last c =
+    let start : tie.Start = search in
+    let a = start .args in omega (arith, c .shared-slice-known3 .given (a .nodes .start + 5 * a .j))
 
 returns : tie.Need-returns
 unfolding copyWords

@@ -22,13 +22,14 @@ loop-holds c = (omega arith, refl, refl)
 
 loop-again : tie.Need-loop-again Inv-loop μ-loop
 loop-again c =
-    let at-loop = c .before .before .before .before .before in
-    let at-start = at-loop .before .before .before .before .before .before in
+    let at-loop : tie.At-loop Inv-loop μ-loop = search in
+    let at-start : tie.Start Inv-loop μ-loop = search in
     let a = at-start .args in
     let l = at-loop .loop in
     let e = c .before .before .copy-entry in (
       omega arith,
-      outputs-next (a .words .now) (a .nodes) (a .newest .now) (a .out .now) (l .out) _ (a .to) (l .o) (l .inv .1) (e .ensures),
+      outputs-next (a .words .now) (a .nodes) (a .newest .now) (a .out .now) (l .out) _ (a .to) (l .o) (l .inv .1)
+          (e .ensures),
       e .kept .1 .1 .1 .1 .0 ∙ l .inv .2,
     )
 
@@ -38,7 +39,7 @@ same-length c = c .before .loop .inv .2
 returns : tie.Need-returns Inv-loop μ-loop
 returns c =
     let l = c .before in
-    let s = l .before .before .before .before .before .before in
+    let s : tie.Start Inv-loop μ-loop = search in
     let all : l .loop .o ≡ s .args .k = omega arith in
     rw (← all) (l .loop .inv .1)
 

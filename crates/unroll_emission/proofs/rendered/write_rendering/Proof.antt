@@ -1,5 +1,5 @@
--- `unroll_emission::rendered::write_rendering` meets its contract: header, names and never lines, copies and outputs, one after the other, are the
--- encoding of the rendering. Assumes nothing.
+-- `unroll_emission::rendered::write_rendering` meets its contract: header, names and never lines, copies and outputs,
+-- one after the other, are the encoding of the rendering. Assumes nothing.
 use native.Mathlib.Omega.{arith}
 use Rattle.unroll_emission.proofs.Written.{Sizes, sizes, ordered, rendering-written}
 use borrow.Author.Needs.{needs}
@@ -8,25 +8,37 @@ use Rattle.unroll_emission.proofs.rendered.write_rendering.Tie as tie
 
 -- the function's entry, and the calls one before the other
 abbrev start : tie.After-nodes-of → tie.Start
-start c = c .before .before .before .before .before
+start c =
+    let back = c .before .before .before in
+    back .before .before
 
 abbrev placing : tie.After-write-header → tie.After-nodes-of
-placing c = c .before .before .before .before
+placing c =
+    let back = c .before .before .before in
+    back .before
 
 abbrev heading : tie.After-copy-words → tie.After-write-header
-heading c = c .before .before .before .before .before
+heading c =
+    let back = c .before .before .before in
+    back .before .before
 
 abbrev naming : tie.After-fill-words → tie.After-copy-words
-naming c = c .before .before .before .before
+naming c =
+    let back = c .before .before .before in
+    back .before
 
 abbrev clearing : tie.After-copy-gates → tie.After-fill-words
-clearing c = c .before .before .before .before .before
+clearing c =
+    let back = c .before .before .before in
+    back .before .before
 
 -- what the sizes are
-known : (p : tie.After-nodes-of) → Sizes (start p .args .words .now) (p .nodes-of .result) (start p .args .total) (start p .args .out .now)
+known : (p : tie.After-nodes-of) → Sizes (start p .args .words .now) (p .nodes-of .result) (start p .args .total)
+    (start p .args .out .now)
 known p =
     let s = start p in
-    sizes (s .args .words .now) (s .args .order .now) (s .args .total) (s .args .newest .now) (s .args .out .now) (s .pre) (p .nodes-of .ensures)
+    sizes (s .args .words .now) (s .args .order .now) (s .args .total) (s .args .newest .now) (s .args .out .now)
+    (s .pre) (p .nodes-of .ensures)
 
 write-header-requires : tie.Need-write-header-requires
 write-header-requires c κs =
@@ -39,7 +51,7 @@ sub-copy-words c = omega (arith, known (placing (c .before .before .before)))
 
 copy-words-requires : tie.Need-copy-words-requires
 copy-words-requires c κs =
-    let h = c .before .before .before .before in
+    let h : tie.After-write-header = search in
     omega (arith, known (placing h), h .write-header .kept .1 .1 .1 .1 .0)
 
 fill-words-requires : tie.Need-fill-words-requires
@@ -49,11 +61,12 @@ fill-words-requires c κs =
 
 copy-gates-requires : tie.Need-copy-gates-requires
 copy-gates-requires c κs =
-    let z = c .before .before .before .before in
+    let z : tie.After-fill-words = search in
     let w = naming z in
     let p = placing (heading w) in
     let s = start p in (
-      ordered (s .args .words .now) (s .args .order .now) (s .args .total) (s .args .newest .now) (s .args .out .now) (s .pre) (p .nodes-of .ensures),
+      ordered (s .args .words .now) (s .args .order .now) (s .args .total) (s .args .newest .now) (s .args .out .now)
+          (s .pre) (p .nodes-of .ensures),
       omega (
         arith,
         known p,
@@ -67,18 +80,21 @@ copy-gates-requires c κs =
 
 mul-copy-outputs : tie.Need-mul-copy-outputs
 mul-copy-outputs c =
-    let g = c .before .before .before .before .before .before in
+    let g-back = c .before .before .before in
+    let g = g-back .before .before .before in
     omega (arith, start (placing (heading (naming (clearing g)))) .pre .fewCopies)
 
 add-copy-outputs : tie.Need-add-copy-outputs
 add-copy-outputs c =
-    let g = c .before .before .before .before .before .before .before in
+    let g-back = c .before .before .before in
+    let g-back2 = g-back .before .before .before in
+    let g = g-back2 .before in
     let p = placing (heading (naming (clearing g))) in
     omega (arith, known p, start p .pre .fewCopies)
 
 copy-outputs-requires : tie.Need-copy-outputs-requires
 copy-outputs-requires c κs =
-    let g = c .before .before .before .before .before .before .before in
+    let g : tie.After-copy-gates = search in
     let w = naming (clearing g) in
     let p = placing (heading w) in
     omega (
@@ -96,14 +112,17 @@ copy-outputs-requires c κs =
 returns : tie.Need-returns
 returns c =
     let out = c .before .before in
-    let g = out .before .before .before .before .before .before .before .before in
+    let g : tie.After-copy-gates = search in
     let w = naming (clearing g) in
     let lines = heading w .before .before in
     let p = placing (heading w) in
     let s = start p in
-    rendering-written (s .args .words .now) (s .args .order .now) (s .args .total) (s .args .newest .now) (s .args .out .now) (s .pre) _ _ _ _ _ _ _ _ _
-    (p .nodes-of .ensures) (lines .before .outputs-of .ensures) (lines .nevers-of .ensures) (heading w .write-header .ensures) (w .copy-words .ensures)
-    (clearing g .fill-words .ensures) (g .copy-gates .ensures .0) (g .copy-gates .ensures .1) (out .copy-outputs .ensures)
+    rendering-written (s .args .words .now) (s .args .order .now) (s .args .total) (s .args .newest .now)
+    (s .args .out .now) (s .pre) _ _ _ _ _ _ _ _ _
+    (p .nodes-of .ensures) (lines .before .outputs-of .ensures) (lines .nevers-of .ensures)
+    (heading w .write-header .ensures) (w .copy-words .ensures)
+    (clearing g .fill-words .ensures) (g .copy-gates .ensures .0) (g .copy-gates .ensures .1)
+    (out .copy-outputs .ensures)
 
 pub write-rendering-spec : {M : Type 1} → statement M
 write-rendering-spec =

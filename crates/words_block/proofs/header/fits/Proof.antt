@@ -1,4 +1,5 @@
--- `words_block::header::fits` meets its contract: each way out is the first part of the rule that fails, or the last part. Assumes nothing.
+-- `words_block::header::fits` meets its contract: each way out is the first part of the rule that fails, or the last
+-- part. Assumes nothing.
 use borrow.Author.Needs.{needs}
 use native.Mathlib.Omega.{arith}
 use borrow.Author.Tests.{le-leb, lt-leb}
@@ -15,15 +16,22 @@ returns c = rw (lt-leb inputsAt _ (c .if1 .taken))
 returns-2 : tie.Need-returns-2
 unfolding headerRule
 returns-2 c =
-    rw (le-leb inputsAt _ (c .before .if1 .left), ← c .before .before .before .before .before .inputs-of .ensures, lt-leb _ maxInputs (c .if2 .taken))
+    let after-inputs-of : tie.After-inputs-of = search in
+    rw (
+      le-leb inputsAt _ (c .before .if1 .left),
+      ← after-inputs-of .inputs-of .ensures,
+      lt-leb _ maxInputs (c .if2 .taken),
+    )
 
 returns-3 : tie.Need-returns-3
 unfolding headerRule
 returns-3 c =
+    let after-inputs-of : tie.After-inputs-of = search in
+    let after-gates-of : tie.After-gates-of = search in
     rw (
       le-leb inputsAt _ (c .before .before .if1 .left),
-      ← c .before .before .before .before .before .before .inputs-of .ensures,
-      ← c .before .before .before .before .before .gates-of .ensures,
+      ← after-inputs-of .inputs-of .ensures,
+      ← after-gates-of .gates-of .ensures,
       le-leb _ maxInputs (c .before .if2 .left),
       lt-leb _ maxGates (c .if3 .taken),
     )
@@ -31,11 +39,14 @@ returns-3 c =
 returns-4 : tie.Need-returns-4
 unfolding headerRule
 returns-4 c =
+    let after-inputs-of : tie.After-inputs-of = search in
+    let after-gates-of : tie.After-gates-of = search in
+    let after-outputs-of : tie.After-outputs-of = search in
     rw (
       le-leb inputsAt _ (c .before .before .before .if1 .left),
-      ← c .before .before .before .before .before .before .before .inputs-of .ensures,
-      ← c .before .before .before .before .before .before .gates-of .ensures,
-      ← c .before .before .before .before .before .outputs-of .ensures,
+      ← after-inputs-of .inputs-of .ensures,
+      ← after-gates-of .gates-of .ensures,
+      ← after-outputs-of .outputs-of .ensures,
       le-leb _ maxInputs (c .before .before .if2 .left),
       le-leb _ maxGates (c .before .if3 .left),
       lt-leb _ maxOutputs (c .if4 .taken),
@@ -44,12 +55,17 @@ returns-4 c =
 returns-5 : tie.Need-returns-5
 unfolding headerRule
 returns-5 c =
+    let else1 : tie.Else1 = search in
+    let after-inputs-of : tie.After-inputs-of = search in
+    let after-gates-of : tie.After-gates-of = search in
+    let after-outputs-of : tie.After-outputs-of = search in
+    let after-nevers-of : tie.After-nevers-of = search in
     rw (
-      le-leb inputsAt _ (c .before .before .before .before .if1 .left),
-      ← c .before .before .before .before .before .before .before .before .inputs-of .ensures,
-      ← c .before .before .before .before .before .before .before .gates-of .ensures,
-      ← c .before .before .before .before .before .before .outputs-of .ensures,
-      ← c .before .before .before .before .before .nevers-of .ensures,
+      le-leb inputsAt _ (else1 .if1 .left),
+      ← after-inputs-of .inputs-of .ensures,
+      ← after-gates-of .gates-of .ensures,
+      ← after-outputs-of .outputs-of .ensures,
+      ← after-nevers-of .nevers-of .ensures,
       le-leb _ maxInputs (c .before .before .before .if2 .left),
       le-leb _ maxGates (c .before .before .if3 .left),
       le-leb _ maxOutputs (c .before .if4 .left),
@@ -63,13 +79,19 @@ add-result c = omega arith
 returns-6 : tie.Need-returns-6
 unfolding headerRule
 returns-6 c =
+    let else1 : tie.Else1 = search in
+    let after-inputs-of : tie.After-inputs-of = search in
+    let after-gates-of : tie.After-gates-of = search in
+    let after-outputs-of : tie.After-outputs-of = search in
+    let after-nevers-of : tie.After-nevers-of = search in
+    let else2 : tie.Else2 = search in
     rw (
-      le-leb inputsAt _ (c .before .before .before .before .before .if1 .left),
-      ← c .before .before .before .before .before .before .before .before .before .inputs-of .ensures,
-      ← c .before .before .before .before .before .before .before .before .gates-of .ensures,
-      ← c .before .before .before .before .before .before .before .outputs-of .ensures,
-      ← c .before .before .before .before .before .before .nevers-of .ensures,
-      le-leb _ maxInputs (c .before .before .before .before .if2 .left),
+      le-leb inputsAt _ (else1 .if1 .left),
+      ← after-inputs-of .inputs-of .ensures,
+      ← after-gates-of .gates-of .ensures,
+      ← after-outputs-of .outputs-of .ensures,
+      ← after-nevers-of .nevers-of .ensures,
+      le-leb _ maxInputs (else2 .if2 .left),
       le-leb _ maxGates (c .before .before .before .if3 .left),
       le-leb _ maxOutputs (c .before .before .if4 .left),
       le-leb _ maxNevers (c .before .if5 .left),

@@ -8,7 +8,9 @@ use Rattle.words_block.proofs.nevers.fits.Tie as tie
 returns : tie.Need-returns
 unfolding neverRule
 returns c =
-    rw (← c .before .before .before .word-at .ensures, ← c .before .word-at2 .ensures, lt-ltb 0 _ (c .before .before .if1 .taken)) (c .are-masks .ensures)
+    let after-word-at : tie.After-word-at = search in
+    rw (← after-word-at .word-at .ensures, ← c .before .word-at2 .ensures, lt-ltb 0 _ (c .before .before .if1 .taken))
+    (c .are-masks .ensures)
 
 returns-2 : tie.Need-returns-2
 unfolding neverRule
@@ -17,4 +19,5 @@ returns-2 c = rw (← c .before .word-at .ensures, le-ltb 0 _ (c .if1 .left))
 pub fits-spec : {M : Type 1} → statement M
 fits-spec =
     tie.close
-    (tie.spec (λ c κs. search needs) (λ c. search needs) (λ c κs. search needs) (λ c κs. search needs) returns returns-2)
+    (tie.spec (λ c κs. search needs) (λ c. search needs) (λ c κs. search needs) (λ c κs. search needs) returns
+    returns-2)

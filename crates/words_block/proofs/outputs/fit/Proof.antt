@@ -1,44 +1,20 @@
 -- `words_block::outputs::fit` meets its contract: all outputs passed show a node. Assumes nothing.
-use mathlib.Core.Path.{_≡_, refl}
-use mathlib.Core.Bool.{true}
-use Prim.Native.Nat.{_≤_, _-_}
+use Prim.Native.Nat.{_-_}
 use borrow.Author.Needs.{needs}
-use Rattle.prelude.specs.Lists.{all, upTo}
-use Rattle.words_block.proofs.TestLaws.{passes, fails, passed}
+use Rattle.prelude.proofs.Tested.{Tested, tested-none, tested-more, tested-fails, tested-all}
 use Rattle.words_block.specs.Steps.{shownRule}
 use Rattle.words_block.proofs.outputs.fit.Statement.{statement}
 use Rattle.words_block.proofs.outputs.fit.Tie as tie
 
 abbrev Inv-loop : tie.InvT-loop
-Inv-loop words nodes at k o₀ o = (o ≤ k) × (all (shownRule words nodes at) (upTo o) ≡ true)
+Inv-loop words nodes at k o₀ o = Tested (shownRule words nodes at) k o
 
 abbrev μ-loop : tie.MeasureT-loop
 μ-loop words nodes at k o₀ o = k - o
-
-loop-holds : tie.Need-loop-holds Inv-loop μ-loop
-loop-holds c = (search needs, refl)
-
-returns : tie.Need-returns Inv-loop μ-loop
-returns c =
-    let a = c .before .before .before .before .before .args in
-    let l = c .before .before .before .loop in
-    fails (shownRule (a .words .now) (a .nodes) (a .at)) (a .k) (l .o) (search needs) (c .before .fits2 .ensures) (c .if1 .taken)
-
-loop-again : tie.Need-loop-again Inv-loop μ-loop
-loop-again c =
-    let a = c .before .before .before .before .before .args in
-    let l = c .before .before .before .loop in
-    (search needs, passes (shownRule (a .words .now) (a .nodes) (a .at)) (l .o) (l .inv .1) (c .before .fits2 .ensures) (c .if1 .left))
-
-returns-2 : tie.Need-returns-2 Inv-loop μ-loop
-returns-2 c =
-    let a = c .before .before .before .args in
-    let l = c .before .loop in
-    passed (shownRule (a .words .now) (a .nodes) (a .at)) (a .k) (l .o) (l .inv .0) (c .loop-test .left) (l .inv .1)
 
 pub fit-spec : {M : Type 1} → statement M
 fit-spec =
     tie.close
     (tie.spec
-    Inv-loop μ-loop loop-holds (λ c κs. search needs) returns (λ c. search needs) (λ c. search needs) loop-again
-    returns-2)
+    Inv-loop μ-loop (λ c. tested-none) (λ c κs. search needs) (λ c. search tested-fails) (λ c. search needs)
+    (λ c. search needs) (λ c. search tested-more) (λ c. search tested-all))

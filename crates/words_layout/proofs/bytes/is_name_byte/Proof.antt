@@ -1,5 +1,4 @@
--- `words_layout::bytes::is_name_byte` meets its contract: a digit, or else what a name may start with.
--- Assumes nothing.
+-- `words_layout::bytes::is_name_byte` meets its contract: a digit, or else what a name may start with. Assumes nothing.
 use borrow.Author.Needs.{needs}
 use Rattle.words_layout.proofs.bytes.is_name_byte.Statement.{statement}
 use Rattle.words_layout.proofs.bytes.is_name_byte.Tie as tie
@@ -24,7 +23,8 @@ returns c = let x = c .before .before .args .c in
 returns-2 : tie.Need-returns-2
 unfolding isNameByte isNameStart
 returns-2 c = let x = c .before .before .before .args .c in
-    c .is-name-start .ensures ∙ sym (or-without (isLetter x) (isDigit x) (isUnderscore x) (sym (c .before .before .is-digit .ensures) ∙ c .before .if1 .left))
+    c .is-name-start .ensures ∙ sym (or-without (isLetter x) (isDigit x) (isUnderscore x)
+    (sym (c .before .before .is-digit .ensures) ∙ c .before .if1 .left))
 
 pub is-name-byte-spec : {M : Type 1} → statement M
 is-name-byte-spec = tie.close (tie.spec (λ c κs. search needs) (λ c κs. search needs) returns returns-2)

@@ -1,4 +1,5 @@
--- `words_layout::kinds::fewest_operands` meets its contract: the count that the kind's signature holds. Assumes nothing.
+-- `words_layout::kinds::fewest_operands` meets its contract: the count that the kind's signature holds. Assumes
+-- nothing.
 use mathlib.Core.Path.{ap}
 use borrow.Author.Needs.{needs}
 use Rattle.netlist.specs.declared.Signature.{Signature}

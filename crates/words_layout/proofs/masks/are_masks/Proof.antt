@@ -16,14 +16,16 @@ returns-2 : tie.Need-returns-2
 returns-2 c =
     let a = c .before .before .args in
     let s = shifted (c .before .before .pre) in
-    sym (masks-ones (a .n) (a .fixed) (a .ones) (omega (arith, s, c .before .if1 .left)) (omega (arith, s, c .if2 .taken)))
+    sym (masks-ones (a .n) (a .fixed) (a .ones) (omega (arith, s, c .before .if1 .left))
+    (omega (arith, s, c .if2 .taken)))
 
 returns-3 : tie.Need-returns-3
 returns-3 c =
     let a = c .before .before .before .args in
     let s = shifted (c .before .before .before .pre) in
     c .is-within .ensures
-    ∙ sym (masks-within (a .n) (a .fixed) (a .ones) (omega (arith, s, c .before .before .if1 .left)) (omega (arith, s, c .before .if2 .left)))
+    ∙ sym (masks-within (a .n) (a .fixed) (a .ones) (omega (arith, s, c .before .before .if1 .left))
+    (omega (arith, s, c .before .if2 .left)))
 
 pub are-masks-spec : {M : Type 1} → statement M
 are-masks-spec = tie.close (tie.spec (λ c. search needs) returns returns-2 (λ c κs. search needs) returns-3)

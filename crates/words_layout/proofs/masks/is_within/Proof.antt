@@ -1,4 +1,5 @@
--- `words_layout::masks::is_within` meets its contract: a value bit on an input that is not fixed decides at once. Assumes nothing.
+-- `words_layout::masks::is_within` meets its contract: a value bit on an input that is not fixed decides at once.
+-- Assumes nothing.
 use mathlib.Core.Path.{_≡_, refl, sym}
 use mathlib.Core.Bool.{true}
 use Prim.Native.Nat.{_≤_, _-_}
@@ -31,8 +32,11 @@ loop-again : tie.Need-loop-again Inv-loop μ-loop
 unfolding bit
 loop-again c =
     let args = c .before .before .before .args in
-    let loop = c .before .before .loop in
-    (omega arith, all-next (λ i. leb (bit (args .ones) i) (bit (args .fixed) i)) (loop .i) (loop .inv .1) (le-leb _ _ (c .if1 .left)))
+    let loop = c .before .before .loop in (
+      omega arith,
+      all-next (λ i. leb (bit (args .ones) i) (bit (args .fixed) i)) (loop .i) (loop .inv .1)
+          (le-leb _ _ (c .if1 .left)),
+    )
 
 returns-2 : tie.Need-returns-2 Inv-loop μ-loop
 unfolding isWithin

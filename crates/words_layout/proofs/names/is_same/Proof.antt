@@ -22,26 +22,33 @@ loop-holds c = (search needs, refl)
 
 returns : tie.Need-returns Inv-loop μ-loop
 returns c =
-    let a = c .before .before .before .before .before .before .before .args in
-    let l = c .before .before .before .before .loop in
+    let start : tie.Start Inv-loop μ-loop = search in
+    let head : tie.At-loop Inv-loop μ-loop = search in
+    let a = start .args in
+    let l = head .loop in
     let e : sameWordAt (a .ours .now) (a .at) (a .theirs .now) (a .other) (l .i) ≡ false =
     rw (← c .before .before .word-at .ensures, ← c .before .word-at2 .ensures) (ne-eqb _ _ (c .if1 .taken)) in
-    sym (all-not (sameWordAt (a .ours .now) (a .at) (a .theirs .now) (a .other)) 4 (l .i) (c .before .before .before .loop-test .taken) e)
+    sym (all-not (sameWordAt (a .ours .now) (a .at) (a .theirs .now) (a .other)) 4 (l .i)
+    (c .before .before .before .loop-test .taken) e)
 
 loop-again : tie.Need-loop-again Inv-loop μ-loop
 loop-again c =
-    let a = c .before .before .before .before .before .before .before .args in
-    let l = c .before .before .before .before .loop in
+    let start : tie.Start Inv-loop μ-loop = search in
+    let head : tie.At-loop Inv-loop μ-loop = search in
+    let a = start .args in
+    let l = head .loop in
     let e : sameWordAt (a .ours .now) (a .at) (a .theirs .now) (a .other) (l .i) ≡ true =
     rw (← c .before .before .word-at .ensures, ← c .before .word-at2 .ensures) (eq-eqb _ _ (c .if1 .left)) in
     (search needs, all-next (sameWordAt (a .ours .now) (a .at) (a .theirs .now) (a .other)) (l .i) (l .inv .1) e)
 
 returns-2 : tie.Need-returns-2 Inv-loop μ-loop
 returns-2 c =
-    let a = c .before .before .before .before .args in
+    let start : tie.Start Inv-loop μ-loop = search in
+    let a = start .args in
     let l = c .before .loop in
     let last : l .i ≡ 4 = le-antisymm (l .inv .0) (c .loop-test .left) in
-    subst (λ i. true ≡ all (sameWordAt (a .ours .now) (a .at) (a .theirs .now) (a .other)) (upTo i)) last (sym (l .inv .1))
+    subst (λ i. true ≡ all (sameWordAt (a .ours .now) (a .at) (a .theirs .now) (a .other)) (upTo i)) last
+    (sym (l .inv .1))
 
 pub is-same-spec : {M : Type 1} → statement M
 is-same-spec =

@@ -6,7 +6,8 @@ use Rattle.words_layout.proofs.offsets.gates_at.Statement.{statement}
 use Rattle.words_layout.proofs.offsets.gates_at.Tie as tie
 
 gates-behind-requires : tie.Need-gates-behind-requires
-gates-behind-requires c κs = let known = c .before .before .shared-slice-known in (omega (arith, known .given 0), omega (arith, known .given 3))
+gates-behind-requires c κs =
+    let known = c .before .before .shared-slice-known in (omega (arith, known .given 0), omega (arith, known .given 3))
 
 returns : tie.Need-returns
 unfolding gatesAt neversAt

@@ -1,4 +1,5 @@
--- `words_layout::trim::trimmed_length` meets its contract: what was passed over, from the end, is zero. Assumes nothing.
+-- `words_layout::trim::trimmed_length` meets its contract: what was passed over, from the end, is zero. Assumes
+-- nothing.
 use Prim.Native.Nat.{_≤_}
 use mathlib.Core.Path.{_≡_, refl, sym, _∙_}
 use native.Mathlib.Omega.{arith}
@@ -20,13 +21,21 @@ loop-holds c = (omega arith, rw (take-length (c .args .bytes .now)) refl)
 
 returns : tie.Need-returns Inv-loop μ-loop
 returns c =
-    let l = c .before .before .before .loop in
-    (l .inv .0, sym (trimmed-here (c .before .before .before .before .args .bytes .now) (l .count) (omega arith) (l .inv .0) (c .if1 .taken)) ∙ l .inv .1)
+    let start : tie.Start Inv-loop μ-loop = search in
+    let l = c .before .before .before .loop in (
+      l .inv .0,
+      sym (trimmed-here (start .args .bytes .now) (l .count) (omega arith) (l .inv .0) (c .if1 .taken))
+          ∙ l .inv .1,
+    )
 
 loop-again : tie.Need-loop-again Inv-loop μ-loop
 loop-again c =
-    let l = c .before .before .before .loop in
-    (omega arith, sym (trimmed-shorter (c .before .before .before .before .args .bytes .now) (l .count) (omega arith) (l .inv .0) (c .if1 .left)) ∙ l .inv .1)
+    let start : tie.Start Inv-loop μ-loop = search in
+    let l = c .before .before .before .loop in (
+      omega arith,
+      sym (trimmed-shorter (start .args .bytes .now) (l .count) (omega arith) (l .inv .0) (c .if1 .left))
+          ∙ l .inv .1,
+    )
 
 returns-2 : tie.Need-returns-2 Inv-loop μ-loop
 returns-2 c =

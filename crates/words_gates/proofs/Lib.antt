@@ -1,0 +1,3 @@
+mod GateLaws
+mod SlotLaws
+pub mod StraightLaws
