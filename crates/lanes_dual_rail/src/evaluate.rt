@@ -69,10 +69,10 @@ fn some_word(graph: &[u16; GRAPH_WORDS], j: usize, v: usize, lanes: &[u64; LANE_
     requires { ⌜ Node maxGates (now graph) j × (j < maxGates) × (v < 2) ⌝ }
     ensures { λ r. ⌜ r ≡ someWord (now (graph .entry)) j (now (lanes .entry)) v ⌝ }
 {
-    let a = operand_word(graph, j, 0, v, lanes);
-    let b = operand_word(graph, j, 1, v, lanes);
-    let c = operand_word(graph, j, 2, v, lanes);
     let d = operand_word(graph, j, 3, v, lanes);
+    let c = operand_word(graph, j, 2, v, lanes);
+    let b = operand_word(graph, j, 1, v, lanes);
+    let a = operand_word(graph, j, 0, v, lanes);
     a | (b | (c | d))
 }
 
@@ -81,10 +81,10 @@ fn every_word(graph: &[u16; GRAPH_WORDS], j: usize, v: usize, lanes: &[u64; LANE
     requires { ⌜ Node maxGates (now graph) j × (j < maxGates) × (v < 2) ⌝ }
     ensures { λ r. ⌜ r ≡ everyWord (now (graph .entry)) j (now (lanes .entry)) v ⌝ }
 {
-    let a = operand_word(graph, j, 0, v, lanes);
-    let b = operand_word(graph, j, 1, v, lanes);
-    let c = operand_word(graph, j, 2, v, lanes);
     let d = operand_word(graph, j, 3, v, lanes);
+    let c = operand_word(graph, j, 2, v, lanes);
+    let b = operand_word(graph, j, 1, v, lanes);
+    let a = operand_word(graph, j, 0, v, lanes);
     a & (b & (c & d))
 }
 
@@ -156,7 +156,8 @@ fn parity_pair(
     }
 }
 
-// The pair of gate `j`, by its operation.
+// The pair of gate `j`, by its operation. Each controlling value has a call of its own, where the words to be read are
+// known.
 pub fn gate_pair(graph: &[u16; GRAPH_WORDS], j: usize, lanes: &[u64; LANE_WORDS]) -> Pair
     requires { ⌜ Node maxGates (now graph) j × (j < maxGates) ⌝ }
     ensures { λ r. ⌜ r ≡ gatePairIn (now (graph .entry)) j (now (lanes .entry)) ⌝ }
@@ -165,11 +166,9 @@ pub fn gate_pair(graph: &[u16; GRAPH_WORDS], j: usize, lanes: &[u64; LANE_WORDS]
     if FIRST_PARITY <= operation % 8 {
         return parity_pair(graph, j, operation / FORCED, lanes);
     }
-    rule_pair(
-        graph,
-        j,
-        operation / CONTROLLING % 2,
-        operation / FORCED,
-        lanes,
-    )
+    let forced = operation / FORCED;
+    if operation / CONTROLLING % 2 == 0 {
+        return rule_pair(graph, j, 0, forced, lanes);
+    }
+    rule_pair(graph, j, 1, forced, lanes)
 }
