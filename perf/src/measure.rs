@@ -89,13 +89,22 @@ impl<I, T: Copy + PartialEq + Debug> Operation<I, T> {
         }
     }
 
-    /// What both programs answer.
+    /// What both programs answer, the plain one with two words a gate too.
     fn answered(&self, name: &str, input: &I) -> Reply {
-        let [proved, other] = [self.library, self.plain].map(|run| {
+        let programs = [
+            (self.library, false),
+            (self.plain, false),
+            (self.plain, true),
+        ];
+        let [proved, other, narrow] = programs.map(|(run, narrow)| {
             let mut result = vec![self.filler; self.room];
-            (run(input, &mut result), result)
+            plain::set_narrow(narrow);
+            let told = run(input, &mut result);
+            plain::set_narrow(false);
+            (told, result)
         });
         assert!(proved == other, "{name}: {:?}, {:?}", proved.0, other.0);
+        assert!(narrow == other, "{name}: {:?}, {:?}", narrow.0, other.0);
         proved.0
     }
 
