@@ -1,5 +1,6 @@
 //! Prints the times of both programs as a table, or with `--lines` as `NAME ratio seconds`: the library's processor time for one call on
-//! each input of the set, and its ratio to the plain program's. With `--growth`: how the time of each operation grows with its
+//! each input of the set, and its ratio to the plain program's; where an operation goes through all settings, behind that the ratio to the
+//! plain program with two words a gate, as the library has them. With `--growth`: how the time of each operation grows with its
 //! size, with `--svg` also as docs/growth.svg.
 //! With `--archive`: how small gzip and xz make stored blocks, before and after Gather.
 //! With `--program`: the whole program on many entries, and on the hardest texts.
@@ -43,7 +44,11 @@ fn main() -> ExitCode {
             program::load()
         );
         let [library, plain] = ["library ms", "plain ms"];
-        println!("{:34} {library:>12} {plain:>12} {:>8}", "name", "ratio");
+        let [ratio, narrow] = ["ratio", "to two words"];
+        println!(
+            "{:34} {library:>12} {plain:>12} {ratio:>8} {narrow:>12}",
+            "name"
+        );
     }
     lines::measure_all(print);
     ExitCode::SUCCESS
@@ -56,9 +61,17 @@ fn print_row(line: &Line) {
         0 => String::new(),
         inputs => format!("  {inputs} refused"),
     };
-    println!("{name:34} {library:12.4} {plain:12.4} {ratio:8.3}{refused}");
+    let narrow = match line.narrow_ratio() {
+        Some(ratio) => format!("{ratio:13.3}"),
+        None => String::new(),
+    };
+    println!("{name:34} {library:12.4} {plain:12.4} {ratio:8.3}{narrow}{refused}");
 }
 
 fn print_line(line: &Line) {
-    println!("{} {:.3} {:.9}", line.name, line.ratio(), line.library);
+    print!("{} {:.3} {:.9}", line.name, line.ratio(), line.library);
+    match line.narrow_ratio() {
+        Some(ratio) => println!(" {ratio:.3}"),
+        None => println!(),
+    }
 }

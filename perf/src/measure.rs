@@ -1,6 +1,7 @@
 //! Both programs in turn on the same inputs, and the best time of each.
 
-use crate::clock;
+use crate::clock::{calls_in_a_stretch, seconds_of_a_call};
+use crate::plain;
 use std::fmt::Debug;
 use std::hint::black_box;
 use std::time::{Duration, Instant};
@@ -11,6 +12,8 @@ pub struct Line {
     pub name: String,
     pub library: f64,
     pub plain: f64,
+    /// The plain program's with the library's two words a gate, where it goes through all settings.
+    pub narrow: Option<f64>,
     /// How many of the inputs are refused.
     pub refused: usize,
 }
@@ -19,6 +22,11 @@ impl Line {
     pub fn ratio(&self) -> f64 {
         self.library / self.plain
     }
+
+    /// The ratio to the plain program with two words a gate: what of `ratio` is not due to its up to sixteen.
+    pub fn narrow_ratio(&self) -> Option<f64> {
+        self.narrow.map(|narrow| self.library / narrow)
+    }
 }
 
 /// An operation as both programs have it, and the slice that is lent for its result.
@@ -26,6 +34,8 @@ pub struct Operation<I, T> {
     pub name: &'static str,
     pub room: usize,
     pub filler: T,
+    /// Whether it goes through all settings.
+    pub by_lanes: bool,
     pub library: fn(&I, &mut [T]) -> Reply,
     pub plain: fn(&I, &mut [T]) -> Reply,
 }
@@ -43,58 +53,74 @@ impl<I, T: Copy + PartialEq + Debug> Operation<I, T> {
         let answered = |input| self.answered(&name, input);
         let refused = inputs.iter().map(answered).filter(|told| told.number != 0);
         let refused = refused.count();
-        let programs = [self.library, self.plain];
-        let calls: Vec<[usize; 2]> = inputs
+        // The plain program once more, with two words a gate.
+        let programs = [self.library, self.plain, self.plain];
+        let programs = &programs[..2 + usize::from(self.by_lanes)];
+        let calls: Vec<Vec<usize>> = inputs
             .iter()
             .map(|input| {
-                programs.map(|run| self.run(run, input, |call| clock::calls_in_a_stretch(call)))
+                let calls = |i| self.run(i, programs, input, |call| calls_in_a_stretch(call));
+                (0..programs.len()).map(calls).collect()
             })
             .collect();
-        let mut best = [f64::MAX; 2];
+        let mut best = [f64::MAX; 3];
         let start = Instant::now();
         for repetition in 1.. {
-            let mut took = [0.0; 2];
+            let mut took = [0.0; 3];
             for (input, calls) in inputs.iter().zip(&calls) {
-                for i in 0..2 {
-                    let timed =
-                        |call: &mut dyn FnMut() -> Reply| clock::seconds_of_a_call(calls[i], call);
-                    took[i] += self.run(programs[i], input, timed);
+                for (i, &calls) in calls.iter().enumerate() {
+                    let timed = |call: &mut dyn FnMut() -> Reply| seconds_of_a_call(calls, call);
+                    took[i] += self.run(i, programs, input, timed);
                 }
             }
-            best = [0, 1].map(|i| best[i].min(took[i]));
+            best = [0, 1, 2].map(|i| best[i].min(took[i]));
             let spent = start.elapsed();
             if spent > TOO_LONG || (repetition >= REPETITIONS && spent > ENOUGH) {
                 break;
             }
         }
-        let [library, plain] = best;
+        let [library, plain, narrow] = best;
         Line {
             name,
             library,
             plain,
+            narrow: self.by_lanes.then_some(narrow),
             refused,
         }
     }
 
-    /// What both programs answer.
+    /// What both programs answer, the plain one with two words a gate too.
     fn answered(&self, name: &str, input: &I) -> Reply {
-        let [proved, other] = [self.library, self.plain].map(|run| {
+        let programs = [
+            (self.library, false),
+            (self.plain, false),
+            (self.plain, true),
+        ];
+        let [proved, other, narrow] = programs.map(|(run, narrow)| {
             let mut result = vec![self.filler; self.room];
-            (run(input, &mut result), result)
+            plain::set_narrow(narrow);
+            let told = run(input, &mut result);
+            plain::set_narrow(false);
+            (told, result)
         });
         assert!(proved == other, "{name}: {:?}, {:?}", proved.0, other.0);
+        assert!(narrow == other, "{name}: {:?}, {:?}", narrow.0, other.0);
         proved.0
     }
 
-    /// Hands a call over to be timed; the slice is lent and filled before.
+    /// Hands a call of program `i` over to be timed; the slice is lent and filled before. The third has two words a gate.
     fn run<R>(
         &self,
-        run: fn(&I, &mut [T]) -> Reply,
+        i: usize,
+        programs: &[fn(&I, &mut [T]) -> Reply],
         input: &I,
         timed: impl FnOnce(&mut dyn FnMut() -> Reply) -> R,
     ) -> R {
+        let run = programs[i];
         let mut result = vec![self.filler; self.room];
+        plain::set_narrow(i == 2);
         let timed = timed(&mut || black_box(run)(black_box(input), black_box(&mut result)));
+        plain::set_narrow(false);
         black_box(result);
         timed
     }

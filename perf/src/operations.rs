@@ -15,6 +15,7 @@ pub const READ: Operation<Vec<u8>, u16> = Operation {
     name: "read",
     room: BLOCK_WORDS,
     filler: 9_999,
+    by_lanes: false,
     library: |text, block| raw::read(text, block),
     plain: |text, block| plain::read(text, block),
 };
@@ -24,6 +25,7 @@ pub const LINE: Operation<(Vec<u8>, usize), u8> = Operation {
     name: "line",
     room: 0,
     filler: 0,
+    by_lanes: false,
     library: |(text, place), _| told(raw::line(text, *place)),
     plain: |(text, place), _| told(plain::line(text, *place)),
 };
@@ -40,6 +42,7 @@ pub const WRITE: Operation<Vec<u16>, u8> = Operation {
     name: "write",
     room: WRITTEN_BYTES,
     filler: 9,
+    by_lanes: false,
     library: |words, text| raw::write(words, text),
     plain: |words, text| plain::write(words, text),
 };
@@ -48,6 +51,7 @@ pub const BRING: OnBlock = Operation {
     name: "bring",
     room: BLOCK_WORDS,
     filler: 9_999,
+    by_lanes: false,
     library: |old, block| raw::bring(old, block),
     plain: |old, block| plain::bring(old, block),
 };
@@ -56,6 +60,7 @@ pub const SETTLE: Operation<UnderSetting, u8> = Operation {
     name: "settle",
     room: GATES,
     filler: 9,
+    by_lanes: false,
     library: |(words, setting), values| raw::settle(words, setting, values),
     plain: |(words, setting), values| plain::settle(words, setting, values),
 };
@@ -79,6 +84,7 @@ pub const CELLS: OnBlock = Operation {
     name: "cells",
     room: CELL_WORDS * GATES,
     filler: 9_999,
+    by_lanes: false,
     library: |words, cells| raw::cells(words, cells),
     plain: |words, cells| plain::cells(words, cells),
 };
@@ -87,6 +93,7 @@ pub const SHEET: Operation<Page, Record> = Operation {
     name: "sheet-of-40",
     room: SETTINGS,
     filler: NO_RECORD,
+    by_lanes: false,
     library: |(words, asked), records| {
         records.copy_from_slice(asked);
         raw::sheet(words, records)
@@ -109,6 +116,7 @@ pub const VERDICT: OnBlock = Operation {
     name: "verdict",
     room: 0,
     filler: 0,
+    by_lanes: true,
     library: |words, _| raw::verdict(words),
     plain: |words, _| plain::verdict(words),
 };
@@ -118,6 +126,7 @@ pub const COVER: OnBlock = Operation {
     // Two words for each partial assignment.
     room: COVER_WORDS,
     filler: 9_999,
+    by_lanes: true,
     library: |words, entries| raw::cover(words, entries),
     plain: |words, entries| plain::cover(words, entries),
 };
@@ -126,6 +135,7 @@ pub const GROUPS: OnBlock = Operation {
     name: "groups",
     room: GATES,
     filler: 9_999,
+    by_lanes: false,
     library: |words, numbers| raw::groups(words, numbers),
     plain: |words, numbers| plain::groups(words, numbers),
 };
@@ -134,6 +144,7 @@ pub const RENDER: OnBlock = Operation {
     name: "render",
     room: BLOCK_WORDS,
     filler: 9_999,
+    by_lanes: true,
     library: |words, rendered| raw::render(words, rendered),
     plain: |words, rendered| plain::render(words, rendered),
 };
@@ -145,6 +156,7 @@ pub const COMPARE: Operation<Two, u16> = Operation {
     name: "compare",
     room: 0,
     filler: 0,
+    by_lanes: true,
     library: |(ours, theirs), _| raw::compare(ours, theirs),
     plain: |(ours, theirs), _| plain::compare(ours, theirs),
 };
@@ -156,6 +168,7 @@ pub const COMPARE_CELLS: Operation<WithCells, u16> = Operation {
     name: "compare-cells",
     room: 0,
     filler: 0,
+    by_lanes: true,
     library: |(ours, cells, shown), _| raw::compare_cells(ours, cells, shown),
     plain: |(ours, cells, shown), _| plain::compare_cells(ours, cells, shown),
 };
@@ -165,6 +178,7 @@ pub const GATHER: OnBlock = Operation {
     name: "gather",
     room: BLOCK_WORDS + GATES,
     filler: 9_999,
+    by_lanes: false,
     library: |words, lent| {
         let (gathered, order) = lent.split_at_mut(BLOCK_WORDS);
         raw::gather(words, gathered, order)
@@ -179,6 +193,7 @@ pub const SCATTER: Operation<Two, u16> = Operation {
     name: "scatter",
     room: BLOCK_WORDS,
     filler: 9_999,
+    by_lanes: false,
     library: |(words, order), original| raw::scatter(words, order, original),
     plain: |(words, order), original| plain::scatter(words, order, original),
 };

@@ -33,6 +33,7 @@ pub use cells::{cells, run};
 pub use compare::compare;
 pub use compare_cells::compare_cells;
 pub use cover::cover;
+pub use decided::set_narrow;
 pub use gather::{gather, scatter};
 pub use groups::groups;
 pub use line::line;

@@ -5,7 +5,7 @@
 --   advanced-none, -swept, -still, -decided, -then   sweeps over a part
 --   straight-start, -more, -settled         a straight block, gate by gate
 --   settled-decoded                         a graph's settled values are the block's
---   started-underway, reached-start, reached-one, reached-loop, reached-settled   layers
+--   started-underway, reached-none, reached-one, reached-loop, reached-settled, lone-before   layers
 -- Assumes nothing.
 use mathlib.Core.Path.{_≡_, refl, sym, ap, ap₂, _∙_}
 use mathlib.Core.Logic.{inl, ⊎-elim}
@@ -50,9 +50,9 @@ use Rattle.lanes_dual_rail.proofs.LaneLaws.{nothing-lane, nothing-proper}
 use Rattle.lanes_dual_rail.proofs.RoundLaws.{getD-lane}
 use Rattle.lanes_dual_rail.proofs.LaneWordLaws.{node-legal, gatePairIn-evaluated, put-inputs, put-gates, put-filled}
 use Rattle.lanes_batch.specs.Batch.{Underway, Swept, room, placeOf}
-use Rattle.lanes_batch.specs.Layered.{isOther, GateEvaluated, GatesEvaluated, noGate, gateMore, Part, OrderPart, part, Among}
+use Rattle.lanes_batch.specs.Layered.{isOther, GateStored, GateEvaluated, GatesEvaluated, noGate, gateMore, Part, OrderPart, part, Among}
 use Rattle.lanes_batch.specs.Layered.{LanesUnderway, LanesSwept, roomIn, valueAt, evaluatedAt, Still, PartAdvanced, PartDecided}
-use Rattle.lanes_batch.specs.Layered.{startInputs, LanesStarted, Reached, LayerSettled, StraightReached, LanesSettled}
+use Rattle.lanes_batch.specs.Layered.{startInputs, LanesStarted, Reached, LayersSettled, StraightReached, LanesSettled}
 use Rattle.lanes_batch.proofs.Sweeping.{swept-none, swept-one, swept-then, swept-underway, lane-defined}
 use Rattle.lanes_batch.proofs.Inputs.{settled-inputs, startInputs-proper, startInputs-lane}
 
@@ -311,8 +311,8 @@ started-underway {m} {n} {base} {graph} {w} few s =
           });
     }
 
-pub reached-start : {m n base : ℕ} {graph order ends w : List ℕ} → n ≤ maxInputs → LanesStarted m n base w → Reached m n graph order ends 0 w
-reached-start few s = record { underway = started-underway few s; closed = λ k l. absurd (omega arith); still = λ k l. absurd (omega arith) }
+pub reached-none : {m n : ℕ} {graph order ends w : List ℕ} → LanesUnderway m n graph w → Reached m n graph order ends 0 w
+reached-none u = record { underway = u; closed = λ k l. absurd (omega arith); still = λ k l. absurd (omega arith) }
 
 -- a gate past the last has no value
 value-past : (m : ℕ) (w : List ℕ) (s j : ℕ) → m ≤ j → valueAt m w s j ≡ undefined
@@ -355,10 +355,10 @@ module _ {m : ℕ} {graph order ends : List ℕ} (layers : Layers m graph order 
       omega arith
 
   -- a gate that lies on no loop
-  pub reached-one : {n : ℕ} {w after : List ℕ} {changed : Bool} (i : ℕ) → Graph m graph → i < m → getD ends i 0 ≡ i → Reached m n graph order ends i w
-      → GateEvaluated graph (getD order i 0) w after changed → LayerSettled m n graph order ends i w after (i + 1)
+  pub reached-one : {n : ℕ} {w after : List ℕ} (i : ℕ) → Graph m graph → i < m → getD ends i 0 ≡ i → Reached m n graph order ends i w
+      → GateStored graph (getD order i 0) w after → LayersSettled m n graph order ends i w after (i + 1)
   unfolding run stepAt evaluatedAt valueAt
-  reached-one {n} {w} {after} {changed} i g l straight r e =
+  reached-one {n} {w} {after} i g l straight r e =
       record {
         reached = record {
           underway = lanes-underway (r .underway) s;
@@ -378,8 +378,8 @@ module _ {m : ℕ} {graph order ends : List ℕ} (layers : Layers m graph order 
       inside : j < m
       inside = layers .inside i l
 
-      s : LanesSwept m n graph (j ∷ []) w after changed
-      s = lanes-one j g inside (r .underway) e
+      s : LanesSwept m n graph (j ∷ []) w after (isOther (gatePairIn graph j w) (pairAt w (firstGate + j)))
+      s = lanes-one j g inside (r .underway) (record { wordsAre = e .wordsAre; changedIs = refl })
 
       stepped : (c : ℕ) → c < lanesOf n → map (lane c) (gatesIn m after) ≡ set (map (lane c) (gatesIn m w)) j (evaluatedAt m graph w c j)
       stepped c q = s .swept .lanewise c q
@@ -417,7 +417,7 @@ module _ {m : ℕ} {graph order ends : List ℕ} (layers : Layers m graph order 
 
   -- a loop
   pub reached-loop : {n : ℕ} {w after : List ℕ} (i : ℕ) → i < m → (getD ends i 0 ≡ i → ⊥) → Reached m n graph order ends i w
-      → PartAdvanced m n graph order i (getD ends i 0) w after true → LayerSettled m n graph order ends i w after (getD ends i 0)
+      → PartAdvanced m n graph order i (getD ends i 0) w after true → LayersSettled m n graph order ends i w after (getD ends i 0)
   reached-loop {n} {w} {after} i l d r a =
       let e = loop-end i l d in
       let behind = e .behind in
@@ -460,6 +460,10 @@ module _ {m : ℕ} {graph order ends : List ℕ} (layers : Layers m graph order 
           let p = layers .every j (rw (network-count m graph) at h) in
           rw (p .2) at (r .still (p .0) (p .1) s l)
 
+-- where a gate on no loop stands at position i, and none at k, some position lies between
+pub lone-before : (ends : List ℕ) (i k : ℕ) → i ≤ k → getD ends i 0 ≡ i → (getD ends k 0 ≡ k → ⊥) → i < k
+lone-before ends i k l e d = ⊎-elim (λ h. h) (λ h. let same : k ≡ i = omega arith in absurd (d (rw same e))) (lt-or-le i k)
+
 -- ---- a straight block's gates, as they come
 
 as-come : ℕ → List ℕ
@@ -481,15 +485,15 @@ straight-layers m graph h =
     }
 
 pub straight-start : {m n base : ℕ} {graph w : List ℕ} → n ≤ maxInputs → LanesStarted m n base w → StraightReached m n graph 0 w
-straight-start few s = record { reached = reached-start few s }
+straight-start few s = record { reached = reached-none (started-underway few s) }
 
 module _ (m : ℕ) (graph : List ℕ) (h : isStraight (network m graph) ≡ true) where
   -- one gate more
-  pub straight-more : {n i : ℕ} {w after : List ℕ} {changed : Bool} → Graph m graph → i < m → StraightReached m n graph i w
-      → GateEvaluated graph i w after changed → StraightReached m n graph (i + 1) after × (inputsIn after ≡ inputsIn w)
+  pub straight-more : {n i : ℕ} {w after : List ℕ} → Graph m graph → i < m → StraightReached m n graph i w
+      → GateStored graph i w after → StraightReached m n graph (i + 1) after × (inputsIn after ≡ inputsIn w)
   unfolding as-come
-  straight-more {n} {i} {w} {after} {changed} g l r e =
-      let e′ : GateEvaluated graph (getD (as-come m) i 0) w after changed = rw (as-come-at m i l) e in
+  straight-more {n} {i} {w} {after} g l r e =
+      let e′ : GateStored graph (getD (as-come m) i 0) w after = rw (as-come-at m i l) e in
       let s = reached-one (straight-layers m graph h) i g l (as-come-at m i l) (r .reached) e′ in
       (record { reached = s .reached }, s .inputsKept)
 

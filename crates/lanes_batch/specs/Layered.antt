@@ -1,10 +1,10 @@
 -- A batch of settings decided layer by layer, in one array of words: what stands there on the way, what a sweep leaves, and what is decided at the end.
 --   Part, OrderPart           the gates at the positions from one to before another can be evaluated
---   GateEvaluated, GatesEvaluated   what one gate's evaluation and several leave
+--   GateStored, GateEvaluated, GatesEvaluated   what one gate's evaluation and several leave
 --   part, Among               these gates, there or back
 --   LanesUnderway, LanesSwept the pairs on the way to the settled values, and after a list of gates was evaluated
 --   Still, PartAdvanced, PartDecided   gates that have the values that their evaluation gives
---   Reached, LayerSettled, StraightReached   the layers below a position are settled
+--   Reached, LayersSettled, StraightReached   the layers below a position are settled
 --   startInputs, LanesStarted the first pairs
 --   LanesSettled              the settled values of a batch
 --   PlanRoom, Planned, StraightPlanned   a block's words, decoded and in layers, or straight
@@ -37,6 +37,10 @@ use Rattle.lanes_batch.specs.Batch.{Underway, Swept, room, placeOf}
 
 unfoldable pub isOther : Pair → Pair → Bool
 isOther p q = not (eqb (p .zeros) (q .zeros)) || not (eqb (p .ones) (q .ones))
+
+-- gate j was evaluated and its pair stored
+pub record GateStored (graph : List ℕ) (j : ℕ) (w after : List ℕ) : Type 0 where
+  pub wordsAre : after ≡ putPair w (firstGate + j) (gatePairIn graph j w)
 
 -- gate j was evaluated and its pair stored, and `changed` tells whether it is another
 pub record GateEvaluated (graph : List ℕ) (j : ℕ) (w after : List ℕ) (changed : Bool) : Type 0 where
@@ -139,8 +143,8 @@ pub record Reached (m n : ℕ) (graph order ends : List ℕ) (i : ℕ) (w : List
   pub closed : (k : ℕ) → k < i → getD ends k 0 ≤ i
   pub still : (k : ℕ) → k < i → Still m n graph w (getD order k 0)
 
--- the layer at position i is settled, and the next one starts at `next`
-pub record LayerSettled (m n : ℕ) (graph order ends : List ℕ) (i : ℕ) (w after : List ℕ) (next : ℕ) : Type 0 where
+-- the layers from position i on are settled, up to the one that starts at `next`
+pub record LayersSettled (m n : ℕ) (graph order ends : List ℕ) (i : ℕ) (w after : List ℕ) (next : ℕ) : Type 0 where
   pub reached : Reached m n graph order ends next after
   pub inputsKept : inputsIn after ≡ inputsIn w
   pub more : i < next

@@ -23,10 +23,10 @@ ghost use Rattle.graph_gates.specs.Graph.{Node, Graph, network};
 ghost use Rattle.graph_scc.specs.Layers.{Layers};
 ghost use Rattle.lanes_dual_rail.specs.Pairs.{full};
 ghost use Rattle.lanes_dual_rail.specs.Batches.{lanesOf};
-ghost use Rattle.lanes_dual_rail.specs.LaneWords.{laneSize};
+ghost use Rattle.lanes_dual_rail.specs.LaneWords.{laneSize, inputsIn};
 ghost use Rattle.lanes_batch.specs.Batch.{placeOf};
-ghost use Rattle.lanes_batch.specs.Layered.{GateEvaluated, GatesEvaluated, Part, OrderPart, part, LanesUnderway, PartAdvanced, PartDecided, roomIn};
-ghost use Rattle.lanes_batch.specs.Layered.{Cleared, InputsStarted, LanesStarted, Reached, LayerSettled, LanesSettled};
+ghost use Rattle.lanes_batch.specs.Layered.{GateStored, GateEvaluated, GatesEvaluated, Part, OrderPart, part, LanesUnderway, PartAdvanced, PartDecided, roomIn};
+ghost use Rattle.lanes_batch.specs.Layered.{Cleared, InputsStarted, LanesStarted, Reached, LayersSettled, LanesSettled};
 
 // Stores 0 in the words below `end`.
 fn clear_words(end: usize, lanes: &mut [u64; LANE_WORDS])
@@ -76,6 +76,15 @@ pub fn start_lanes(m: usize, n: usize, base: usize, lanes: &mut [u64; LANE_WORDS
         },
     );
     put_inputs(n, base, lanes);
+}
+
+// Evaluates gate `j` and stores its pair.
+fn evaluate(graph: &[u16; GRAPH_WORDS], j: usize, lanes: &mut [u64; LANE_WORDS])
+    requires { ⌜ Node maxGates (now graph) j × (j < maxGates) ⌝ }
+    ensures { λ r. ⌜ GateStored (now (graph .entry)) j (now (lanes .entry)) (now (lanes .exit)) ⌝ }
+{
+    let pair = gate_pair(graph, j, lanes);
+    put_pair(lanes, FIRST_GATE + j, pair);
 }
 
 // Evaluates gate `j` and stores its pair; tells whether it changed.
@@ -190,8 +199,9 @@ fn settle_loop(
     }
 }
 
-// Settles the layer that starts at position `i`; gives the position at which the next one starts.
-fn settle_layer(
+// Settles the layer that starts at position `i`, and if that is a gate on no loop, all such gates up to the next loop;
+// gives the position at which the next layer starts.
+fn settle_layers(
     graph: &[u16; GRAPH_WORDS],
     m: usize,
     n: usize,
@@ -202,16 +212,41 @@ fn settle_layer(
 ) -> usize
     requires { ⌜ Graph m (now graph) × Layers m (now graph) (now order) (now ends) × (i < m) × Reached m n (now graph) (now order) (now ends) i (now lanes) ⌝ }
     ensures { λ r. ⌜
-        LayerSettled m n (now (graph .entry)) (now (order .entry)) (now (ends .entry)) i (now (lanes .entry)) (now (lanes .exit)) r
+        LayersSettled m n (now (graph .entry)) (now (order .entry)) (now (ends .entry)) i (now (lanes .entry)) (now (lanes .exit)) r
         ⌝ }
 {
     let end = ends[i] as usize;
-    if end == i {
-        step(graph, order[i] as usize, lanes);
-        return i + 1;
+    if end != i {
+        settle_loop(graph, m, n, order, i, end, lanes);
+        return end;
     }
-    settle_loop(graph, m, n, order, i, end, lanes);
-    end
+    let mut k = i;
+    while k < m && ends[k] as usize == k {
+        evaluate(graph, order[k] as usize, lanes);
+        k += 1;
+    }
+    k
+}
+
+// Settles layer after layer, whatever the inputs are: afterwards no gate can change any more.
+pub fn walk_layers(
+    graph: &[u16; GRAPH_WORDS],
+    m: usize,
+    n: usize,
+    order: &[u16; MAX_GATES],
+    ends: &[u16; MAX_GATES],
+    lanes: &mut [u64; LANE_WORDS],
+)
+    requires { ⌜ Graph m (now graph) × Layers m (now graph) (now order) (now ends) × LanesUnderway m n (now graph) (now lanes) ⌝ }
+    ensures { λ r. ⌜
+        Reached m n (now (graph .entry)) (now (order .entry)) (now (ends .entry)) m (now (lanes .exit))
+        × (inputsIn (now (lanes .exit)) ≡ inputsIn (now (lanes .entry)))
+        ⌝ }
+{
+    let mut i = 0;
+    while i < m {
+        i = settle_layers(graph, m, n, order, ends, i, lanes);
+    }
 }
 
 // Finds the settled values of the batch at every lane.
@@ -229,10 +264,7 @@ pub fn decide_batch(
     ensures { λ r. ⌜ LanesSettled (network m (now (graph .entry))) n base (now (lanes .exit)) ⌝ }
 {
     start_lanes(m, n, base, lanes);
-    let mut i = 0;
-    while i < m {
-        i = settle_layer(graph, m, n, order, ends, i, lanes);
-    }
+    walk_layers(graph, m, n, order, ends, lanes);
 }
 
 // Finds the settled values of a straight block: its gates, each of which reads only gates before it, are evaluated once,
@@ -251,7 +283,7 @@ pub fn decide_straight(
     start_lanes(m, n, base, lanes);
     let mut j = 0;
     while j < m {
-        step(graph, j, lanes);
+        evaluate(graph, j, lanes);
         j += 1;
     }
 }

@@ -1,6 +1,7 @@
 -- Pairs in one array of words: the rule of a gate's row over four places is the kind's rule over its operands, and what a pair that is stored leaves.
 --   and-full, or-none, and-none   words within the lanes in use
 --   combined-neutral              the constant behind the last operand changes nothing
+--   not-pair                      the pair of a `not`, with constant 1 read once
 --   place-operand                 what stands at a place is the operand's pair
 --   gatePairIn-evaluated          so the four places give the gate's pair
 --   put-same, put-other, put-inputs, put-gates, put-filled, put-length    a pair stored
@@ -77,6 +78,12 @@ and-full lanes a h = eq-by-bits (bitAnd a (full lanes)) a (λ s. bit-and a (full
 
 pub or-none : (a : ℕ) → bitOr a 0 ≡ a
 or-none a = eq-by-bits (bitOr a 0) a (λ s. bit-or a 0 s ∙ rw (bit-zero s) (omega arith))
+
+or-same : (a : ℕ) → bitOr a a ≡ a
+or-same a = eq-by-bits (bitOr a a) a (λ s. bit-or a a s ∙ let low = bit-low a s in omega arith)
+
+and-same : (a : ℕ) → bitAnd a a ≡ a
+and-same a = eq-by-bits (bitAnd a a) a (λ s. bit-and a a s ∙ omega arith)
 
 full-within : (lanes : ℕ) → full lanes < 2 ^ lanes
 unfolding full
@@ -260,6 +267,26 @@ module _ (graph : List ℕ) (j : ℕ) (w : List ℕ) where
   four-parity : (k : ℕ) → 5 ≤ k → k ≤ 6 → parityAt graph j w (forcedOf k) ≡ fourPair k (p 0) (p 1) (p 2) (p 3)
   unfolding p parityAt parityOf forcedOf isNot isXor isXnor fourPair finished inverts combined isConjunction isParity
   four-parity k h l = ⊎-elim (λ e. rw e refl) (λ n. let e : k ≡ 6 = omega arith in rw e refl) (eq-or-ne k 5)
+
+-- a `not` reads constant 1 behind its operand, whatever its words are
+pub not-pair : {m : ℕ} {graph : List ℕ} {j : ℕ} (w : List ℕ) {a one : Pair} → Node m graph j → kindAt graph j ≡ 0 → a ≡ pairAt w (placeAt graph j 0)
+    → one ≡ pairAt w 1 → record { zeros = bitAnd (a .ones) (one .ones); ones = bitOr (a .zeros) (one .zeros) } ≡ gatePairIn graph j w
+unfolding gatePairIn rulePair someWord everyWord controllingOf forcedOf isNot
+not-pair {m} {graph} {j} w node kind e f =
+    let parts = operation-parts node in
+    let single = counts-low (kindAt graph j) (countAt graph j) (known node) (node .count) .2 kind in
+    let behind : (i : ℕ) → 1 ≤ i → i < 4 → placeAt graph j i ≡ 1 = λ i l h. absent node i h (omega (arith, single)) ∙ rw kind refl in
+    rw (e, f, parts .0, parts .1, parts .2, kind)
+    (simp (
+      word-zeros graph j w,
+      word-ones graph j w,
+      behind 1 (omega arith) (omega arith),
+      behind 2 (omega arith) (omega arith),
+      behind 3 (omega arith) (omega arith),
+      or-same,
+      and-same,
+    )
+    refl)
 
 -- The gate's pair by its row, over four places, is the pair of its kind over its operands.
 module _ {m lanes : ℕ} {graph : List ℕ} {j : ℕ} {w : List ℕ} (node : Node m graph j) (filled : Filled (full lanes) w)

@@ -10,7 +10,7 @@ ghost use Prim.Native.Nat.{_<_};
 ghost use lib.ListN.{getD};
 ghost use Rattle.netlist.specs.Limits.{maxGates};
 ghost use Rattle.graph_gates.specs.Places.{placeCount};
-ghost use Rattle.graph_gates.specs.Graph.{Node, placeAt};
+ghost use Rattle.graph_gates.specs.Graph.{Node, kindAt, placeAt};
 ghost use Rattle.lanes_dual_rail.specs.Pairs.{parityPair, swapped};
 ghost use Rattle.lanes_dual_rail.specs.LaneWords.{pairAt, putPair, operandWord, someWord, everyWord, rulePair, parityOf, parityAt, gatePairIn};
 
@@ -18,6 +18,9 @@ ghost use Rattle.lanes_dual_rail.specs.LaneWords.{pairAt, putPair, opera
 const CONTROLLING: usize = 64;
 
 const FORCED: usize = 128;
+
+// The kind `not`.
+const NOT: usize = 0;
 
 // The kinds from this one on, `xor` and `xnor`, have no row of controlling and forced values.
 const FIRST_PARITY: usize = 5;
@@ -69,10 +72,10 @@ fn some_word(graph: &[u16; GRAPH_WORDS], j: usize, v: usize, lanes: &[u64; LANE_
     requires { ⌜ Node maxGates (now graph) j × (j < maxGates) × (v < 2) ⌝ }
     ensures { λ r. ⌜ r ≡ someWord (now (graph .entry)) j (now (lanes .entry)) v ⌝ }
 {
-    let a = operand_word(graph, j, 0, v, lanes);
-    let b = operand_word(graph, j, 1, v, lanes);
-    let c = operand_word(graph, j, 2, v, lanes);
     let d = operand_word(graph, j, 3, v, lanes);
+    let c = operand_word(graph, j, 2, v, lanes);
+    let b = operand_word(graph, j, 1, v, lanes);
+    let a = operand_word(graph, j, 0, v, lanes);
     a | (b | (c | d))
 }
 
@@ -81,10 +84,10 @@ fn every_word(graph: &[u16; GRAPH_WORDS], j: usize, v: usize, lanes: &[u64; LANE
     requires { ⌜ Node maxGates (now graph) j × (j < maxGates) × (v < 2) ⌝ }
     ensures { λ r. ⌜ r ≡ everyWord (now (graph .entry)) j (now (lanes .entry)) v ⌝ }
 {
-    let a = operand_word(graph, j, 0, v, lanes);
-    let b = operand_word(graph, j, 1, v, lanes);
-    let c = operand_word(graph, j, 2, v, lanes);
     let d = operand_word(graph, j, 3, v, lanes);
+    let c = operand_word(graph, j, 2, v, lanes);
+    let b = operand_word(graph, j, 1, v, lanes);
+    let a = operand_word(graph, j, 0, v, lanes);
     a & (b & (c & d))
 }
 
@@ -156,20 +159,35 @@ fn parity_pair(
     }
 }
 
-// The pair of gate `j`, by its operation.
+// The pair of a `not`: behind its one operand stands constant 1, which is read once.
+fn not_pair(graph: &[u16; GRAPH_WORDS], j: usize, lanes: &[u64; LANE_WORDS]) -> Pair
+    requires { ⌜ Node maxGates (now graph) j × (j < maxGates) × (kindAt (now graph) j ≡ 0) ⌝ }
+    ensures { λ r. ⌜ r ≡ gatePairIn (now (graph .entry)) j (now (lanes .entry)) ⌝ }
+{
+    let pair = operand_pair(graph, j, 0, lanes);
+    let one = pair_at(lanes, 1);
+    Pair {
+        zeros: pair.ones & one.ones,
+        ones: pair.zeros | one.zeros,
+    }
+}
+
+// The pair of gate `j`, by its operation. Each controlling value has a call of its own, where the words to be read are
+// known.
 pub fn gate_pair(graph: &[u16; GRAPH_WORDS], j: usize, lanes: &[u64; LANE_WORDS]) -> Pair
     requires { ⌜ Node maxGates (now graph) j × (j < maxGates) ⌝ }
     ensures { λ r. ⌜ r ≡ gatePairIn (now (graph .entry)) j (now (lanes .entry)) ⌝ }
 {
     let operation = graph[NODE_SIZE * j] as usize;
+    if operation % 8 == NOT {
+        return not_pair(graph, j, lanes);
+    }
     if FIRST_PARITY <= operation % 8 {
         return parity_pair(graph, j, operation / FORCED, lanes);
     }
-    rule_pair(
-        graph,
-        j,
-        operation / CONTROLLING % 2,
-        operation / FORCED,
-        lanes,
-    )
+    let forced = operation / FORCED;
+    if operation / CONTROLLING % 2 == 0 {
+        return rule_pair(graph, j, 0, forced, lanes);
+    }
+    rule_pair(graph, j, 1, forced, lanes)
 }

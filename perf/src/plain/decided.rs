@@ -4,6 +4,7 @@ use super::block::Block;
 use super::gate::Gate;
 use super::groups::Groups;
 use super::lanes::{to_its_end, Lanes, Order};
+use std::sync::atomic::{AtomicBool, Ordering::Relaxed};
 
 /// What is known of all settings.
 #[derive(Default)]
@@ -13,10 +14,26 @@ pub struct Decided {
     pub undecided: Vec<u64>,
 }
 
+/// Whether each gate has but the library's two words, for 64 settings at a time.
+static NARROW: AtomicBool = AtomicBool::new(false);
+
+/// From here on two words a gate, or again as many as the settings fill.
+pub fn set_narrow(narrow: bool) {
+    NARROW.store(narrow, Relaxed);
+}
+
+/// How many of n inputs the settings side by side go through; six fill a word.
+pub fn inputs_side_by_side(n: usize) -> usize {
+    match NARROW.load(Relaxed) {
+        true => n.min(6),
+        false => n,
+    }
+}
+
 /// Calls a function with as many words a gate as the settings fill, at most eight.
 macro_rules! by_width {
     ($n:expr, $run:ident($($argument:expr),*)) => {
-        match $n {
+        match $crate::plain::decided::inputs_side_by_side($n) {
             0..=6 => $run::<1>($($argument),*),
             7 => $run::<2>($($argument),*),
             8 => $run::<4>($($argument),*),

@@ -22,8 +22,8 @@ loop-holds c =
     let s = c .before .before in
     (omega arith, straight-start (s .pre .1 .0) (c .start-lanes .ensures), c .start-lanes .ensures .inputs)
 
-step-requires : tie.Need-step-requires Inv-loop μ-loop
-step-requires c κs =
+evaluate-requires : tie.Need-evaluate-requires Inv-loop μ-loop
+evaluate-requires c κs =
     let turn = c .before in
     let s = turn .before .before .before .before in
     let g = s .pre .0 .0 in
@@ -34,7 +34,7 @@ loop-again c =
     let turn = c .before .before in
     let l = turn .before in
     let s = l .before .before .before in
-    let more = straight-more _ _ (s .pre .0 .1) (s .pre .0 .0) (turn .loop-test .taken) (l .loop .inv .1) (c .step .ensures) in
+    let more = straight-more _ _ (s .pre .0 .1) (s .pre .0 .0) (turn .loop-test .taken) (l .loop .inv .1) (c .evaluate .ensures) in
     (omega arith, more .0, more .1 ∙ l .loop .inv .2)
 
 returns : tie.Need-returns Inv-loop μ-loop
@@ -48,5 +48,5 @@ pub decide-straight-spec : {M : Type 1} → statement M
 decide-straight-spec =
     tie.close
     (tie.spec
-    Inv-loop μ-loop start-lanes-requires loop-holds step-requires
+    Inv-loop μ-loop start-lanes-requires loop-holds evaluate-requires
     (λ c. omega (arith, c .before .before .loop-test .taken)) (λ c. omega arith) loop-again returns)
