@@ -19,9 +19,8 @@ use Rattle.netlist.specs.Reading.{termsGates}
 use Rattle.theory_grammar.proofs.Places.{term-measure}
 use Rattle.text_expressions.specs.declared.Leaf.{Leaf}
 use Rattle.text_expressions.specs.declared.Found.{Found}
-use Rattle.text_expressions.specs.declared.Listed.{Listed}
 use Rattle.text_expressions.specs.Leaves.{earlier, nameLength, indexHere, nameHere, constantHere, leafHere}
-use Rattle.text_expressions.specs.Walk.{Ends, leftOf, declaredNames, unknownAfter, gatesWords, Table, TermAt, TermDone, TermsDone}
+use Rattle.text_expressions.specs.Walk.{Ends, leftOf, declaredNames, unknownAfter, gatesWords, Table, TermAt, TermDone, TermsDone, noWords}
 use Rattle.prelude.proofs.Stores.{sets-append}
 use Rattle.prelude.proofs.Lists.{joined-append}
 use Rattle.text_expressions.proofs.Fronts.{earlier-none, earlier-assoc, leaf-name}
@@ -92,9 +91,6 @@ unfolding termsNodes termCount
 nodes-count nil bs first = refl
 nodes-count (cons t ts) bs first = ap suc (nodes-count ts bs (first + gatesIn t))
 
-abbrev pub noWords : List ℕ
-noWords = 0 ∷ 0 ∷ 0 ∷ 0 ∷ []
-
 -- the words of at most four operands, behind them zeros
 filled-words : (n : ℕ) (os : List Operand) → length os ≤ 4 → sets noWords 0 (map (nodeWord n) os) ≡ tab (λ i. getD (map (nodeWord n) os) i 0) 4
 filled-words n [] h = refl
@@ -115,66 +111,68 @@ gate-made n k count os filled few c f = rw (c, f, filled-words n os few)
 
 module _ (n : ℕ) (bs : List Binding) where
   -- no operand is left
-  pub nil-done : (at first seen i : ℕ) (s rest gates slots : List ℕ) → length s ≡ suc (length rest)
-      → TermsDone n bs nil at s rest first seen i gates gates slots slots (record { left = length s - 1; count = i; gates = first; unknown = seen })
+  pub nil-done : (at first seen i left : ℕ) (s rest gates slots : List ℕ) → left ≡ length rest
+      → TermsDone n bs nil at s rest first seen i gates gates slots slots left i first seen
   unfolding termCount gatesInside termsMentions termsGates termsNodes gatesWords
-  nil-done at first seen i s rest gates slots e =
+  nil-done at first seen i left s rest gates slots e =
       record {
-        left = omega arith;
-        count = omega arith;
-        gates = omega arith;
-        unknown = unknown-none seen bs (at + length s);
+        leftIs = e;
+        countIs = omega arith;
+        gatesAre = omega arith;
+        unknownIs = unknown-none seen bs (at + length s);
         words = refl;
         operands = refl;
       }
 
   -- an operand, and then the others
-  pub cons-done : (o : Term) (ts : Terms) (at first seen i : ℕ) (s behind rest g₀ g₁ g₂ slots filled : List ℕ) (one : Found) (r : Listed)
-      → printTerm o behind ≡ drop 1 s → 0 < length s
-      → TermDone n bs o (at + 1) (drop 1 s) behind first seen g₀ g₁ one
-      → TermsDone n bs ts (at + 1 + length (printTerm o [])) behind rest (one .gates) (one .unknown) (i + 1) g₁ g₂ (set slots i (one .word)) filled r
-      → TermsDone n bs (cons o ts) at s rest first seen i g₀ g₂ slots filled r
-  unfolding termCount gatesInside termsMentions termsGates termsNodes
-  cons-done o ts at first seen i s behind rest g₀ g₁ g₂ slots filled one r p l d e =
-      let m = term-measure o behind in
-      let q = ap length p in
-      let z = length-drop 1 s in
-      let total : at + 1 + length (printTerm o []) + length behind ≡ at + length s = omega arith in
-      let total′ : at + 1 + length (drop 1 s) ≡ at + length s = omega arith in
-      record {
-        left = e .left;
-        count = omega (arith, e .count);
-        gates = omega (arith, e .gates, d .gates);
-        unknown =
-            e .unknown ∙ rw (d .unknown, total, total′)
-            (unknown-append seen bs (termMentions o (at + 1)) (termsMentions ts (at + 1 + length (printTerm o []))) (at + length s));
-        words = e .words ∙ rw (d .words, d .gates)
-            (words-behind n (termGates o bs first) (termsGates ts bs (first + gatesIn o)) g₀ first (first + gatesIn o) (omega (arith, gates-count o bs first)));
-        operands = let k : i + 1 ≡ suc i = omega arith in e .operands ∙ rw (d .word, d .gates, k);
-      }
+  module _ (o : Term) (ts : Terms) (at first seen i : ℕ) (s behind rest g₀ g₁ g₂ slots filled : List ℕ) (one : Found) where
+    pub cons-done : (left count gates unknown : ℕ) → printTerm o behind ≡ drop 1 s → 0 < length s
+        → TermDone n bs o (at + 1) (drop 1 s) behind first seen g₀ g₁ one
+        → TermsDone n bs ts (at + 1 + length (printTerm o [])) behind rest (one .gates) (one .unknown) (i + 1) g₁ g₂ (set slots i (one .word)) filled
+        left count gates unknown
+        → TermsDone n bs (cons o ts) at s rest first seen i g₀ g₂ slots filled left count gates unknown
+    unfolding termCount gatesInside termsMentions termsGates termsNodes
+    cons-done left count gates unknown p l d e =
+        let m = term-measure o behind in
+        let q = ap length p in
+        let z = length-drop 1 s in
+        let total : at + 1 + length (printTerm o []) + length behind ≡ at + length s = omega arith in
+        let total′ : at + 1 + length (drop 1 s) ≡ at + length s = omega arith in
+        record {
+          leftIs = e .leftIs;
+          countIs = omega (arith, e .countIs);
+          gatesAre = omega (arith, e .gatesAre, d .gates);
+          unknownIs =
+              e .unknownIs ∙ rw (d .unknown, total, total′)
+              (unknown-append seen bs (termMentions o (at + 1)) (termsMentions ts (at + 1 + length (printTerm o []))) (at + length s));
+          words = e .words ∙ rw (d .words, d .gates)
+              (words-behind n (termGates o bs first) (termsGates ts bs (first + gatesIn o)) g₀ first (first + gatesIn o)
+              (omega (arith, gates-count o bs first)));
+          operands = let k : i + 1 ≡ suc i = omega arith in e .operands ∙ rw (d .word, d .gates, k);
+        }
 
   -- an expression
-  pub apply-done : (k : ℕ) (ts : Terms) (at first seen : ℕ) (s inner rest g₀ g₁ g₂ filled : List ℕ) (l : Listed)
-      → termCount ts ≤ 4 → length s ≡ 1 + length (keyword k) + length inner
-      → TermsDone n bs ts (at + 1 + length (keyword k)) inner rest first seen 0 g₀ g₁ noWords filled l
-      → g₂ ≡ sets g₁ (5 * l .gates) ((k + 8 * l .count) ∷ filled)
-      → TermDone n bs (apply k ts) at s rest first seen g₀ g₂
-      (record { left = l .left; word = n + l .gates; gates = l .gates + 1; unknown = l .unknown })
-  unfolding termNode gatesIn termMentions termGates nodeWord
-  apply-done k ts at first seen s inner rest g₀ g₁ g₂ filled l few m d e =
-      let total : at + 1 + length (keyword k) + length inner ≡ at + length s = omega arith in
-      let c = nodes-count ts bs first in
-      let made : (k + 8 * l .count) ∷ filled ≡ gatesWords n (record { kind = k; operands = termsNodes ts bs first } ∷ []) =
-      gate-made n k (l .count) (termsNodes ts bs first) filled (omega arith) (omega (arith, d .count)) (d .operands) in
-      record {
-        left = d .left;
-        word = rw (d .gates);
-        gates = omega (arith, d .gates);
-        unknown = d .unknown ∙ rw total;
-        words = e ∙ ap (sets g₁ (5 * l .gates)) made ∙ rw (d .words, d .gates)
-            (words-behind n (termsGates ts bs first) (record { kind = k; operands = termsNodes ts bs first } ∷ []) g₀ first (first + gatesInside ts)
-            (omega (arith, gates-counts ts bs first)));
-      }
+  module _ (k : ℕ) (ts : Terms) (wide at first seen : ℕ) (s inner rest g₀ g₁ g₂ filled : List ℕ) (left count gates unknown : ℕ) where
+    pub apply-done : termCount ts ≤ 4 → wide ≡ length (keyword k) → length s ≡ wide + length inner
+        → TermsDone n bs ts (at + 1 + wide) inner rest first seen 0 g₀ g₁ noWords filled left count gates unknown
+        → g₂ ≡ sets g₁ (5 * gates) ((k + 8 * count) ∷ filled)
+        → TermDone n bs (apply k ts) at (40 ∷ s) rest first seen g₀ g₂
+        (record { left = left; word = n + gates; gates = gates + 1; unknown = unknown })
+    unfolding termNode gatesIn termMentions termGates nodeWord
+    apply-done few w m d e =
+        let total : at + 1 + wide + length inner ≡ at + length (40 ∷ s) = omega arith in
+        let c = nodes-count ts bs first in
+        let made : (k + 8 * count) ∷ filled ≡ gatesWords n (record { kind = k; operands = termsNodes ts bs first } ∷ []) =
+        gate-made n k count (termsNodes ts bs first) filled (omega arith) (omega (arith, d .countIs)) (d .operands) in
+        record {
+          left = d .leftIs;
+          word = rw (d .gatesAre);
+          gates = omega (arith, d .gatesAre);
+          unknown = d .unknownIs ∙ rw (total, w);
+          words = e ∙ ap (sets g₁ (5 * gates)) made ∙ rw (d .words, d .gatesAre)
+              (words-behind n (termsGates ts bs first) (record { kind = k; operands = termsNodes ts bs first } ∷ []) g₀ first (first + gatesInside ts)
+              (omega (arith, gates-counts ts bs first)));
+        }
 
   -- a name, or a constant
   module _ (at first seen : ℕ) (rest gates : List ℕ) where

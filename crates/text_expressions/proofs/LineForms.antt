@@ -1,11 +1,11 @@
 -- Gate lines and output lines: where their names and expressions stand, and what their readers have done. Assumes nothing.
-use mathlib.Core.Path.{_≡_, refl, ap, _∙_}
+use mathlib.Core.Path.{_≡_, refl, sym, ap, _∙_}
 use mathlib.Core.Bool.{Bool, true, false}
 use mathlib.Core.List.{List, [], _∷_, _++_, append-assoc}
-use Prim.Native.Nat.{ℕ, _+_, _-_, _*_, _≤_}
+use Prim.Native.Nat.{ℕ, suc, _+_, _-_, _*_, _≤_}
 use native.Mathlib.Omega.{arith}
 use lib.ListN.{length, take, drop, length-append}
-use lib.Seq.{sets, drop-at}
+use lib.Seq.{sets, drop-at, drop-drop}
 use Rattle.prelude.specs.Lists.{ascii, all}
 use Rattle.prelude.proofs.Tests.{and-left, and-right}
 use Rattle.prelude.proofs.Elements.{rest-is-drop}
@@ -65,15 +65,16 @@ module _ (w x r : List ℕ) (c : ℕ) where
 
 -- ---- gate lines
 
+-- the expression stands behind a name of k bytes; its own bytes behind its bracket
 pub record GateParts (g : GateLine) (s rest : List ℕ) (k : ℕ) : Type 0 where
   pub named : k ≡ length (g .name)
-  pub long : 7 + k ≤ length s
-  pub measured : length s ≡ 7 + k + length (drop (7 + k) s)
-  pub inner : TermAt (apply (g .kind) (g .terms)) 8 (ascii ")\n" ++ rest) (drop (7 + k) s)
+  pub long : 8 + k ≤ length s
+  pub measured : length s ≡ 7 + k + suc (length (drop (8 + k) s))
+  pub inner : TermAt (apply (g .kind) (g .terms)) 8 (ascii ")\n" ++ rest) (40 ∷ drop (8 + k) s)
 
 gate-parts-at : (g : GateLine) (rest : List ℕ) (k : ℕ) → isLegalGate g ≡ true
     → k ≡ length (nameFront 8 (take (length (printGate g rest) - 6) (drop 6 (printGate g rest)))) → GateParts g (printGate g rest) rest k
-unfolding printGate isLegalGate isNodeName isNameByte isLetter isDigit isUnderscore
+unfolding printGate isLegalGate isNodeName isNameByte isLetter isDigit isUnderscore printTerm
 gate-parts-at g rest k h e =
     let o = apply (g .kind) (g .terms) in
     let inner = printTerm o (ascii ")\n" ++ rest) in
@@ -82,11 +83,13 @@ gate-parts-at g rest k h e =
     let f : k ≡ length (g .name) = e ∙ ap length (name-behind (ascii "(gate ") (g .name) inner 32 isNameStart 6 refl a refl) in
     let m = whole-length (ascii "(gate ") (g .name) inner 32 in
     let z = behind-name (ascii "(gate ") (g .name) inner 32 (7 + k) (omega arith) in
+    let q : 7 + k + 1 ≡ 8 + k = omega arith in
+    let y : drop (8 + k) (printGate g rest) ≡ drop 1 inner = rw q at (sym (drop-drop 1 (7 + k) (printGate g rest)) ∙ ap (drop 1) z) in
     record {
       named = f;
       long = omega arith;
-      measured = rw z (omega arith);
-      inner = rw z (record { legal = b; printed = refl; ends = refl });
+      measured = rw y (omega arith);
+      inner = rw y (record { legal = b; printed = refl; ends = refl });
     }
 
 module _ (s : List ℕ) (k : ℕ) (e : k ≡ length (nameFront 8 (take (length s - 6) (drop 6 s)))) where
@@ -94,30 +97,32 @@ module _ (s : List ℕ) (k : ℕ) (e : k ≡ length (nameFront 8 (take (length s
   unfolding gateForm
   gate-parts g rest w = rw (← w .printed) (gate-parts-at g rest k (w .legal) (rw (w .printed) e))
 
+  abbrev pub expressionText : List ℕ
+  expressionText = 40 ∷ take (length s - (8 + k)) (drop (8 + k) s)
+
   module _ (n : ℕ) (names words : List ℕ) (first : ℕ) (gates : List ℕ) where
     -- what the expression's reader may assume
-    pub gate-here : LineHere gateForm maxGates s n names words first gates
-        → TermHere (take (length s - (7 + k)) (drop (7 + k) s)) 8 n names words first gates
+    pub gate-here : LineHere gateForm maxGates s n names words first gates → TermHere expressionText n names words first gates
     unfolding gateForm lineGates gatesIn
     gate-here p =
         record {
           bindings = p .bindings;
           term = apply (p .line .kind) (p .line .terms);
+          depth = 8;
           rest = ascii ")\n" ++ p .rest;
           table = p .table;
-          here = rw (rest-is-drop s (7 + k)) (gate-parts (p .line) (p .rest) (p .here) .inner);
+          here = rw (rest-is-drop s (8 + k)) (gate-parts (p .line) (p .rest) (p .here) .inner);
           few = p .few;
           inputs = p .inputs;
           room = p .room;
         }
 
-    module _ (seen : ℕ) (after : List ℕ) (one : Found)
-        (r : TermRead (take (length s - (7 + k)) (drop (7 + k) s)) 8 n names words first seen gates after one) where
+    module _ (seen : ℕ) (after : List ℕ) (one : Found) (r : TermRead expressionText n names words first seen gates after one) where
       gate-done : (bs : List Binding) (g : GateLine) (rest : List ℕ) (at : ℕ) → Table n bs names words → LineAt gateForm g rest s
-          → TermDone n bs (apply (g .kind) (g .terms)) at (drop (7 + k) s) (ascii ")\n" ++ rest) first seen gates after one
+          → TermDone n bs (apply (g .kind) (g .terms)) at (40 ∷ drop (8 + k) s) (ascii ")\n" ++ rest) first seen gates after one
       gate-done bs g rest at t w =
-          let r′ = rw (rest-is-drop s (7 + k)) at r in
-          r′ .done bs (apply (g .kind) (g .terms)) (ascii ")\n" ++ rest) at t (gate-parts g rest w .inner)
+          let r′ = rw (rest-is-drop s (8 + k)) at r in
+          r′ .done bs (apply (g .kind) (g .terms)) 8 (ascii ")\n" ++ rest) at t (gate-parts g rest w .inner)
 
       pub gate-left : LineHere gateForm maxGates s n names words first gates → 2 ≤ one .left
       gate-left p = let d = gate-done (p .bindings) (p .line) (p .rest) 0 (p .table) (p .here) .left in omega arith
@@ -129,7 +134,7 @@ module _ (s : List ℕ) (k : ℕ) (e : k ≡ length (nameFront 8 (take (length s
             done = λ bs g rest at t w.
                 let c = gate-parts g rest w in
                 let d = gate-done bs g rest (at + 6 + length (g .name) + 1) t w in
-                let total : at + 6 + length (g .name) + 1 + length (drop (7 + k) s) ≡ at + length s = omega (arith, c .named, c .measured) in
+                let total : at + 6 + length (g .name) + 1 + suc (length (drop (8 + k) s)) ≡ at + length s = omega (arith, c .named, c .measured) in
                 record {
                   left = let h = d .left in omega arith;
                   number = d .gates;

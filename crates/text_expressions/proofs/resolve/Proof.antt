@@ -16,14 +16,17 @@ use Rattle.text_expressions.proofs.resolve.Statement.{statement}
 use Rattle.text_expressions.proofs.resolve.Tie as tie
 
 -- the function's entry, and where the gate lines are read
+abbrev known : tie.After-shared-slice-known3 → tie.Start
+known c = c .before .before .before
+
 abbrev entry : tie.After-struct-known → tie.Start
-entry c = c .before .before .before .before .before .before .before
+entry c = known (c .before .before .before)
 
 abbrev start : tie.After-gate-lines → tie.Start
 start c = entry (c .before .before .before .before .before)
 
 abbrev gates-read : tie.After-struct-known2 → tie.After-gate-lines
-gates-read c = c .before .before .before
+gates-read c = c .before
 
 abbrev lines-read : tie.After-output-lines → tie.After-gate-lines
 lines-read c = gates-read (c .before .before .before .before .before)
@@ -112,7 +115,7 @@ returns c =
 add-length : tie.Need-add-t15
 add-length c = let s = start (lines-read (c .before .before .before .before)) in omega (arith, s .good)
 
-sub-unknown : tie.Need-sub-t25
+sub-unknown : tie.Need-sub-t24
 sub-unknown c =
     let outputs = c .before .before .before .before .before in
     let gates = lines-read outputs in
@@ -143,5 +146,4 @@ resolve-spec =
     add-nodes sub-gate-lines part-gate-lines-start (λ c. search needs) slice-aggregate-gate-lines
     slice-aggregate-gate-lines-2 gate-lines-requires sub-output-lines (λ c. search needs) (λ c. search needs)
     (λ c. search needs) slice-aggregate-output-lines slice-aggregate-output-lines-2 output-lines-requires
-    (λ c. search needs) (λ c. search needs) returns add-length sub-unknown (λ c. search needs) (λ c. search needs)
-    returns-2)
+    (λ c. search needs) returns add-length sub-unknown (λ c. search needs) returns-2)
