@@ -15,7 +15,8 @@ use Rattle.theory_encoding.proofs.Gates.{most-four}
 use Rattle.netlist.specs.Kinds.{isKind, arityFits, keyword}
 use Rattle.netlist.specs.Limits.{maxName}
 use Rattle.netlist.specs.Names.{isLetter, isDigit, isUnderscore, isNameByte, isNameStart, isLegalName, isNodeName}
-use Rattle.netlist.specs.Syntax.{Term, Terms, name, literal, apply, nil, cons, printTerm, printTerms, termCount, isLegalTerm, isLegalTerms}
+use Rattle.netlist.specs.Syntax.{Term, Terms, name, literal, apply, nil, cons, printTerm, printTerms, termCount}
+use Rattle.netlist.specs.Syntax.{isLegalTerm, isLegalTerms}
 use Rattle.theory_grammar.proofs.ListFacts.{and3}
 use Rattle.theory_grammar.proofs.CompleteTerms.{arity-bounds}
 use Rattle.theory_grammar.proofs.Shorter.{printTerm-append, ending}
@@ -37,7 +38,8 @@ pub record Opened (o : Term) (depth : ℕ) (rest s : List ℕ) : Type 0 where
   pub measured : length s ≡ length (keyword kind) + length (drop (wordLength kind) s)
   pub inner : TermsAt terms (depth - 1) rest (drop (wordLength kind) s)
 
-no-start : (c : ℕ) (rest x : List ℕ) → 0 < length x → isNameStart (getD x 0 0) ≡ true → isNameStart c ≡ false → getD (x ++ rest) 0 0 ≡ c → ⊥
+no-start : (c : ℕ) (rest x : List ℕ) → 0 < length x → isNameStart (getD x 0 0) ≡ true → isNameStart c ≡ false
+    → getD (x ++ rest) 0 0 ≡ c → ⊥
 no-start c rest [] l h f e = omega arith
 no-start c rest (d ∷ x) l h f e = not-both h (ap isNameStart e ∙ f)
 
@@ -48,7 +50,8 @@ name-begins c rest x h f =
     let a = and3 (leb 1 (length x) && leb (length x) maxName) (isNameStart (getD x 0 0)) (all isNameByte x) h in
     no-start c rest x (leb-true 1 (length x) (and-left (leb 1 (length x)) (leb (length x) maxName) (a .0))) (a .1) f
 
-opened-at : (o : Term) (depth : ℕ) (rest s : List ℕ) → isLegalTerm o depth ≡ true → printTerm o rest ≡ 40 ∷ s → Opened o depth rest s
+opened-at : (o : Term) (depth : ℕ) (rest s : List ℕ) → isLegalTerm o depth ≡ true → printTerm o rest ≡ 40 ∷ s
+    → Opened o depth rest s
 unfolding printTerm isLegalTerm isNameStart isLetter isUnderscore
 opened-at (name x) depth rest s h e = absurd (name-begins 40 rest x h refl (ap (λ (l : List ℕ). getD l 0 0) e))
 opened-at (literal true) depth rest s h e = absurd (omega (arith, ap (λ (l : List ℕ). getD l 0 0) e))
@@ -60,7 +63,8 @@ opened-at (apply k ts) (suc depth) rest s h e =
     let a = arity-bounds k (termCount ts) (f .1) .1 in
     let inside = printTerms ts (ascii ")" ++ rest) in
     let q : keyword k ++ inside ≡ s = cc in
-    let d : drop (wordLength k) (keyword k ++ inside) ≡ inside = drop-at (keyword k) inside (wordLength k) (omega (arith, word-back k)) in
+    let d : drop (wordLength k) (keyword k ++ inside) ≡ inside = drop-at (keyword k) inside (wordLength k)
+    (omega (arith, word-back k)) in
     let z : suc depth - 1 ≡ depth = omega arith in
     rw (← q) (record {
       kind = k;
@@ -83,7 +87,8 @@ pub record Inside (o : Term) (depth : ℕ) (rest s : List ℕ) (k wide : ℕ) : 
   pub measured : length s ≡ wide + length (drop wide s)
   pub inner : TermsAt terms (depth - 1) rest (drop wide s)
 
-pub inside : (o : Term) (depth : ℕ) (rest s : List ℕ) (k wide : ℕ) → TermAt o depth rest (40 ∷ s) → k ≡ kindHere s → wide ≡ wordLength k
+pub inside : (o : Term) (depth : ℕ) (rest s : List ℕ) (k wide : ℕ) → TermAt o depth rest (40 ∷ s) → k ≡ kindHere s
+    → wide ≡ wordLength k
     → Inside o depth rest s k wide
 inside o depth rest s k wide w f g =
     let z = opened-at o depth rest s (w .legal) (w .printed) in
@@ -121,12 +126,14 @@ pub record More (os : Terms) (depth : ℕ) (rest s : List ℕ) : Type 0 where
   pub ends : drop (length s - length behind) s ≡ behind
   pub shorter : length behind < length s
 
-closed-at : (os : Terms) (rest : List ℕ) → getD (printTerms os (ascii ")" ++ rest)) 0 0 ≡ 41 → Closed os rest (printTerms os (ascii ")" ++ rest))
+closed-at : (os : Terms) (rest : List ℕ) → getD (printTerms os (ascii ")" ++ rest)) 0 0 ≡ 41
+    → Closed os rest (printTerms os (ascii ")" ++ rest))
 unfolding printTerms
 closed-at nil rest e = record { terms = refl; measured = refl }
 closed-at (cons o os) rest e = absurd (omega arith)
 
-pub closed-list : (os : Terms) (depth : ℕ) (rest s : List ℕ) → TermsAt os depth rest s → getD s 0 0 ≡ 41 → Closed os rest s
+pub closed-list : (os : Terms) (depth : ℕ) (rest s : List ℕ) → TermsAt os depth rest s → getD s 0 0 ≡ 41
+    → Closed os rest s
 closed-list os depth rest s w e = rw (← w .printed) (closed-at os rest (rw (w .printed) e))
 
 -- what follows an operand begins with a space or a bracket
@@ -135,7 +142,8 @@ unfolding printTerms isNameByte isLetter isDigit isUnderscore
 terms-end nil rest = refl
 terms-end (cons o os) rest = refl
 
-more-at : (os : Terms) (depth : ℕ) (rest : List ℕ) → isLegalTerms os depth ≡ true → (getD (printTerms os (ascii ")" ++ rest)) 0 0 ≡ 41 → ⊥)
+more-at : (os : Terms) (depth : ℕ) (rest : List ℕ) → isLegalTerms os depth ≡ true
+    → (getD (printTerms os (ascii ")" ++ rest)) 0 0 ≡ 41 → ⊥)
     → More os depth rest (printTerms os (ascii ")" ++ rest))
 unfolding printTerms isLegalTerms
 more-at nil depth rest h e = absurd (e refl)
@@ -143,7 +151,8 @@ more-at (cons o os) depth rest h e =
     let f = and-eq-true-iff (isLegalTerm o depth) (isLegalTerms os depth) .0 h in
     let behind = printTerms os (ascii ")" ++ rest) in
     let m = term-measure o behind in
-    let z = ending (32 ∷ printTerm o []) behind (32 ∷ printTerm o behind) (ap (λ (r : List ℕ). 32 ∷ r) (sym (printTerm-append o [] behind))) in
+    let z = ending (32 ∷ printTerm o []) behind (32 ∷ printTerm o behind)
+    (ap (λ (r : List ℕ). 32 ∷ r) (sym (printTerm-append o [] behind))) in
     record {
       term = o;
       others = os;
@@ -156,5 +165,6 @@ more-at (cons o os) depth rest h e =
       shorter = omega (arith, m);
     }
 
-pub more : (os : Terms) (depth : ℕ) (rest s : List ℕ) → TermsAt os depth rest s → (getD s 0 0 ≡ 41 → ⊥) → More os depth rest s
+pub more : (os : Terms) (depth : ℕ) (rest s : List ℕ) → TermsAt os depth rest s → (getD s 0 0 ≡ 41 → ⊥)
+    → More os depth rest s
 more os depth rest s w e = rw (← w .printed) (more-at os depth rest (w .legal) (rw (w .printed) e))

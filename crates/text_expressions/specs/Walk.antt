@@ -14,7 +14,8 @@ use Rattle.netlist.specs.Netlist.{Name, Gate}
 use Rattle.netlist.specs.StoredBlock.{gateSize, nodeWord, gateWords}
 use Rattle.netlist.specs.Names.{isNameByte, isNodeName}
 use Rattle.netlist.specs.Syntax.{Term, Terms, printTerm, printTerms, termCount, isLegalTerm, isLegalTerms}
-use Rattle.netlist.specs.Reading.{Mention, Binding, gatesIn, gatesInside, termMentions, termsMentions, firstOutside, termNode, termsNodes, termGates}
+use Rattle.netlist.specs.Reading.{Mention, Binding, gatesIn, gatesInside, termMentions, termsMentions, firstOutside}
+use Rattle.netlist.specs.Reading.{termNode, termsNodes, termGates}
 use Rattle.netlist.specs.Reading.{termsGates}
 use Rattle.text_symbols.specs.Packed.{packed}
 use Rattle.text_expressions.specs.declared.Found.{Found}
@@ -67,7 +68,8 @@ pub record TermHere (s : List ℕ) (n : ℕ) (names words : List ℕ) (first : �
   pub inputs : n ≤ maxInputs
   pub room : gateSize * maxGates ≤ length gates
 
-pub record TermDone (n : ℕ) (bs : List Binding) (o : Term) (at : ℕ) (s rest : List ℕ) (first seen : ℕ) (before after : List ℕ) (r : Found)
+pub record TermDone (n : ℕ) (bs : List Binding) (o : Term) (at : ℕ) (s rest : List ℕ) (first seen : ℕ)
+    (before after : List ℕ) (r : Found)
     : Type 0 where
   pub left : r .left ≡ length rest
   pub word : r .word ≡ nodeWord n (termNode o bs first)
@@ -76,8 +78,10 @@ pub record TermDone (n : ℕ) (bs : List Binding) (o : Term) (at : ℕ) (s rest 
   pub words : after ≡ sets before (gateSize * first) (gatesWords n (termGates o bs first))
 
 -- what reading a term gives, of whatever term and bindings it is
-pub record TermRead (s : List ℕ) (n : ℕ) (names words : List ℕ) (first unknown : ℕ) (before after : List ℕ) (r : Found) : Type 0 where
-  pub done : (bs : List Binding) (o : Term) (depth : ℕ) (rest : List ℕ) (at : ℕ) → Table n bs names words → TermAt o depth rest s
+pub record TermRead (s : List ℕ) (n : ℕ) (names words : List ℕ) (first unknown : ℕ) (before after : List ℕ)
+    (r : Found) : Type 0 where
+  pub done : (bs : List Binding) (o : Term) (depth : ℕ) (rest : List ℕ) (at : ℕ) → Table n bs names words
+      → TermAt o depth rest s
       → TermDone n bs o at s rest first unknown before after r
 
 -- ---- an operand list, and its closing bracket
@@ -88,7 +92,8 @@ pub record TermsAt (os : Terms) (depth : ℕ) (rest s : List ℕ) : Type 0 where
 
 -- the operands of s from here on are read: so many operands stand before them, and so many gates have closed behind
 -- them
-pub record TermsDone (n : ℕ) (bs : List Binding) (os : Terms) (at : ℕ) (s rest : List ℕ) (first seen i : ℕ) (before after : List ℕ)
+pub record TermsDone (n : ℕ) (bs : List Binding) (os : Terms) (at : ℕ) (s rest : List ℕ) (first seen i : ℕ)
+    (before after : List ℕ)
     (slots filled : List ℕ) (left count gates unknown : ℕ) : Type 0 where
   pub leftIs : left ≡ length rest
   pub countIs : count ≡ i + termCount os
@@ -103,21 +108,26 @@ pub record TermsDone (n : ℕ) (bs : List Binding) (os : Terms) (at : ℕ) (s re
 abbrev pub noWords : List ℕ
 noWords = 0 ∷ 0 ∷ 0 ∷ 0 ∷ []
 
-pub record ListNow (s : List ℕ) (start first seen : ℕ) (before : List ℕ) (n : ℕ) (bs : List Binding) (os : Terms) (depth : ℕ) (rest : List ℕ)
+pub record ListNow (s : List ℕ) (start first seen : ℕ) (before : List ℕ) (n : ℕ) (bs : List Binding) (os : Terms)
+    (depth : ℕ) (rest : List ℕ)
     (base at count closed missing : ℕ) (gates slots : List ℕ) : Type 0 where
   pub others : Terms
   pub here : TermsAt others depth rest (drop at s)
   pub counted : count + termCount others ≡ termCount os
   pub costs : closed + gatesInside others ≡ first + gatesInside os
   pub onward : (after filled : List ℕ) (left number made unknown : ℕ)
-      → TermsDone n bs others (base + at) (drop at s) rest closed missing count gates after slots filled left number made unknown
-      → TermsDone n bs os (base + start) (drop start s) rest first seen 0 before after noWords filled left number made unknown
+      → TermsDone n bs others (base + at) (drop at s) rest closed missing count gates after slots filled left number
+      made unknown
+      → TermsDone n bs os (base + start) (drop start s) rest first seen 0 before after noWords filled left number made
+      unknown
 
-pub record ListOn (s : List ℕ) (start n : ℕ) (names words : List ℕ) (first seen : ℕ) (before : List ℕ) (at count closed missing : ℕ)
+pub record ListOn (s : List ℕ) (start n : ℕ) (names words : List ℕ) (first seen : ℕ) (before : List ℕ)
+    (at count closed missing : ℕ)
     (gates slots : List ℕ) : Type 0 where
   pub within : start ≤ at
   pub inside : at ≤ length s
   pub same : length gates ≡ length before
   pub sized : length slots ≡ 4
-  pub reached : (bs : List Binding) (os : Terms) (depth : ℕ) (rest : List ℕ) (base : ℕ) → Table n bs names words → TermsAt os depth rest (drop start s)
+  pub reached : (bs : List Binding) (os : Terms) (depth : ℕ) (rest : List ℕ) (base : ℕ) → Table n bs names words
+      → TermsAt os depth rest (drop start s)
       → ListNow s start first seen before n bs os depth rest base at count closed missing gates slots

@@ -1,4 +1,5 @@
--- `text_expressions::lines::gate_line` meets its contract: its expression stands behind its name and a bracket. Assumes nothing.
+-- `text_expressions::lines::gate_line` meets its contract: its expression stands behind its name and a bracket. Assumes
+-- nothing.
 use mathlib.Core.Path.{refl}
 use native.Mathlib.Omega.{arith}
 use Rattle.text_expressions.proofs.LineForms.{GateParts, gate-parts, gate-here, gate-left, gate-read}
@@ -45,7 +46,8 @@ expression-requires c κs =
     let named = c .before .before in
     let start = entry named in
     let a = start .args in (
-      gate-here (a .s .now) (named .name-length .result) (named .name-length .ensures) (a .n) (a .names .now) (a .words .now) (a .first) (a .gates .now)
+      gate-here (a .s .now) (named .name-length .result) (named .name-length .ensures) (a .n) (a .names .now)
+          (a .words .now) (a .first) (a .gates .now)
           (start .pre .0),
       start .pre .1,
     )
@@ -55,15 +57,18 @@ sub-left c =
     let read = c .before in
     let named = read .before .before .before in
     let a = entry named .args in
-    gate-left (a .s .now) (named .name-length .result) (named .name-length .ensures) (a .n) (a .names .now) (a .words .now) (a .first) (a .gates .now)
-    (a .unknown) (read .expression .last .1 .1 .1 .1 .1 .1 .1 .0) (read .expression .result) (read .expression .ensures) (entry named .pre .0)
+    gate-left (a .s .now) (named .name-length .result) (named .name-length .ensures) (a .n) (a .names .now)
+    (a .words .now) (a .first) (a .gates .now)
+    (a .unknown) (read .expression .last .1 .1 .1 .1 .1 .1 .1 .0) (read .expression .result)
+    (read .expression .ensures) (entry named .pre .0)
 
 returns : tie.Need-returns
 returns c =
     let read = c .before in
     let named = read .before .before .before in
     let a = entry named .args in
-    gate-read (a .s .now) (named .name-length .result) (named .name-length .ensures) (a .n) (a .names .now) (a .words .now) (a .first) (a .gates .now)
+    gate-read (a .s .now) (named .name-length .result) (named .name-length .ensures) (a .n) (a .names .now)
+    (a .words .now) (a .first) (a .gates .now)
     (a .unknown) (read .expression .last .1 .1 .1 .1 .1 .1 .1 .0) (read .expression .result) (read .expression .ensures)
 
 pub gate-line-spec : {M : Type 1} → statement M

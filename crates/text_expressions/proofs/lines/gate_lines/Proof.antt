@@ -1,4 +1,5 @@
--- `text_expressions::lines::gate_lines` meets its contract: what is done so far and what the other lines add is what all add. Assumes nothing.
+-- `text_expressions::lines::gate_lines` meets its contract: what is done so far and what the other lines add is what
+-- all add. Assumes nothing.
 use borrow.Author.Needs.{needs}
 use native.Mathlib.Omega.{arith}
 use Prim.Native.Nat.{_-_, _≤_}
@@ -38,7 +39,8 @@ gate-line-requires c κs =
     let start = entry (in-loop .before) in
     let a = start .args in
     let l = in-loop .before .loop in (
-      line-here gateForm gate-lawful (a .lines) (a .text .now) (a .n) (a .names .now) (a .words .now) 0 (a .gates .now) (l .i) (l .left) (l .first)
+      line-here gateForm gate-lawful (a .lines) (a .text .now) (a .n) (a .names .now) (a .words .now) 0 (a .gates .now)
+          (l .i) (l .left) (l .first)
           (l .unknown) (l .gates) (l .inv) maxGates (start .pre .0) (in-loop .loop-test .taken),
       start .pre .1,
     )
@@ -54,8 +56,10 @@ module _ (c : tie.After-gate-line Inv-loop μ-loop) where
       let start = entry (in-loop .before) in
       let a = start .args in
       let l = in-loop .before .loop in
-      lines-kept gateForm gate-lawful (a .lines) (a .text .now) (a .n) (a .names .now) (a .words .now) 0 (a .gates .now) (l .i) (l .left) (l .first)
-      (l .unknown) (l .gates) (l .inv) (c .gate-line .last .1 .1 .1 .1 .1 .1 .1 .0) (c .gate-line .result) (c .gate-line .ensures) maxGates
+      lines-kept gateForm gate-lawful (a .lines) (a .text .now) (a .n) (a .names .now) (a .words .now) 0
+      (a .gates .now) (l .i) (l .left) (l .first)
+      (l .unknown) (l .gates) (l .inv) (c .gate-line .last .1 .1 .1 .1 .1 .1 .1 .0) (c .gate-line .result)
+      (c .gate-line .ensures) maxGates
       (start .pre .0) (in-loop .loop-test .taken)
 
 add-i : tie.Need-add-i Inv-loop μ-loop
@@ -71,14 +75,17 @@ loop-again c =
     let a = entry (in-loop c .before) .args in
     let l = in-loop c .before .loop in
     let g = c .gate-line in
-    lines-step gateForm gate-lawful (a .lines) (a .text .now) (a .n) (a .names .now) (a .words .now) 0 (a .gates .now) (l .i) (l .left) (l .first)
-    (l .unknown) (l .gates) (l .inv) (g .last .1 .1 .1 .1 .1 .1 .1 .0) (g .result) (g .ensures) (kept c) (in-loop c .loop-test .taken)
+    lines-step gateForm gate-lawful (a .lines) (a .text .now) (a .n) (a .names .now) (a .words .now) 0 (a .gates .now)
+    (l .i) (l .left) (l .first)
+    (l .unknown) (l .gates) (l .inv) (g .last .1 .1 .1 .1 .1 .1 .1 .0) (g .result) (g .ensures) (kept c)
+    (in-loop c .loop-test .taken)
 
 returns : tie.Need-returns Inv-loop μ-loop
 returns c =
     let a = entry (c .before) .args in
     let l = c .before .loop in
-    lines-end gateForm gate-lawful (a .lines) (a .text .now) (a .n) (a .names .now) (a .words .now) 0 (a .gates .now) (l .i) (l .left) (l .first)
+    lines-end gateForm gate-lawful (a .lines) (a .text .now) (a .n) (a .names .now) (a .words .now) 0 (a .gates .now)
+    (l .i) (l .left) (l .first)
     (l .unknown) (l .gates) (l .inv) (c .loop-test .left)
 
 pub gate-lines-spec : {M : Type 1} → statement M

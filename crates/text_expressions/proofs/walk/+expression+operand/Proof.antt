@@ -1,4 +1,5 @@
--- `text_expressions::walk::expression` and `operand` meet their contracts: whatever term stands here, its first byte says which; the operands read
+-- `text_expressions::walk::expression` and `operand` meet their contracts: whatever term stands here, its first byte
+-- says which; the operands read
 -- and those that are left are the expression's, and the bytes left fall with each call. Assumes nothing.
 use borrow.Author.Needs.{needs}
 use native.Mathlib.Omega.{arith}
@@ -12,8 +13,10 @@ use Rattle.netlist.specs.Syntax.{Term}
 use Rattle.prelude.proofs.Elements.{byte-there}
 use Rattle.text_expressions.specs.Walk.{TermAt, ListOn}
 use Rattle.text_expressions.proofs.Openings.{Inside, inside}
-use Rattle.text_expressions.proofs.Walking.{table-lengths, rest-length, leaf-read, opened-here, opened-read, list-start}
-use Rattle.text_expressions.proofs.Walking.{operand-there, slot-there, operand-here, operand-kept, list-step, Bounded, bounded, expression-read}
+use Rattle.text_expressions.proofs.Walking.{table-lengths, rest-length, leaf-read, opened-here, opened-read}
+use Rattle.text_expressions.proofs.Walking.{list-start}
+use Rattle.text_expressions.proofs.Walking.{operand-there, slot-there, operand-here, operand-kept, list-step}
+use Rattle.text_expressions.proofs.Walking.{Bounded, bounded, expression-read}
 use Rattle.text_expressions.proofs.walk.expression.Reads as expression
 use Rattle.text_expressions.proofs.walk.expression.Kinds as expression-kinds
 use Rattle.text_expressions.proofs.walk.+expression+operand.Lts-expression as expression-lts
@@ -49,11 +52,13 @@ abbrev operand-below : ℕ → In 5 operand-kinds.ps
 operand-below t = and 5 operand-kinds.ps (falls 5 operand-kinds.ps _<_ μ-operand t) operand.Pre
 
 abbrev Inv : expression-lts.InvT-loop
-Inv s n first unknown names words index gates₀ kind at₀ slots₀ count₀ closed₀ missing₀ gates at slots count closed missing =
+Inv s n first unknown names words index gates₀ kind at₀ slots₀ count₀ closed₀ missing₀ gates at slots count closed
+    missing =
     ListOn s at₀ n names words first unknown gates₀ at count closed missing gates slots
 
 abbrev μ : expression-lts.MeasureT-loop
-μ s n first unknown names words index gates₀ kind at₀ slots₀ count₀ closed₀ missing₀ gates at slots count closed missing =
+μ s n first unknown names words index gates₀ kind at₀ slots₀ count₀ closed₀ missing₀ gates at slots count closed
+    missing =
     length s - at
 
 abbrev claims : ℕ → expression-lts.Claims
@@ -84,25 +89,32 @@ operand-claims t = (
 
 module _ (t : ℕ) where
   -- the function's entry, from the places behind it
-  abbrev known : expression-lts.After-shared-slice-known3 (claims t) (expression-at t) expression.Post Inv μ → expression-lts.Start (claims t) (expression-at t) expression.Post Inv μ
+  abbrev known : expression-lts.After-shared-slice-known3 (claims t) (expression-at t) expression.Post Inv μ
+      → expression-lts.Start (claims t) (expression-at t) expression.Post Inv μ
   known c = c .before .before .before
 
-  abbrev begun : expression-lts.After-kind-here (claims t) (expression-at t) expression.Post Inv μ → expression-lts.Start (claims t) (expression-at t) expression.Post Inv μ
+  abbrev begun : expression-lts.After-kind-here (claims t) (expression-at t) expression.Post Inv μ
+      → expression-lts.Start (claims t) (expression-at t) expression.Post Inv μ
   begun c = known (c .before .before)
 
-  abbrev entry : expression-lts.At-loop (claims t) (expression-at t) expression.Post Inv μ → expression-lts.Start (claims t) (expression-at t) expression.Post Inv μ
+  abbrev entry : expression-lts.At-loop (claims t) (expression-at t) expression.Post Inv μ
+      → expression-lts.Start (claims t) (expression-at t) expression.Post Inv μ
   entry c = begun (c .before .before)
 
   -- whatever expression stands here, its kind and its word's length are read
-  expression-inside : (c : expression-lts.After-word-length (claims t) (expression-at t) expression.Post Inv μ) (o : Term) (depth : ℕ) (rest : List ℕ)
+  expression-inside : (c : expression-lts.After-word-length (claims t) (expression-at t) expression.Post Inv μ)
+      (o : Term) (depth : ℕ) (rest : List ℕ)
       → TermAt o depth rest (40 ∷ begun (c .before) .args .s .now)
       → Inside o depth rest (begun (c .before) .args .s .now) (c .before .kind-here .result) (c .word-length .result)
   expression-inside c o depth rest w =
-      inside o depth rest (begun (c .before) .args .s .now) (c .before .kind-here .result) (c .word-length .result) w (c .before .kind-here .ensures)
+      inside o depth rest (begun (c .before) .args .s .now) (c .before .kind-here .result) (c .word-length .result) w
+      (c .before .kind-here .ensures)
       (c .word-length .ensures)
 
-  expression-here : (c : expression-lts.After-word-length (claims t) (expression-at t) expression.Post Inv μ) → let s = begun (c .before) in
-      Inside (s .pre .1 .0 .term) (s .pre .1 .0 .depth) (s .pre .1 .0 .rest) (s .args .s .now) (c .before .kind-here .result) (c .word-length .result)
+  expression-here : (c : expression-lts.After-word-length (claims t) (expression-at t) expression.Post Inv μ)
+      → let s = begun (c .before) in
+      Inside (s .pre .1 .0 .term) (s .pre .1 .0 .depth) (s .pre .1 .0 .rest) (s .args .s .now)
+      (c .before .kind-here .result) (c .word-length .result)
   expression-here c =
       let p = begun (c .before) .pre .1 .0 in
       expression-inside c (p .term) (p .depth) (p .rest) (p .here)
@@ -110,7 +122,8 @@ module _ (t : ℕ) where
   expression-loop-holds : expression-lts.Need-loop-holds (claims t) (expression-at t) expression.Post Inv μ
   expression-loop-holds c =
       let a = begun (c .before) .args in
-      list-start (a .s .now) (c .word-length .result) (a .n) (a .names .now) (a .words .now) (a .first) (a .unknown) (a .gates .now)
+      list-start (a .s .now) (c .word-length .result) (a .n) (a .names .now) (a .words .now) (a .first) (a .unknown)
+      (a .gates .now)
       (omega (arith, expression-here c .measured)) refl
 
   -- ---- another operand stands here
@@ -129,16 +142,20 @@ module _ (t : ℕ) where
     there =
         let a = start .args in
         let l = turn .loop in
-        operand-there (a .s .now) (turn .before .word-length .result) (a .n) (a .names .now) (a .words .now) (a .first) (a .unknown) (a .gates .now) (l .at)
-        (l .count) (l .closed) (l .missing) (l .gates) (l .slots) (l .inv) another (turn .before .before .kind-here .result) (start .pre .1 .0)
+        operand-there (a .s .now) (turn .before .word-length .result) (a .n) (a .names .now) (a .words .now) (a .first)
+        (a .unknown) (a .gates .now) (l .at)
+        (l .count) (l .closed) (l .missing) (l .gates) (l .slots) (l .inv) another
+        (turn .before .before .kind-here .result) (start .pre .1 .0)
         (expression-here (turn .before))
 
     slot : turn .loop .count < 4
     slot =
         let a = start .args in
         let l = turn .loop in
-        slot-there (a .s .now) (turn .before .word-length .result) (a .n) (a .names .now) (a .words .now) (a .first) (a .unknown) (a .gates .now) (l .at)
-        (l .count) (l .closed) (l .missing) (l .gates) (l .slots) (l .inv) another (turn .before .before .kind-here .result) (start .pre .1 .0)
+        slot-there (a .s .now) (turn .before .word-length .result) (a .n) (a .names .now) (a .words .now) (a .first)
+        (a .unknown) (a .gates .now) (l .at)
+        (l .count) (l .closed) (l .missing) (l .gates) (l .slots) (l .inv) another
+        (turn .before .before .kind-here .result) (start .pre .1 .0)
         (expression-here (turn .before))
 
   expression-add-operand : expression-lts.Need-add-operand (claims t) (expression-at t) expression.Post Inv μ
@@ -147,7 +164,8 @@ module _ (t : ℕ) where
   expression-sub-operand : expression-lts.Need-sub-operand (claims t) (expression-at t) expression.Post Inv μ
   expression-sub-operand c = there c
 
-  expression-part-operand-start : expression-lts.Need-part-operand-start (claims t) (expression-at t) expression.Post Inv μ
+  expression-part-operand-start : expression-lts.Need-part-operand-start (claims t) (expression-at t) expression.Post
+      Inv μ
   expression-part-operand-start c = there c
 
   expression-operand-requires : expression-lts.Need-operand-requires (claims t) (expression-at t) expression.Post Inv μ
@@ -158,8 +176,10 @@ module _ (t : ℕ) where
       let l = turn in-turn .loop in (
         omega (arith, rest-length (a .s .now) (l .at + 1), there in-turn, begin .pre .0),
         (
-          operand-here (a .s .now) (turn in-turn .before .word-length .result) (a .n) (a .names .now) (a .words .now) (a .first) (a .unknown) (a .gates .now)
-              (l .at) (l .count) (l .closed) (l .missing) (l .gates) (l .slots) (l .inv) (another in-turn) (turn in-turn .before .before .kind-here .result)
+          operand-here (a .s .now) (turn in-turn .before .word-length .result) (a .n) (a .names .now) (a .words .now)
+              (a .first) (a .unknown) (a .gates .now)
+              (l .at) (l .count) (l .closed) (l .missing) (l .gates) (l .slots) (l .inv) (another in-turn)
+              (turn in-turn .before .before .kind-here .result)
               (begin .pre .1 .0) (expression-here (turn in-turn .before)),
           begin .pre .1 .1,
         ),
@@ -176,14 +196,18 @@ module _ (t : ℕ) where
     kept =
         let a = start in-turn .args in
         let l = turn in-turn .loop in
-        operand-kept (a .s .now) (turn in-turn .before .word-length .result) (a .n) (a .names .now) (a .words .now) (a .first) (a .unknown) (a .gates .now)
-        (l .at) (l .count) (l .closed) (l .missing) (l .gates) (l .slots) (l .inv) (another in-turn) (turn in-turn .before .before .kind-here .result)
-        (start in-turn .pre .1 .0) (expression-here (turn in-turn .before)) (c .operand .last .1 .1 .1 .1 .1 .1 .1 .0) (c .operand .result) (c .operand .ensures)
+        operand-kept (a .s .now) (turn in-turn .before .word-length .result) (a .n) (a .names .now) (a .words .now)
+        (a .first) (a .unknown) (a .gates .now)
+        (l .at) (l .count) (l .closed) (l .missing) (l .gates) (l .slots) (l .inv) (another in-turn)
+        (turn in-turn .before .before .kind-here .result)
+        (start in-turn .pre .1 .0) (expression-here (turn in-turn .before)) (c .operand .last .1 .1 .1 .1 .1 .1 .1 .0)
+        (c .operand .result) (c .operand .ensures)
 
   expression-mul-slots : expression-lts.Need-mul-slots (claims t) (expression-at t) expression.Post Inv μ
   expression-mul-slots c = omega (arith, slot (in-turn c))
 
-  expression-array-write-slots : expression-lts.Need-array-write-slots (claims t) (expression-at t) expression.Post Inv μ
+  expression-array-write-slots : expression-lts.Need-array-write-slots (claims t) (expression-at t) expression.Post Inv
+      μ
   expression-array-write-slots c = slot (in-turn c)
 
   expression-sub-at : expression-lts.Need-sub-at (claims t) (expression-at t) expression.Post Inv μ
@@ -201,8 +225,10 @@ module _ (t : ℕ) where
       let in-loop = turn (in-turn read) in
       let a = start (in-turn read) .args in
       let l = in-loop .loop in
-      list-step (a .s .now) (in-loop .before .word-length .result) (a .n) (a .names .now) (a .words .now) (a .first) (a .unknown) (a .gates .now) (l .at)
-      (l .count) (l .closed) (l .missing) (l .gates) (l .slots) (l .inv) (another (in-turn read)) (read .operand .last .1 .1 .1 .1 .1 .1 .1 .0)
+      list-step (a .s .now) (in-loop .before .word-length .result) (a .n) (a .names .now) (a .words .now) (a .first)
+      (a .unknown) (a .gates .now) (l .at)
+      (l .count) (l .closed) (l .missing) (l .gates) (l .slots) (l .inv) (another (in-turn read))
+      (read .operand .last .1 .1 .1 .1 .1 .1 .1 .0)
       (read .operand .result) (read .operand .ensures) (kept read)
 
   -- ---- all operands are read
@@ -216,20 +242,26 @@ module _ (t : ℕ) where
 
     bounds : let a = entry last-turn .args in
         let l = last-turn .loop in
-        Bounded (a .s .now) (last-turn .before .word-length .result) (a .n) (a .names .now) (a .words .now) (a .first) (a .unknown) (a .gates .now) (l .at)
-        (l .count) (l .closed) (l .missing) (l .gates) (l .slots) (l .inv) ended (last-turn .before .before .kind-here .result)
+        Bounded (a .s .now) (last-turn .before .word-length .result) (a .n) (a .names .now) (a .words .now) (a .first)
+        (a .unknown) (a .gates .now) (l .at)
+        (l .count) (l .closed) (l .missing) (l .gates) (l .slots) (l .inv) ended
+        (last-turn .before .before .kind-here .result)
     bounds =
         let begin = entry last-turn in
         let a = begin .args in
         let l = last-turn .loop in
-        bounded (a .s .now) (last-turn .before .word-length .result) (a .n) (a .names .now) (a .words .now) (a .first) (a .unknown) (a .gates .now) (l .at)
-        (l .count) (l .closed) (l .missing) (l .gates) (l .slots) (l .inv) ended (last-turn .before .before .kind-here .result) (begin .pre .1 .0)
+        bounded (a .s .now) (last-turn .before .word-length .result) (a .n) (a .names .now) (a .words .now) (a .first)
+        (a .unknown) (a .gates .now) (l .at)
+        (l .count) (l .closed) (l .missing) (l .gates) (l .slots) (l .inv) ended
+        (last-turn .before .before .kind-here .result) (begin .pre .1 .0)
         (expression-here (last-turn .before))
 
-  expression-slice-aggregate-put-gate : expression-lts.Need-slice-aggregate-put-gate (claims t) (expression-at t) expression.Post Inv μ
+  expression-slice-aggregate-put-gate : expression-lts.Need-slice-aggregate-put-gate (claims t) (expression-at t)
+      expression.Post Inv μ
   expression-slice-aggregate-put-gate c = sym (last-turn (c .before .before) .loop .inv .sized)
 
-  expression-put-gate-requires : expression-lts.Need-put-gate-requires (claims t) (expression-at t) expression.Post Inv μ
+  expression-put-gate-requires : expression-lts.Need-put-gate-requires (claims t) (expression-at t) expression.Post Inv
+      μ
   expression-put-gate-requires c κs =
       let b = bounds (c .before .before) in
       (omega (arith, b .number, b .room), ((b .kind, b .few), last-turn (c .before .before) .loop .inv .sized))
@@ -261,23 +293,29 @@ module _ (t : ℕ) where
       let in-loop = last-turn read in
       let a = entry in-loop .args in
       let l = in-loop .loop in
-      expression-read (a .s .now) (in-loop .before .word-length .result) (a .n) (a .names .now) (a .words .now) (a .first) (a .unknown) (a .gates .now)
-      (l .at) (l .count) (l .closed) (l .missing) (l .gates) (l .slots) (l .inv) (ended read) (in-loop .before .before .kind-here .result)
+      expression-read (a .s .now) (in-loop .before .word-length .result) (a .n) (a .names .now) (a .words .now)
+      (a .first) (a .unknown) (a .gates .now)
+      (l .at) (l .count) (l .closed) (l .missing) (l .gates) (l .slots) (l .inv) (ended read)
+      (in-loop .before .before .kind-here .result)
       (c .put-gate .last .0) (expression-inside (in-loop .before)) (c .put-gate .ensures)
 
 -- ---- an operand
 
 module _ (t : ℕ) where
-  abbrev operand-known : operand-lts.After-shared-slice-known3 (operand-claims t) (operand-at t) operand.Post → operand-lts.Start (operand-claims t) (operand-at t) operand.Post
+  abbrev operand-known : operand-lts.After-shared-slice-known3 (operand-claims t) (operand-at t) operand.Post
+      → operand-lts.Start (operand-claims t) (operand-at t) operand.Post
   operand-known c = c .before .before .before
 
-  abbrev operand-entry : operand-lts.After-byte-at (operand-claims t) (operand-at t) operand.Post → operand-lts.Start (operand-claims t) (operand-at t) operand.Post
+  abbrev operand-entry : operand-lts.After-byte-at (operand-claims t) (operand-at t) operand.Post
+      → operand-lts.Start (operand-claims t) (operand-at t) operand.Post
   operand-entry c = operand-known (c .before .before)
 
-  bracket : (c : operand-lts.Then1 (operand-claims t) (operand-at t) operand.Post) → getD (operand-entry (c .before) .args .s .now) 0 0 ≡ 40
+  bracket : (c : operand-lts.Then1 (operand-claims t) (operand-at t) operand.Post)
+      → getD (operand-entry (c .before) .args .s .now) 0 0 ≡ 40
   bracket c = sym (c .before .byte-at .ensures) ∙ c .if1 .taken
 
-  bracket-there : (c : operand-lts.Then1 (operand-claims t) (operand-at t) operand.Post) → 0 < length (operand-entry (c .before) .args .s .now)
+  bracket-there : (c : operand-lts.Then1 (operand-claims t) (operand-at t) operand.Post)
+      → 0 < length (operand-entry (c .before) .args .s .now)
   bracket-there c = byte-there (operand-entry (c .before) .args .s .now) refl (bracket c) (omega arith)
 
   operand-sub-expression : operand-lts.Need-sub-expression (operand-claims t) (operand-at t) operand.Post
@@ -293,7 +331,8 @@ module _ (t : ℕ) where
       let a = begin .args in (
         omega (arith, rest-length (a .s .now) 1, bracket-there past-if, begin .pre .0),
         (
-          opened-here (a .s .now) (a .n) (a .names .now) (a .words .now) (a .first) (a .gates .now) (bracket past-if) (begin .pre .1 .0),
+          opened-here (a .s .now) (a .n) (a .names .now) (a .words .now) (a .first) (a .gates .now) (bracket past-if)
+              (begin .pre .1 .0),
           begin .pre .1 .1,
         ),
       )
@@ -302,20 +341,24 @@ module _ (t : ℕ) where
   operand-returns c =
       let past-if = c .before .before .before in
       let a = operand-entry (past-if .before) .args in
-      opened-read (a .s .now) (a .n) (a .names .now) (a .words .now) (a .first) (a .gates .now) (a .unknown) (c .expression .last .1 .1 .1 .1 .1 .1 .1 .0)
+      opened-read (a .s .now) (a .n) (a .names .now) (a .words .now) (a .first) (a .gates .now) (a .unknown)
+      (c .expression .last .1 .1 .1 .1 .1 .1 .1 .0)
       (c .expression .result) (bracket past-if) (c .expression .ensures)
 
   operand-leaf-here-requires : operand-lts.Need-leaf-here-requires (operand-claims t) (operand-at t) operand.Post
   operand-leaf-here-requires c κs =
       let begin = operand-entry (c .before) in
-      let p = begin .pre .1 .0 in
-      (table-lengths (begin .args .n) (p .bindings) (begin .args .names .now) (begin .args .words .now) (p .table), begin .pre .1 .1)
+      let p = begin .pre .1 .0 in (
+        table-lengths (begin .args .n) (p .bindings) (begin .args .names .now) (begin .args .words .now) (p .table),
+        begin .pre .1 .1,
+      )
 
   operand-returns-2 : operand-lts.Need-returns-2 (operand-claims t) (operand-at t) operand.Post
   operand-returns-2 c =
       let past-if = c .before in
       let a = operand-entry (past-if .before) .args in
-      leaf-read (a .s .now) (a .n) (a .names .now) (a .words .now) (a .first) (a .gates .now) (a .unknown) (c .leaf-here .result) (c .leaf-here .ensures)
+      leaf-read (a .s .now) (a .n) (a .names .now) (a .words .now) (a .first) (a .gates .now) (a .unknown)
+      (c .leaf-here .result) (c .leaf-here .ensures)
       (λ e. past-if .if1 .left (past-if .before .byte-at .ensures ∙ e))
 
 pub +expression+operand-spec : {M : Type 1} → statement M
