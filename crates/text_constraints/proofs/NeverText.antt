@@ -1,7 +1,8 @@
--- One never line in a text: it is a line, its pairs stand behind its word, and tables have room for them. Assumes nothing.
+-- One never line in a text: it is a line, its pairs stand behind its word, and tables have room for them. Assumes
+-- nothing.
 --   never-line: an LF stands at its end alone
 --   line-size: the bytes up to the LF are its own
---   pairs-here: where its pairs stand
+--   pairs-here, opens-behind: where its pairs stand, and their brackets
 --   line-inside, pairs-few, taken-few: the place of its pairs, and room for their table and for what they give
 use Prim.Native.Nat.{ℕ, zero, suc, _+_, _*_, _≤_}
 use mathlib.Core.Path.{_≡_, refl, sym, _∙_}
@@ -16,10 +17,11 @@ use Rattle.prelude.proofs.Tests.{and-left, and-right}
 use Rattle.netlist.specs.Limits.{maxText, maxInputs}
 use Rattle.netlist.specs.Values.{val}
 use Rattle.netlist.specs.Names.{isNameStart, isNodeName}
-use Rattle.netlist.specs.Syntax.{Pair, valueText, pairText, printPair, isLegalPair, isLegalNever, printLines, printNever}
+use Rattle.netlist.specs.Syntax.{Pair, valueText, pairText, printPair, isLegalPair, isLegalNever, printLines}
+use Rattle.netlist.specs.Syntax.{printNever}
 use Rattle.theory_grammar.proofs.Places.{printNever-split}
 use Rattle.words_layout.specs.Masks.{maskBits}
-use Rattle.text_symbols.specs.Lines.{lengthWithLf}
+use Rattle.text_symbols.specs.Lines.{lengthWithLf, lineOpens}
 use Rattle.text_symbols.specs.Trees.{isLine}
 use Rattle.text_symbols.proofs.JoinedLines.{line-append, one-line}
 use Rattle.text_symbols.proofs.TreeLines.{times-name}
@@ -38,9 +40,11 @@ value-line false rest = refl
 pair-line : (p : Pair) → isLegalPair p ≡ true → (rest : List ℕ) → isLine (printPair p rest) ≡ isLine rest
 unfolding printPair pairText isLegalPair isNodeName
 pair-line p legal rest =
-    line-append (p .name) _ (times-name 10 (omega arith) isNameStart (p .name) legal) ∙ value-line (p .value) (ascii ")" ++ rest)
+    line-append (p .name) _ (times-name 10 (omega arith) isNameStart (p .name) legal) ∙ value-line (p .value)
+    (ascii ")" ++ rest)
 
-pairs-line : (ps : List Pair) → all isLegalPair ps ≡ true → (rest : List ℕ) → isLine (printLines printPair ps rest) ≡ isLine rest
+pairs-line : (ps : List Pair) → all isLegalPair ps ≡ true → (rest : List ℕ)
+    → isLine (printLines printPair ps rest) ≡ isLine rest
 unfolding printLines
 pairs-line [] legal rest = refl
 pairs-line (p ∷ ps) legal rest =
@@ -59,7 +63,8 @@ never-line ps h = pairs-line ps (pairs-legal ps h) (ascii ")\n" ++ [])
 
 module _ {at : ℕ} {ps : List Pair} {text : List ℕ} (is : NeverAt at ps text) where
   pub line-size : lengthWithLf (drop at text) ≡ length (printNever ps [])
-  line-size = rw (is .stand, printNever-split ps (is .rest)) (one-line (printNever ps []) (is .rest) (never-line ps (is .legal)) .size)
+  line-size = rw (is .stand, printNever-split ps (is .rest))
+      (one-line (printNever ps []) (is .rest) (never-line ps (is .legal)) .size)
 
   -- behind the word stand the pairs
   pub pairs-here : PairsAt (at + 6) ps text
@@ -69,6 +74,11 @@ module _ {at : ℕ} {ps : List Pair} {text : List ℕ} (is : NeverAt at ps text)
     rest = is .rest;
     stand = sym (drop-drop 6 at text) ∙ rw (is .stand);
   }
+
+  -- the line has one bracket besides theirs
+  pub opens-behind : lineOpens (drop at text) ≡ suc (lineOpens (drop (at + 6) text))
+  unfolding printNever
+  opens-behind = rw (← drop-drop 6 at text, is .stand) (omega arith)
 
   -- and they have at least 6 bytes each
   behind-word : 8 + 6 * length ps + length (is .rest) ≤ length (drop at text)

@@ -6,7 +6,7 @@ use text_pairs::numbers::fill_numbers;
 use text_pairs::numbers::fill_values;
 use text_pairs::numbers::find_outside;
 use text_pairs::numbers::find_repeat;
-use text_pairs::tables::pair_count;
+use text_symbols::lines::line_of;
 use text_symbols::lines::next_line;
 use text_symbols::search::MAX_PAIRS;
 use text_symbols::table::input_names;
@@ -45,7 +45,8 @@ fn first_failed(one: Test, other: Test) -> Test
     other
 }
 
-// Reads the never line at the front of the rest of a text; the line starts at place `at` of the text.
+// Reads the never line at the front of the rest of a text; the line starts at place `at` of the text. Each of its pairs
+// has one bracket, as a gate has.
 fn read_line(
     s: &[u8],
     at: usize,
@@ -56,7 +57,8 @@ fn read_line(
     requires { ⌜ LineReady (now s) at (now inputs) n (now names) ⌝ }
     ensures { λ r. ⌜ LineRead (now (s .entry)) at (now (inputs .entry)) n (now (names .exit)) r ⌝ }
 {
-    let count = pair_count(s, PAIRS_AT);
+    let line = line_of(s);
+    let count = line.gates;
     fill_numbers(s, PAIRS_AT, count, names);
     let repeat = find_repeat(s, PAIRS_AT, at, names, count);
     let outside = find_outside(s, PAIRS_AT, at, names, count, inputs, n);

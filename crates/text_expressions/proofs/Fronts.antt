@@ -13,7 +13,8 @@ use Rattle.text_symbols.specs.Search.{indexOf}
 use Rattle.text_expressions.specs.declared.Leaf.{Leaf}
 use Rattle.netlist.specs.Kinds.{isKind, keyword, signatureOf}
 use Rattle.theory_encoding.proofs.Gates.{by-kind}
-use Rattle.text_expressions.specs.Leaves.{kindBehindX, kindHere, wordLength, nameLength, indexHere, earlier, nameHere, constantHere, leafHere}
+use Rattle.text_expressions.specs.Leaves.{kindBehindX, kindHere, wordLength, nameLength, indexHere, earlier}
+use Rattle.text_expressions.specs.Leaves.{nameHere, constantHere, leafHere}
 
 pub earlier-first : (u v : ℕ) → (u ≡ 0 → ⊥) → u ≡ earlier u v
 unfolding earlier
@@ -69,7 +70,8 @@ unfolding wordLength
 word-back k = refl
 
 -- read off the kind's signature, whose keyword ends in zeros
-pub word-read : (k r : ℕ) (bytes : List ℕ) → bytes ≡ signatureOf k .keyword → r ≤ length bytes → take r bytes ≡ trimmed bytes → r ≡ wordLength k
+pub word-read : (k r : ℕ) (bytes : List ℕ) → bytes ≡ signatureOf k .keyword → r ≤ length bytes
+    → take r bytes ≡ trimmed bytes → r ≡ wordLength k
 unfolding wordLength keyword
 word-read k r bytes e h t = sym (length-take-le r bytes h) ∙ ap length t ∙ rw e refl
 
@@ -84,13 +86,16 @@ module _ (s names words : List ℕ) (unknown : ℕ) where
   unfolding leafHere
   leaf-1 e = rw e
 
-  pub leaf-name : (getD s 0 0 ≡ 48 → ⊥) → (getD s 0 0 ≡ 49 → ⊥) → nameHere s names words unknown ≡ leafHere s names words unknown
+  pub leaf-name : (getD s 0 0 ≡ 48 → ⊥) → (getD s 0 0 ≡ 49 → ⊥)
+      → nameHere s names words unknown ≡ leafHere s names words unknown
   unfolding leafHere
   leaf-name a b = rw (ne-eqb (getD s 0 0) 48 a, ne-eqb (getD s 0 0) 49 b)
 
-  module _ {l i p u : ℕ} (a : l ≡ length (nameFront 8 s)) (b : p ≡ packed (nameFront 8 s)) (d : i ≡ indexOf names (length names) p) where
+  module _ {l i p u : ℕ} (a : l ≡ length (nameFront 8 s)) (b : p ≡ packed (nameFront 8 s))
+      (d : i ≡ indexOf names (length names) p) where
     pub name-found : i < length names → u ≡ earlier unknown 0
-        → _≡_ {A = Leaf} (record { left = length s - l; word = getD words i 0; unknown = u }) (nameHere s names words unknown)
+        → _≡_ {A = Leaf} (record { left = length s - l; word = getD words i 0; unknown = u })
+        (nameHere s names words unknown)
     unfolding nameHere nameLength indexHere
     name-found h e = rw (e, a, ← b, ← d, lt-ltb i (length names) h)
 

@@ -14,7 +14,8 @@ module _ {A : Type 0} where
 
 -- five stores, one behind the other
 pub five-stores : (d slots : List ℕ) (a w : ℕ) → length slots ≡ 4
-    → set (set (set (set (set d a w) (a + 1) (getD slots 0 0)) (a + 2) (getD slots 1 0)) (a + 3) (getD slots 2 0)) (a + 4) (getD slots 3 0)
+    → set (set (set (set (set d a w) (a + 1) (getD slots 0 0)) (a + 2) (getD slots 1 0)) (a + 3) (getD slots 2 0))
+    (a + 4) (getD slots 3 0)
     ≡ sets d a (w ∷ slots)
 five-stores d [] a w h = absurd (omega arith)
 five-stores d (p ∷ []) a w h = absurd (omega arith)

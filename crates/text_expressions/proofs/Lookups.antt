@@ -20,7 +20,8 @@ use Rattle.text_symbols.proofs.Lookup.{Bytes, index-member, index-lookup}
 use Rattle.text_expressions.specs.Walk.{Ends, declaredNames}
 
 -- the name in front of a byte that no name has
-pub front-back : (start : ℕ → Bool) (x rest : List ℕ) → isLegalName start x ≡ true → Ends rest → nameFront 8 (x ++ rest) ≡ x
+pub front-back : (start : ℕ → Bool) (x rest : List ℕ) → isLegalName start x ≡ true → Ends rest
+    → nameFront 8 (x ++ rest) ≡ x
 front-back start x [] h e = absurd e
 front-back start x (c ∷ rest) h e = front-legal start x c rest h e
 
@@ -39,7 +40,8 @@ legal-bytes : (xs : List Name) → all isNodeName xs ≡ true → Bytes xs
 unfolding isNodeName
 legal-bytes [] h = refl
 legal-bytes (x ∷ xs) h =
-    and-intro (all isNameByte x) (all (all isNameByte) xs) (name-bytes isNameStart x (and-left (isNodeName x) (all isNodeName xs) h))
+    and-intro (all isNameByte x) (all (all isNameByte) xs)
+    (name-bytes isNameStart x (and-left (isNodeName x) (all isNodeName xs) h))
     (legal-bytes xs (and-right (isNodeName x) (all isNodeName xs) h))
 
 -- what is not declared stands for constant 0
@@ -48,7 +50,8 @@ unfolding lookup declaredNames
 lookup-none [] x h = refl
 lookup-none (b ∷ bs) x h = go (same x (b .name)) h (lookup-none bs x)
   where
-    go : (t : Bool) → t || memberList x (declaredNames bs) ≡ false → (memberList x (declaredNames bs) ≡ false → lookup bs x ≡ constant false)
+    go : (t : Bool) → t || memberList x (declaredNames bs) ≡ false
+        → (memberList x (declaredNames bs) ≡ false → lookup bs x ≡ constant false)
         → cond t (b .node) (lookup bs x) ≡ constant false
     go true h r = absurd (false≢true (sym h))
     go false h r = r h
@@ -56,7 +59,11 @@ lookup-none (b ∷ bs) x h = go (same x (b .name)) h (lookup-none bs x)
 pub looked : (n : ℕ) (bs : List Binding) (x : Name) → isNodeName x ≡ true → all isNodeName (declaredNames bs) ≡ true
     → Looked n bs x (indexOf (numbersOf bs) (length (numbersOf bs)) (packed x))
 unfolding declaredNames isNodeName nodeWord
-looked n bs x h a = record { word = ⊎-elim declared undeclared (bool-cases (memberList x (declaredNames bs))); known = known }
+looked n bs x h a = record {
+  word = ⊎-elim declared undeclared (bool-cases (memberList x (declaredNames bs)));
+  known =
+      known;
+}
   where
     numbers : numbersOf bs ≡ map packed (declaredNames bs)
     numbers = sym (map-map packed (λ (b : Binding). b .name) bs)
@@ -64,15 +71,18 @@ looked n bs x h a = record { word = ⊎-elim declared undeclared (bool-cases (me
     bytes : all isNameByte x ≡ true
     bytes = name-bytes isNameStart x h
 
-    known : ltb (indexOf (numbersOf bs) (length (numbersOf bs)) (packed x)) (length (numbersOf bs)) ≡ memberList x (declaredNames bs)
-    known = rw (numbers, length-map (declaredNames bs) packed) (index-member x (declaredNames bs) bytes (legal-bytes (declaredNames bs) a))
+    known : ltb (indexOf (numbersOf bs) (length (numbersOf bs)) (packed x)) (length (numbersOf bs)) ≡ memberList x
+        (declaredNames bs)
+    known = rw (numbers, length-map (declaredNames bs) packed)
+        (index-member x (declaredNames bs) bytes (legal-bytes (declaredNames bs) a))
 
     declared : memberList x (declaredNames bs) ≡ true
         → cond (ltb (indexOf (numbersOf bs) (length (numbersOf bs)) (packed x)) (length (numbersOf bs)))
         (getD (nodesOf n bs) (indexOf (numbersOf bs) (length (numbersOf bs)) (packed x)) 0) 65534
         ≡ nodeWord n (lookup bs x)
     declared m =
-        rw (known, m, length-map bs (λ (b : Binding). packed (b .name)), numbers) (index-lookup (nodeWord n) x bs bytes (legal-bytes (declaredNames bs) a) m)
+        rw (known, m, length-map bs (λ (b : Binding). packed (b .name)), numbers)
+        (index-lookup (nodeWord n) x bs bytes (legal-bytes (declaredNames bs) a) m)
 
     undeclared : memberList x (declaredNames bs) ≡ false
         → cond (ltb (indexOf (numbersOf bs) (length (numbersOf bs)) (packed x)) (length (numbersOf bs)))

@@ -31,7 +31,8 @@ halves (a ∷ b ∷ x) h =
     let q = name-byte-range b (and-left (isNameByte b) (all isNameByte x) r) .1 in
     record { low = omega arith; high = omega arith; legal = and-right (isNameByte b) (all isNameByte x) r }
 
-four : {a b c d e f g h : ℕ} → a ≡ e → b ≡ f → c ≡ g → d ≡ h → _≡_ {A = List ℕ} (a ∷ b ∷ c ∷ d ∷ []) (e ∷ f ∷ g ∷ h ∷ [])
+four : {a b c d e f g h : ℕ} → a ≡ e → b ≡ f → c ≡ g → d ≡ h
+    → _≡_ {A = List ℕ} (a ∷ b ∷ c ∷ d ∷ []) (e ∷ f ∷ g ∷ h ∷ [])
 four p q r s = rw (p, q, r, s)
 
 pub port-words : (x : Name) → all isNameByte x ≡ true → portWords (packed x) ≡ nameWords x
@@ -47,7 +48,8 @@ port-words x h =
     let f : packed x / 281474976710656 ≡ packed (drop 2 z) = omega (arith, e, c .high) in
     let z₀ : (i : ℕ) → getD z i 0 ≡ getD x (2 + (2 + i)) 0 = λ i. getD-drop 2 y i 0 ∙ getD-drop 2 x (2 + i) 0 in
     let v₀ : (i : ℕ) → getD (drop 2 z) i 0 ≡ getD x (2 + (2 + (2 + i))) 0 = λ i. getD-drop 2 z i 0 ∙ z₀ (2 + i) in
-    let p : packed x / 65536 % 65536 ≡ getD x 2 0 + 256 * getD x 3 0 = rw (a .high, b .low, getD-drop 2 x 0 0, getD-drop 2 x 1 0) in
+    let p : packed x / 65536 % 65536 ≡ getD x 2 0 + 256 * getD x 3 0 = rw
+    (a .high, b .low, getD-drop 2 x 0 0, getD-drop 2 x 1 0) in
     let q : packed x / 4294967296 % 65536 ≡ getD x 4 0 + 256 * getD x 5 0 = rw (e, c .low, z₀ 0, z₀ 1) in
     let r : packed x / 281474976710656 % 65536 ≡ getD x 6 0 + 256 * getD x 7 0 = rw (f, d .low, v₀ 0, v₀ 1) in
     four (a .low) p q r

@@ -10,8 +10,10 @@ use Rattle.prelude.specs.Lists.{all, sum}
 use Rattle.netlist.specs.Limits.{maxInputs}
 use Rattle.netlist.specs.Netlist.{Output}
 use Rattle.netlist.specs.StoredBlock.{gateSize, outputWords}
-use Rattle.netlist.specs.Syntax.{apply, GateLine, OutputLine, printGate, printOutput, printLines, isLegalGate, isLegalOutput}
-use Rattle.netlist.specs.Reading.{Mention, Binding, lineGates, mentions, operandMentions, shownMention, lookup, termGates}
+use Rattle.netlist.specs.Syntax.{apply, GateLine, OutputLine, printGate, printOutput, printLines, isLegalGate}
+use Rattle.netlist.specs.Syntax.{isLegalOutput}
+use Rattle.netlist.specs.Reading.{Mention, Binding, lineGates, mentions, operandMentions, shownMention, lookup}
+use Rattle.netlist.specs.Reading.{termGates}
 use Rattle.text_expressions.specs.declared.Walked.{Walked}
 use Rattle.text_expressions.specs.Walk.{Table, unknownAfter, gatesWords}
 
@@ -71,14 +73,16 @@ module _ {A : Type 0} (F : LineForm A) where
     pub inputs : n ≤ maxInputs
     pub room : entrySize * most ≤ length array
 
-  pub record LineDone (n : ℕ) (bs : List Binding) (x : A) (at : ℕ) (s rest : List ℕ) (first seen : ℕ) (before after : List ℕ) (r : Walked)
+  pub record LineDone (n : ℕ) (bs : List Binding) (x : A) (at : ℕ) (s rest : List ℕ) (first seen : ℕ)
+      (before after : List ℕ) (r : Walked)
       : Type 0 where
     pub left : r .left ≡ length rest
     pub number : r .number ≡ first + F .cost x
     pub unknown : r .unknown ≡ unknownAfter seen bs (F .uses x at) (at + length s)
     pub words : after ≡ sets before (entrySize * first) (F .words n bs x first)
 
-  pub record LineRead (s : List ℕ) (n : ℕ) (names words : List ℕ) (first seen : ℕ) (before after : List ℕ) (r : Walked) : Type 0 where
+  pub record LineRead (s : List ℕ) (n : ℕ) (names words : List ℕ) (first seen : ℕ) (before after : List ℕ)
+      (r : Walked) : Type 0 where
     pub done : (bs : List Binding) (x : A) (rest : List ℕ) (at : ℕ) → Table n bs names words → LineAt x rest s
         → LineDone n bs x at s rest first seen before after r
 
@@ -106,20 +110,24 @@ module _ {A : Type 0} (F : LineForm A) where
     pub inputs : n ≤ maxInputs
     pub room : entrySize * most ≤ length array
 
-  pub record LinesDone (n : ℕ) (bs : List Binding) (xs : List A) (at : ℕ) (s rest : List ℕ) (first seen : ℕ) (before after : List ℕ) (r : Walked)
+  pub record LinesDone (n : ℕ) (bs : List Binding) (xs : List A) (at : ℕ) (s rest : List ℕ) (first seen : ℕ)
+      (before after : List ℕ) (r : Walked)
       : Type 0 where
     pub left : r .left ≡ length rest
     pub number : r .number ≡ first + linesCost xs
     pub unknown : r .unknown ≡ unknownAfter seen bs (mentions (F .printed) (F .uses) xs at) (at + length s)
     pub words : after ≡ sets before (entrySize * first) (linesWords n bs xs first)
 
-  pub record LinesRead (count : ℕ) (s : List ℕ) (n : ℕ) (names words : List ℕ) (seen : ℕ) (before after : List ℕ) (r : Walked) : Type 0 where
-    pub done : (bs : List Binding) (xs : List A) (rest : List ℕ) (at : ℕ) → Table n bs names words → LinesAt xs rest s → length xs ≡ count
+  pub record LinesRead (count : ℕ) (s : List ℕ) (n : ℕ) (names words : List ℕ) (seen : ℕ) (before after : List ℕ)
+      (r : Walked) : Type 0 where
+    pub done : (bs : List Binding) (xs : List A) (rest : List ℕ) (at : ℕ) → Table n bs names words → LinesAt xs rest s
+        → length xs ≡ count
         → LinesDone n bs xs at s rest 0 seen before after r
 
   -- ---- the walk in the middle of the lines: `i` lines are done, `left` bytes are left
 
-  pub record LinesNow (count : ℕ) (s : List ℕ) (seen : ℕ) (before : List ℕ) (n : ℕ) (bs : List Binding) (xs : List A) (rest : List ℕ)
+  pub record LinesNow (count : ℕ) (s : List ℕ) (seen : ℕ) (before : List ℕ) (n : ℕ) (bs : List Binding) (xs : List A)
+      (rest : List ℕ)
       (at i left first unknown : ℕ) (array : List ℕ) : Type 0 where
     pub others : List A
     pub here : LinesAt others rest (drop (length s - left) s)
@@ -129,9 +137,11 @@ module _ {A : Type 0} (F : LineForm A) where
         → LinesDone n bs others (at + (length s - left)) (drop (length s - left) s) rest first unknown array after r
         → LinesDone n bs xs at s rest 0 seen before after r
 
-  pub record LinesOn (count : ℕ) (s : List ℕ) (n : ℕ) (names words : List ℕ) (seen : ℕ) (before : List ℕ) (i left first unknown : ℕ)
+  pub record LinesOn (count : ℕ) (s : List ℕ) (n : ℕ) (names words : List ℕ) (seen : ℕ) (before : List ℕ)
+      (i left first unknown : ℕ)
       (array : List ℕ) : Type 0 where
     pub within : left ≤ length s
     pub same : length array ≡ length before
-    pub reached : (bs : List Binding) (xs : List A) (rest : List ℕ) (at : ℕ) → Table n bs names words → LinesAt xs rest s → length xs ≡ count
+    pub reached : (bs : List Binding) (xs : List A) (rest : List ℕ) (at : ℕ) → Table n bs names words
+        → LinesAt xs rest s → length xs ≡ count
         → LinesNow count s seen before n bs xs rest at i left first unknown array

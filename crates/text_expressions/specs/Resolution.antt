@@ -13,7 +13,8 @@ use Rattle.words_refusals.specs.Tests.{testAt}
 use Rattle.netlist.specs.Limits.{maxGates, maxOutputs}
 use Rattle.netlist.specs.StoredBlock.{outputSize, gateSize, gateWords, outputWords}
 use Rattle.netlist.specs.Syntax.{Tree}
-use Rattle.netlist.specs.Reading.{Mention, isOverLimit, gateLinesAt, declaredNodes, usedNames, firstOutside, bindings, blockOf}
+use Rattle.netlist.specs.Reading.{Mention, isOverLimit, gateLinesAt, declaredNodes, usedNames, firstOutside, bindings}
+use Rattle.netlist.specs.Reading.{blockOf}
 use Rattle.text_symbols.specs.declared.Counts.{Counts}
 use Rattle.text_symbols.specs.Trees.{TextOf}
 use Rattle.text_symbols.specs.Results.{treeCounts, declared, packedNames, nodeWords}
@@ -44,5 +45,6 @@ pub record TreeDone (t : Tree) (gates gates′ outputs outputs′ : List ℕ) (r
   pub outputsWritten : outputs′ ≡ placed (joined (map (outputWords (length (t .inputs))) (blockOf t .outputs))) outputs
 
 -- what `resolve` answers and writes, of whatever tree the text is
-pub record Resolved (text : List ℕ) (end : ℕ) (c : Counts) (names words gates gates′ outputs outputs′ : List ℕ) (r : Test) : Type 0 where
+pub record Resolved (text : List ℕ) (end : ℕ) (c : Counts) (names words gates gates′ outputs outputs′ : List ℕ)
+    (r : Test) : Type 0 where
   pub done : (t : Tree) → TreeAt t text end c names words → TreeDone t gates gates′ outputs outputs′ r

@@ -4,6 +4,8 @@ use lines::gate_lines;
 use lines::output_lines;
 use netlist::Refusal;
 use text_symbols::Counts;
+use words_layout::limits::MAX_GATES;
+use words_layout::offsets::GATE_SIZE;
 use words_refusals::Test;
 ghost use Rattle.text_symbols.specs.Results.{NodesIndexed};
 ghost use Rattle.text_expressions.specs.Resolution.{ResolveReady, Resolved};
@@ -29,23 +31,6 @@ pub struct Found {
     pub unknown: usize,
 }
 
-// What stands before an operand: the inputs of the text, the operands of its list, the gates that have closed, and
-// `unknown` as in `Found`.
-pub struct Past {
-    pub inputs: usize,
-    pub count: usize,
-    pub gates: usize,
-    pub unknown: usize,
-}
-
-// An operand list behind its closing bracket: as `Found`, and the number of operands.
-pub struct Listed {
-    pub left: usize,
-    pub count: usize,
-    pub gates: usize,
-    pub unknown: usize,
-}
-
 // A line, or some lines: the bytes left behind them, the gates or outputs up to there, and `unknown` as in `Found`.
 pub struct Walked {
     pub left: usize,
@@ -63,7 +48,7 @@ pub fn resolve(
     names: &[u64],
     words: &[u16],
     index: &[u16],
-    gates: &mut [u16],
+    gates: &mut [u16; GATE_SIZE * MAX_GATES],
     outputs: &mut [u16],
 ) -> Test
     requires { ⌜ ResolveReady (now text) end c (now names) (now words) (now gates) (now outputs) ⌝ }

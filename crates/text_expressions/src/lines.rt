@@ -1,11 +1,11 @@
 // The walk over the lines of gates and outputs. Each line's reader gets the rest of the text.
-use crate::Past;
 use crate::Walked;
 use crate::leaves::name_here;
-use crate::walk::operand;
+use crate::walk::expression;
 use text_symbols::pack::name_length;
 use text_symbols::pack::pack;
-use words_layout::limits::MAX_DEPTH;
+use words_layout::limits::MAX_GATES;
+use words_layout::offsets::GATE_SIZE;
 use words_layout::offsets::OUTPUT_SIZE;
 ghost use mathlib.Core.Path.{_≡_};
 ghost use mathlib.Core.List.{[], _∷_, _++_};
@@ -27,20 +27,14 @@ fn gate_line(
     index: &[u16],
     first: usize,
     unknown: usize,
-    gates: &mut [u16],
+    gates: &mut [u16; GATE_SIZE * MAX_GATES],
 ) -> Walked
     requires { ⌜ LineHere gateForm maxGates (now s) n (now names) (now words) first (now gates) ⌝ }
     requires { ⌜ Indexed (now names) (length (now names)) (now index) ⌝ }
     ensures { λ r. ⌜ LineRead gateForm (now (s .entry)) n (now (names .entry)) (now (words .entry)) first unknown (now (gates .entry)) (now (gates .exit)) r ⌝ }
 {
-    let at = 7 + name_length(&s[6..]);
-    let before = Past {
-        inputs: n,
-        count: 0,
-        gates: first,
-        unknown,
-    };
-    let one = operand(&s[at..], MAX_DEPTH, before, names, words, index, gates);
+    let at = 8 + name_length(&s[6..]);
+    let one = expression(&s[at..], n, first, unknown, names, words, index, gates);
     Walked {
         left: one.left - 2,
         number: one.gates,
@@ -94,7 +88,7 @@ pub fn gate_lines(
     names: &[u64],
     words: &[u16],
     index: &[u16],
-    gates: &mut [u16],
+    gates: &mut [u16; GATE_SIZE * MAX_GATES],
 ) -> Walked
     requires { ⌜ LinesHere gateForm maxGates lines (now text) n (now names) (now words) (now gates) ⌝ }
     requires { ⌜ Indexed (now names) (length (now names)) (now index) ⌝ }

@@ -1,6 +1,6 @@
 -- A chain of calls along one text: after each call the whole's answer is that of what follows, on the last bytes of the text. The line
 -- readers' proofs are such chains. Assumes nothing.
-use mathlib.Core.Path.{_≡_, refl, sym, ap, _∙_}
+use mathlib.Core.Path.{_≡_, sym, ap, _∙_}
 use mathlib.Core.List.{List}
 use Prim.Native.Nat.{ℕ, _-_, _≤_, _<_}
 use native.Mathlib.Omega.{arith}
@@ -31,9 +31,6 @@ lent n s = take (length s - (length s - n)) (drop (length s - n) s)
 pub lent-last : (n : ℕ) (s : List ℕ) → lent n s ≡ lastOnes n s
 lent-last n s = rest-is-drop s (length s - n)
 
-pub lent-rest : (s : List ℕ) → 0 < length s → take (length s - 1) (drop 1 s) ≡ lent (length s - 1) s
-lent-rest s h = let e : length s - (length s - 1) ≡ 1 = omega arith in rw e refl
-
 module _ {A B : Type 0} {W : Reader B} {R : Reader A} {k : List ℕ → Scan} (c : Continues W R k) where
   -- the first call refuses, or reads
   pub first-bad : (s : List ℕ) {r : Scan} {n : ℕ} → r ≡ scanOf (R s) → r ≡ Bad n → r ≡ scanOf (W s)
@@ -61,12 +58,6 @@ module _ {A B : Type 0} {W : Reader B} {R : Reader A} {k : List ℕ → Scan} (c
 pub then-last : {A : Type 0} (R : Reader A) {whole : Scan} {s : List ℕ} {n : ℕ} → At whole s n (λ t. scanOf (R t))
     → {r : Scan} → r ≡ scanOf (R (lent n s)) → r ≡ whole
 then-last R {whole} {s} {n} a e = e ∙ ap (λ t. scanOf (R t)) (lent-last n s) ∙ sym (a .is-rest)
-
--- behind the first byte
-pub behind-first : {whole : Scan} (s : List ℕ) {k : List ℕ → Scan} → 0 < length s → whole ≡ k (drop 1 s) → At whole s (length s - 1) k
-behind-first {whole} s {k} h e =
-    let q : length s - (length s - 1) ≡ 1 = omega arith in
-    record { within = omega arith; is-rest = rw q e }
 
 -- how long those parts are
 pub lent-last-length : (n : ℕ) (s : List ℕ) → n ≤ length s → length (lent n s) ≡ n

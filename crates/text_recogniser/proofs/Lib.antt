@@ -8,6 +8,7 @@ mod Words
 mod KindWords
 mod Operands
 mod OperandLists
+mod OperandSteps
 pub mod PairSteps
 pub mod LineSteps
 mod LineChoice

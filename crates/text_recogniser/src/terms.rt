@@ -1,5 +1,5 @@
-// The readers of expressions, by recursive descent: those of an expression, of an operand and of an operand list call
-// each other; depth left and bytes left fall.
+// The readers of expressions, by recursive descent: those of an expression, of an operand and of its operands call each
+// other; depth left and bytes left fall.
 use crate::Kind;
 use crate::Scan;
 use crate::bytes;
@@ -14,7 +14,6 @@ use words_layout::kinds::XOR;
 use words_layout::kinds::fewest_operands;
 use words_layout::kinds::most_operands;
 ghost use mathlib.Core.Path.{_≡_};
-ghost use Prim.Native.Nat.{_-_};
 ghost use Rattle.netlist.specs.Syntax.{Term, apply};
 ghost use Rattle.netlist.specs.Parse.{kindReader, termReader, termsReader, exprReader};
 ghost use Rattle.text_recogniser.specs.Scan.{scanOf, kindOf, kindWord, kindN, kindNo, kindX};
@@ -143,37 +142,36 @@ pub fn expression(s: &[u8], depth: usize) -> Scan
     }
 }
 
-// One less than n, or 0 where n is 0.
-fn one_less(n: usize) -> usize
-    ensures { λ r. ⌜ r ≡ n - 1 ⌝ }
-{
-    if n == 0 { 0 } else { n - 1 }
-}
-
-// Reads at most `most` operands, of which `needed` are needed, and the closing bracket.
+// Reads at most `most` operands, of which `needed` are needed, and the closing bracket: an operand a turn.
 fn operands(s: &[u8], depth: usize, most: usize, needed: usize) -> Scan
     ensures { λ r. ⌜ r ≡ scanOf (termsReader (termReader depth) most needed (now (s .entry))) ⌝ }
 {
-    if most == 0 {
-        return bytes::word(s, b")");
-    }
-    let c = byte_at(s, 0);
-    if c == b')' {
-        if needed == 0 {
-            return Scan::Next(s.len() - 1);
+    let mut left = s.len();
+    let mut i = 0;
+    while i < most {
+        let rest = &s[s.len() - left..];
+        let c = byte_at(rest, 0);
+        if c == b')' {
+            if i < needed {
+                return Scan::Bad(left);
+            }
+            return Scan::Next(left - 1);
         }
-        return Scan::Bad(s.len());
+        if c != b' ' {
+            return Scan::Bad(left);
+        }
+        let found = operand(&rest[1..], depth);
+        match found {
+            Scan::Next(behind) => {
+                left = behind;
+            }
+            Scan::Bad(behind) => {
+                return Scan::Bad(behind);
+            }
+        }
+        i += 1;
     }
-    if c != b' ' {
-        return Scan::Bad(s.len());
-    }
-    let found = operand(&s[1..], depth);
-    let Scan::Next(left) = found else {
-        return found;
-    };
-    let at = s.len() - left;
-    let still = one_less(needed);
-    operands(&s[at..], depth, most - 1, still)
+    bytes::word(&s[s.len() - left..], b")")
 }
 
 // Reads an operand, with `depth` levels of expressions left.

@@ -1,15 +1,16 @@
 -- What one more byte adds to a count, to a line's length and to a line's brackets: the turns of the loops over bytes. Assumes nothing.
-use Prim.Native.Nat.{ℕ, suc, _+_, _-_, _≤_, _<_}
+use Prim.Native.Nat.{ℕ, zero, suc, _+_, _-_, _≤_, _<_}
 use mathlib.Core.Path.{_≡_, refl}
-use mathlib.Core.Bool.{Bool, true, false, cond}
+use mathlib.Core.Bool.{Bool, true, false, cond, _||_, true≢false}
 use mathlib.Core.List.{List, [], _∷_}
 use native.Mathlib.Numerals.{add-one}
 use native.Mathlib.Omega.{arith}
 use lib.ListN.{length, getD, take, drop, drop-of-length-le, length-take}
 use lib.Seq.{drop-cons}
 use lib.Dec.{eqb}
-use borrow.Author.Tests.{eqb-true, ne-eqb}
-use Rattle.text_symbols.specs.Lines.{times, lengthWithLf, lineOpens}
+use borrow.Author.Tests.{eqb-true, eqb-false, ne-eqb}
+use borrow.Author.Count.{below-more}
+use Rattle.text_symbols.specs.Lines.{times, NoLf, lengthWithLf, lineOpens}
 
 module _ (s : List ℕ) (i : ℕ) (inside : i < length s) where
   -- a byte more is counted
@@ -35,6 +36,21 @@ module _ (s : List ℕ) (i : ℕ) (inside : i < length s) where
   opens-more n one e h v =
       let d : lineOpens (drop i s) ≡ cond (eqb (getD s i 0) 40) 1 0 + lineOpens (drop (i + 1) s) = rw (add-one, drop-cons s i 0, ne-eqb (getD s i 0) 10 e) in
       omega arith
+
+-- ---- a part without an LF
+
+-- one byte more
+pub no-more : (s : List ℕ) (at i : ℕ) (found : Bool) → (found ≡ false → NoLf s at i) → found || eqb (getD s (at + i) 0) 10 ≡ false
+    → NoLf s at (i + 1)
+no-more s at i true none e = absurd (true≢false e)
+no-more s at i false none e = below-more (λ k. getD s (at + k) 0 ≡ 10 → ⊥) i (none refl) (eqb-false (getD s (at + i) 0) 10 e)
+
+pub length-skip : (s : List ℕ) (at n : ℕ) → at + n ≤ length s → NoLf s at n → at + lengthWithLf (drop at s) ≡ lengthWithLf s
+    → at + n + lengthWithLf (drop (at + n) s) ≡ lengthWithLf s
+length-skip s at zero l none h = let e : at + 0 ≡ at = omega arith in rw e h
+length-skip s at (suc n) l none h =
+    let e : at + n + 1 ≡ at + suc n = omega arith in
+    rw e at (length-more s (at + n) (omega arith) (none n (omega arith)) (length-skip s at n (omega arith) (λ k i. none k (omega arith)) h))
 
 -- at the end nothing is left to count
 module _ (s : List ℕ) (i n : ℕ) (end : length s ≤ i) where

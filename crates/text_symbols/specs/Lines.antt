@@ -1,7 +1,7 @@
 -- A text as lines, read from its bytes alone: where line i of those from a place on starts, where its declared name
 -- stands, and how many gates close up to its end. On the print of a legal tree these are the tree's own numbers
 -- (proofs/).
-use Prim.Native.Nat.{ℕ, zero, suc, _+_, _-_, _≤_}
+use Prim.Native.Nat.{ℕ, zero, suc, _+_, _-_, _≤_, _<_}
 use mathlib.Core.Path.{_≡_}
 use mathlib.Core.Bool.{Bool, false, cond, _&&_}
 use mathlib.Core.List.{List, [], _∷_}
@@ -32,6 +32,10 @@ timesBehind a b (x ∷ xs) = cond (eqb x a && isFirst b xs) 1 0 + timesBehind a 
 abbrev pub lengthWithLf : List ℕ → ℕ
 lengthWithLf [] = 0
 lengthWithLf (x ∷ xs) = suc (cond (eqb x 10) 0 (lengthWithLf xs))
+
+-- no LF stands among the first n bytes from a place on
+abbrev pub NoLf : List ℕ → ℕ → ℕ → Type 0
+NoLf s at n = (k : ℕ) → k < n → getD s (at + k) 0 ≡ 10 → ⊥
 
 -- the opening brackets before the first LF
 abbrev pub lineOpens : List ℕ → ℕ

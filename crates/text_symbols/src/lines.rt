@@ -2,12 +2,12 @@
 use crate::Line;
 use words_layout::bytes::byte_at;
 ghost use mathlib.Core.Path.{_≡_};
-ghost use mathlib.Core.Bool.{cond};
+ghost use mathlib.Core.Bool.{false, cond};
 ghost use Prim.Native.Nat.{_+_, _-_, _≤_};
 ghost use lib.Dec.{eqb};
 ghost use lib.ListN.{length, drop};
 ghost use Rattle.netlist.specs.Limits.{maxText};
-ghost use Rattle.text_symbols.specs.Lines.{times, timesBehind, lengthWithLf, lineOpens, nameOffset, LineOf};
+ghost use Rattle.text_symbols.specs.Lines.{times, timesBehind, NoLf, lengthWithLf, lineOpens, nameOffset, LineOf};
 
 // 1 where the bytes are the same, else 0.
 fn one_if(a: u8, b: u8) -> usize
@@ -51,11 +51,42 @@ pub fn count_behind(s: &[u8], a: u8, b: u8) -> usize
     n as usize
 }
 
+// The bytes that are looked at together, so that a processor compares many at a time: fewer than most lines have.
+const PART: usize = 16;
+
+// Does an LF stand in the part from `at` on? Every byte of the part is looked at, so that no byte ends the loop early.
+fn has_lf(s: &[u8], at: usize) -> bool
+    requires { ⌜ at + 16 ≤ length (now s) ⌝ }
+    ensures { λ r. ⌜ (r ≡ false → NoLf (now (s .entry)) at 16) ⌝ }
+{
+    let mut found = false;
+    let mut i = 0;
+    while i < PART {
+        found = found | (s[at + i] == b'\n');
+        i += 1;
+    }
+    found
+}
+
+// The bytes of the whole parts at the front that have no LF.
+fn skip_parts(s: &[u8]) -> usize
+    ensures { λ r. ⌜ (r ≤ length (now (s .entry))) × (r + lengthWithLf (drop r (now (s .entry))) ≡ lengthWithLf (now (s .entry))) ⌝ }
+{
+    let mut i = 0;
+    while PART <= s.len() - i {
+        if has_lf(s, i) {
+            return i;
+        }
+        i += PART;
+    }
+    i
+}
+
 // The bytes up to the first LF, that LF counted.
 fn line_length(s: &[u8]) -> usize
     ensures { λ r. ⌜ r ≡ lengthWithLf (now (s .entry)) ⌝ }
 {
-    let mut i = 0;
+    let mut i = skip_parts(s);
     while i < s.len() {
         if s[i] == b'\n' {
             return i + 1;

@@ -9,13 +9,15 @@ use Rattle.text_expressions.proofs.leaves.leaf_here.Statement.{statemen
 use Rattle.text_expressions.proofs.leaves.leaf_here.Tie as tie
 
 sub-t9 : tie.Need-sub-t9
-sub-t9 c = byte-there (c .before .before .before .before .before .before .args .s .now) (c .before .byte-at .ensures) (c .if1 .taken) (omega arith)
+sub-t9 c = byte-there (c .before .before .before .before .before .before .args .s .now) (c .before .byte-at .ensures)
+    (c .if1 .taken) (omega arith)
 
 returns : tie.Need-returns
 unfolding constantHere
 returns c =
     let start = c .before .before .before .before .before .before in
-    let a = start .args in leaf-0 (a .s .now) (a .names .now) (a .words .now) (a .unknown) (sym (c .before .byte-at .ensures) ∙ c .if1 .taken)
+    let a = start .args in leaf-0 (a .s .now) (a .names .now) (a .words .now) (a .unknown)
+    (sym (c .before .byte-at .ensures) ∙ c .if1 .taken)
 
 sub-t10 : tie.Need-sub-t10
 sub-t10 c =
@@ -26,14 +28,16 @@ returns-2 : tie.Need-returns-2
 unfolding constantHere
 returns-2 c =
     let start = c .before .before .before .before .before .before .before in
-    let a = start .args in leaf-1 (a .s .now) (a .names .now) (a .words .now) (a .unknown) (sym (c .before .before .byte-at .ensures) ∙ c .if2 .taken)
+    let a = start .args in leaf-1 (a .s .now) (a .names .now) (a .words .now) (a .unknown)
+    (sym (c .before .before .byte-at .ensures) ∙ c .if2 .taken)
 
 returns-3 : tie.Need-returns-3
 returns-3 c =
     let at-byte-at = c .before .before .before in
     let start = at-byte-at .before .before .before .before .before in
     let a = start .args in c .name-here .ensures ∙ leaf-name (a .s .now) (a .names .now) (a .words .now) (a .unknown)
-    (λ e. c .before .before .if1 .left (at-byte-at .byte-at .ensures ∙ e)) (λ e. c .before .if2 .left (at-byte-at .byte-at .ensures ∙ e))
+    (λ e. c .before .before .if1 .left (at-byte-at .byte-at .ensures ∙ e))
+    (λ e. c .before .if2 .left (at-byte-at .byte-at .ensures ∙ e))
 
 pub leaf-here-spec : {M : Type 1} → statement M
 leaf-here-spec =

@@ -7,7 +7,12 @@ use Rattle.text_expressions.proofs.leaves.name_here.Statement.{statemen
 use Rattle.text_expressions.proofs.leaves.name_here.Tie as tie
 
 sub-left : tie.Need-sub-left
-sub-left c = omega (arith, c .name-length .ensures, front-shorter 8 (c .before .before .before .before .before .args .s .now))
+sub-left c = omega (
+  arith,
+  c .name-length .ensures,
+  front-shorter 8
+      (c .before .before .before .before .before .args .s .now),
+)
 
 returns : tie.Need-returns
 returns c =
@@ -15,16 +20,20 @@ returns c =
     let at-pack = at-find .before in
     let at-name-length = at-pack .before in
     let start = at-name-length .before .before .before .before .before in
-    let a = start .args in name-found (a .s .now) (a .names .now) (a .words .now) (a .unknown) (at-name-length .name-length .ensures)
-    (at-pack .pack-first .ensures) (at-find .find-indexed .ensures) (c .before .before .if1 .taken) (c .earlier .ensures)
+    let a = start .args in name-found (a .s .now) (a .names .now) (a .words .now) (a .unknown)
+    (at-name-length .name-length .ensures)
+    (at-pack .pack-first .ensures) (at-find .find-indexed .ensures) (c .before .before .if1 .taken)
+    (c .earlier .ensures)
 
 returns-2 : tie.Need-returns-2
 returns-2 c =
     let at-pack = c .before .before .before in
     let at-name-length = at-pack .before in
     let start = at-name-length .before .before .before .before .before in
-    let a = start .args in name-unknown (a .s .now) (a .names .now) (a .words .now) (a .unknown) (at-name-length .name-length .ensures)
-    (at-pack .pack-first .ensures) (c .before .before .find-indexed .ensures) (c .before .if1 .left) (c .earlier2 .ensures)
+    let a = start .args in name-unknown (a .s .now) (a .names .now) (a .words .now) (a .unknown)
+    (at-name-length .name-length .ensures)
+    (at-pack .pack-first .ensures) (c .before .before .find-indexed .ensures) (c .before .if1 .left)
+    (c .earlier2 .ensures)
 
 pub name-here-spec : {M : Type 1} → statement M
 name-here-spec =

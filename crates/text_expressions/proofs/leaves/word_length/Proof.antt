@@ -1,4 +1,5 @@
--- `text_expressions::leaves::word_length` meets its contract: the keyword of the kind's signature, without the zeros at its end. Assumes nothing.
+-- `text_expressions::leaves::word_length` meets its contract: the keyword of the kind's signature, without the zeros at
+-- its end. Assumes nothing.
 use mathlib.Core.Path.{ap}
 use borrow.Author.Needs.{needs}
 use Rattle.netlist.specs.declared.Signature.{Signature}
@@ -10,7 +11,8 @@ returns : tie.Need-returns
 returns c =
     let r = c .trimmed-length in
     let read = c .before .before .before in
-    word-read (read .before .args .kind) (r .result) _ (ap (λ (s : Signature). s .keyword) (read .signature-of .ensures)) (r .ensures .0) (r .ensures .1)
+    word-read (read .before .args .kind) (r .result) _
+    (ap (λ (s : Signature). s .keyword) (read .signature-of .ensures)) (r .ensures .0) (r .ensures .1)
 
 pub word-length-spec : {M : Type 1} → statement M
 word-length-spec =

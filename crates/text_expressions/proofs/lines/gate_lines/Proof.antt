@@ -1,7 +1,10 @@
--- `text_expressions::lines::gate_lines` meets its contract: what is done so far and what the other lines add is what all add. Assumes nothing.
+-- `text_expressions::lines::gate_lines` meets its contract: what is done so far and what the other lines add is what
+-- all add. Assumes nothing.
 use borrow.Author.Needs.{needs}
 use native.Mathlib.Omega.{arith}
-use Prim.Native.Nat.{_-_}
+use Prim.Native.Nat.{_-_, _≤_}
+use mathlib.Core.Path.{_≡_}
+use lib.ListN.{length}
 use Rattle.netlist.specs.Limits.{maxGates}
 use Rattle.text_expressions.specs.Lines.{gateForm, LinesOn}
 use Rattle.text_expressions.proofs.LineForms.{gate-lawful}
@@ -16,55 +19,73 @@ Inv-loop text lines n names words index gates₀ left₀ first₀ unknown₀ i�
 abbrev μ-loop : tie.MeasureT-loop
 μ-loop text lines n names words index gates₀ left₀ first₀ unknown₀ i₀ gates left first unknown i = lines - i
 
+abbrev known : tie.After-shared-slice-known3 Inv-loop μ-loop → tie.Start Inv-loop μ-loop
+known c = c .before .before .before
+
+abbrev entry : tie.At-loop Inv-loop μ-loop → tie.Start Inv-loop μ-loop
+entry c = known (c .before .before)
+
 loop-holds : tie.Need-loop-holds Inv-loop μ-loop
 loop-holds c =
-    let start = c .before .before .before .before .before in
-    let a = start .args in lines-start gateForm gate-lawful (a .lines) (a .text .now) (a .n) (a .names .now) (a .words .now) 0 (a .gates .now)
+    let a = known (c .before) .args in
+    lines-start gateForm gate-lawful (a .lines) (a .text .now) (a .n) (a .names .now) (a .words .now) 0 (a .gates .now)
 
 sub-gate-line : tie.Need-sub-gate-line Inv-loop μ-loop
 sub-gate-line c = omega (arith, c .before .loop .inv .within)
 
 gate-line-requires : tie.Need-gate-line-requires Inv-loop μ-loop
-gate-line-requires c κs = let b = c .before .before in
-    let a = b .before .before .before .before .before .before .before .args in
-    let l = b .before .loop in (
-      line-here gateForm gate-lawful (a .lines) (a .text .now) (a .n) (a .names .now) (a .words .now) 0 (a .gates .now) (l .i) (l .left) (l .first)
-          (l .unknown) (l .gates) (l .inv) maxGates (b .before .before .before .before .before .before .before .pre .0) (b .loop-test .taken),
-      b .before .before .before .before .before .before .before .pre .1,
+gate-line-requires c κs =
+    let in-loop = c .before .before in
+    let start = entry (in-loop .before) in
+    let a = start .args in
+    let l = in-loop .before .loop in (
+      line-here gateForm gate-lawful (a .lines) (a .text .now) (a .n) (a .names .now) (a .words .now) 0 (a .gates .now)
+          (l .i) (l .left) (l .first)
+          (l .unknown) (l .gates) (l .inv) maxGates (start .pre .0) (in-loop .loop-test .taken),
+      start .pre .1,
     )
+
+-- a line is read
+module _ (c : tie.After-gate-line Inv-loop μ-loop) where
+  abbrev in-loop : tie.In-loop Inv-loop μ-loop
+  in-loop = c .before .before .before
+
+  kept : (c .gate-line .result .left ≤ length (entry (in-loop .before) .args .text .now))
+      × (length (c .gate-line .last .1 .1 .1 .1 .1 .1 .1 .0) ≡ length (entry (in-loop .before) .args .gates .now))
+  kept =
+      let start = entry (in-loop .before) in
+      let a = start .args in
+      let l = in-loop .before .loop in
+      lines-kept gateForm gate-lawful (a .lines) (a .text .now) (a .n) (a .names .now) (a .words .now) 0
+      (a .gates .now) (l .i) (l .left) (l .first)
+      (l .unknown) (l .gates) (l .inv) (c .gate-line .last .1 .1 .1 .1 .1 .1 .1 .0) (c .gate-line .result)
+      (c .gate-line .ensures) maxGates
+      (start .pre .0) (in-loop .loop-test .taken)
 
 add-i : tie.Need-add-i Inv-loop μ-loop
 add-i c =
-    let at-loop-test = c .before .before .before .before .before in
-    let at-fits = at-loop-test .before .before .before .before .before .before .before in
-    omega (arith, at-loop-test .loop-test .taken, at-fits .fits .lines)
+    let turn = in-loop c in
+    omega (arith, turn .loop-test .taken, entry (turn .before) .fits .lines)
 
 loop-less : tie.Need-loop-less Inv-loop μ-loop
-loop-less c = omega (arith, c .before .before .before .before .before .loop-test .taken)
+loop-less c = omega (arith, in-loop c .loop-test .taken)
 
 loop-again : tie.Need-loop-again Inv-loop μ-loop
 loop-again c =
-    let in-loop = c .before .before .before .before .before in
-    let at-loop = in-loop .before in
-    let start = at-loop .before .before .before .before .before .before in
-    let a = start .args in
-    let l = at-loop .loop in
-    let g = c .before .before .gate-line in
-    lines-step gateForm gate-lawful (a .lines) (a .text .now) (a .n) (a .names .now) (a .words .now) 0 (a .gates .now) (l .i) (l .left) (l .first)
-    (l .unknown) (l .gates) (l .inv) (g .last .1 .1 .1 .1 .1 .1 .1 .0) (g .result) (g .ensures)
-    (lines-kept gateForm gate-lawful (a .lines) (a .text .now) (a .n) (a .names .now) (a .words .now) 0 (a .gates .now) (l .i) (l .left) (l .first)
-    (l .unknown) (l .gates) (l .inv) (g .last .1 .1 .1 .1 .1 .1 .1 .0) (g .result) (g .ensures) maxGates
-    (start .pre .0) (in-loop .loop-test .taken)) (in-loop .loop-test .taken)
-
-same-length : tie.Need-same-length Inv-loop μ-loop
-same-length c = c .before .loop .inv .same
+    let a = entry (in-loop c .before) .args in
+    let l = in-loop c .before .loop in
+    let g = c .gate-line in
+    lines-step gateForm gate-lawful (a .lines) (a .text .now) (a .n) (a .names .now) (a .words .now) 0 (a .gates .now)
+    (l .i) (l .left) (l .first)
+    (l .unknown) (l .gates) (l .inv) (g .last .1 .1 .1 .1 .1 .1 .1 .0) (g .result) (g .ensures) (kept c)
+    (in-loop c .loop-test .taken)
 
 returns : tie.Need-returns Inv-loop μ-loop
 returns c =
-    let start = c .before .before .before .before .before .before .before in
-    let a = start .args in
+    let a = entry (c .before) .args in
     let l = c .before .loop in
-    lines-end gateForm gate-lawful (a .lines) (a .text .now) (a .n) (a .names .now) (a .words .now) 0 (a .gates .now) (l .i) (l .left) (l .first)
+    lines-end gateForm gate-lawful (a .lines) (a .text .now) (a .n) (a .names .now) (a .words .now) 0 (a .gates .now)
+    (l .i) (l .left) (l .first)
     (l .unknown) (l .gates) (l .inv) (c .loop-test .left)
 
 pub gate-lines-spec : {M : Type 1} → statement M
@@ -72,4 +93,4 @@ gate-lines-spec =
     tie.close
     (tie.spec
     Inv-loop μ-loop loop-holds sub-gate-line (λ c. omega arith) (λ c. omega arith) (λ c. search needs)
-    gate-line-requires add-i loop-less loop-again same-length returns)
+    gate-line-requires add-i loop-less loop-again returns)

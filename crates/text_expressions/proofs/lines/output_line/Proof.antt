@@ -11,48 +11,62 @@ use Rattle.text_expressions.proofs.lines.output_line.Tie as tie
 sub-name-length : tie.Need-sub-name-length
 sub-name-length c =
     let start = c .before .before .before .before .before in
-    let p = start .pre .0 .1 in omega (arith, output-parts (start .args .s .now) _ refl (p .line) (p .rest) (p .here) .long)
+    let p = start .pre .0 .1 in omega
+    (arith, output-parts (start .args .s .now) _ refl (p .line) (p .rest) (p .here) .long)
 
 part-name-length-start : tie.Need-part-name-length-start
 part-name-length-start c =
     let start = c .before .before .before .before .before in
-    let p = start .pre .0 .1 in omega (arith, output-parts (start .args .s .now) _ refl (p .line) (p .rest) (p .here) .long)
+    let p = start .pre .0 .1 in omega
+    (arith, output-parts (start .args .s .now) _ refl (p .line) (p .rest) (p .here) .long)
 
 add-at : tie.Need-add-at
 add-at c =
     let start = c .before .before .before .before .before .before .before in
-    let a = start .args in let p = start .pre .0 .1 in omega
-    (arith, output-parts (a .s .now) (c .name-length .result) (c .name-length .ensures) (p .line) (p .rest) (p .here) .long, start .good)
+    let a = start .args in let p = start .pre .0 .1 in omega (
+      arith,
+      output-parts (a .s .now) (c .name-length .result) (c .name-length .ensures) (p .line) (p .rest)
+          (p .here) .long,
+      start .good,
+    )
 
 sub-name-here : tie.Need-sub-name-here
 sub-name-here c =
     let start = c .before .before .before .before .before .before .before in
-    let a = start .args in let p = start .pre .0 .1 in output-parts (a .s .now) (c .name-length .result) (c .name-length .ensures) (p .line) (p .rest)
+    let a = start .args in let p = start .pre .0 .1 in output-parts (a .s .now) (c .name-length .result)
+    (c .name-length .ensures) (p .line) (p .rest)
     (p .here) .long
 
 part-name-here-start : tie.Need-part-name-here-start
 part-name-here-start c =
     let start = c .before .before .before .before .before .before .before in
-    let a = start .args in let p = start .pre .0 .1 in output-parts (a .s .now) (c .name-length .result) (c .name-length .ensures) (p .line) (p .rest)
+    let a = start .args in let p = start .pre .0 .1 in output-parts (a .s .now) (c .name-length .result)
+    (c .name-length .ensures) (p .line) (p .rest)
     (p .here) .long
 
 name-here-requires : tie.Need-name-here-requires
 name-here-requires c κs =
     let stage = c .before .before .before .before .before .before .before in
     let b = stage .before in
-    let p = b .pre .0 .1 in (table-lengths (b .pre .0 .0) (p .bindings) (b .args .names .now) (b .args .words .now) (p .table), b .pre .1)
+    let p = b .pre .0 .1 in (
+      table-lengths (b .pre .0 .0) (p .bindings) (b .args .names .now) (b .args .words .now)
+          (p .table),
+      b .pre .1,
+    )
 
 sub-pack : tie.Need-sub-pack
 sub-pack c =
     let earlier = c .before .before .before .before .before .before .before in
     let start = earlier .before .before .before in
-    let p = start .pre .0 .1 in omega (arith, output-parts (start .args .s .now) _ refl (p .line) (p .rest) (p .here) .long)
+    let p = start .pre .0 .1 in omega
+    (arith, output-parts (start .args .s .now) _ refl (p .line) (p .rest) (p .here) .long)
 
 part-pack-start : tie.Need-part-pack-start
 part-pack-start c =
     let earlier = c .before .before .before .before .before .before .before in
     let start = earlier .before .before .before in
-    let p = start .pre .0 .1 in omega (arith, output-parts (start .args .s .now) _ refl (p .line) (p .rest) (p .here) .long)
+    let p = start .pre .0 .1 in omega
+    (arith, output-parts (start .args .s .now) _ refl (p .line) (p .rest) (p .here) .long)
 
 put-output-requires : tie.Need-put-output-requires
 unfolding outputForm
@@ -69,8 +83,10 @@ sub-t10 c =
     let s = b .before .before .before .before .before .before .before in
     let p = s .pre .0 .1 in
     let l = stage in
-    output-left (s .args .s .now) (b .name-length .result) (b .name-length .ensures) (s .pre .0 .0) (s .args .names .now) (s .args .words .now)
-    (s .args .first) (s .args .unknown) (s .args .outputs .now) (l .name-here .result) (l .name-here .ensures) (p .bindings) (p .line) (p .rest)
+    output-left (s .args .s .now) (b .name-length .result) (b .name-length .ensures) (s .pre .0 .0)
+    (s .args .names .now) (s .args .words .now)
+    (s .args .first) (s .args .unknown) (s .args .outputs .now) (l .name-here .result) (l .name-here .ensures)
+    (p .bindings) (p .line) (p .rest)
     (p .table) (p .here)
 
 returns : tie.Need-returns
@@ -83,8 +99,10 @@ returns c =
     let b = stage-2 in
     let s = b .before .before .before .before .before .before .before in
     let l = stage in
-    output-read (s .args .s .now) (b .name-length .result) (b .name-length .ensures) n (s .args .names .now) (s .args .words .now) (s .args .first)
-    (s .args .unknown) (s .args .outputs .now) (l .name-here .result) (l .name-here .ensures) (at-put-output .put-output .last .0)
+    output-read (s .args .s .now) (b .name-length .result) (b .name-length .ensures) n (s .args .names .now)
+    (s .args .words .now) (s .args .first)
+    (s .args .unknown) (s .args .outputs .now) (l .name-here .result) (l .name-here .ensures)
+    (at-put-output .put-output .last .0)
     (at-pack .pack .result) (at-pack .pack .ensures) (at-put-output .put-output .ensures)
 
 pub output-line-spec : {M : Type 1} → statement M

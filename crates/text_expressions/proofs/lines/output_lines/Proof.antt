@@ -1,4 +1,5 @@
--- `text_expressions::lines::output_lines` meets its contract: what is done so far and what the other lines add is what all add. Assumes nothing.
+-- `text_expressions::lines::output_lines` meets its contract: what is done so far and what the other lines add is what
+-- all add. Assumes nothing.
 use native.Mathlib.Omega.{arith}
 use borrow.Author.Needs.{needs}
 use Prim.Native.Nat.{ℕ, _-_}
@@ -19,7 +20,8 @@ abbrev μ-loop : tie.MeasureT-loop
 loop-holds : tie.Need-loop-holds Inv-loop μ-loop
 loop-holds c =
     let start = c .before .before .before .before .before in
-    λ n. let a = start .args in lines-start outputForm output-lawful (a .lines) (a .text .now) n (a .names .now) (a .words .now) (a .seen) (a .outputs .now)
+    λ n. let a = start .args in lines-start outputForm output-lawful (a .lines) (a .text .now) n (a .names .now)
+    (a .words .now) (a .seen) (a .outputs .now)
 
 sub-output-line : tie.Need-sub-output-line Inv-loop μ-loop
 sub-output-line c = omega (arith, c .before .loop .inv 0 .within)
@@ -32,7 +34,8 @@ output-line-requires c κs = let b = c .before .before in
     let p = b .before .before .before .before .before .before .before .pre in (
       (
         n,
-        line-here outputForm output-lawful (a .lines) (a .text .now) n (a .names .now) (a .words .now) (a .seen) (a .outputs .now) (l .i) (l .left)
+        line-here outputForm output-lawful (a .lines) (a .text .now) n (a .names .now) (a .words .now) (a .seen)
+            (a .outputs .now) (l .i) (l .left)
             (l .first) (l .unknown) (l .outputs) (l .inv n) maxOutputs (p .0 .1) (b .loop-test .taken),
       ),
       p .1,
@@ -57,9 +60,11 @@ loop-again c =
     let l = at-loop .loop in
     let g = c .before .before .output-line in
     let m = start .pre .0 .0 in
-    lines-step outputForm output-lawful (a .lines) (a .text .now) n (a .names .now) (a .words .now) (a .seen) (a .outputs .now) (l .i) (l .left) (l .first)
+    lines-step outputForm output-lawful (a .lines) (a .text .now) n (a .names .now) (a .words .now) (a .seen)
+    (a .outputs .now) (l .i) (l .left) (l .first)
     (l .unknown) (l .outputs) (l .inv n) (g .last .1 .1 .1 .1 .1 .1 .0) (g .result) (g .ensures n)
-    (lines-kept outputForm output-lawful (a .lines) (a .text .now) m (a .names .now) (a .words .now) (a .seen) (a .outputs .now) (l .i) (l .left) (l .first)
+    (lines-kept outputForm output-lawful (a .lines) (a .text .now) m (a .names .now) (a .words .now) (a .seen)
+    (a .outputs .now) (l .i) (l .left) (l .first)
     (l .unknown) (l .outputs) (l .inv m) (g .last .1 .1 .1 .1 .1 .1 .0) (g .result) (g .ensures m) maxOutputs
     (start .pre .0 .1) (in-loop .loop-test .taken)) (in-loop .loop-test .taken)
 
@@ -72,7 +77,8 @@ returns c =
     λ n.
     let a = start .args in
     let l = c .before .loop in
-    lines-end outputForm output-lawful (a .lines) (a .text .now) n (a .names .now) (a .words .now) (a .seen) (a .outputs .now) (l .i) (l .left) (l .first)
+    lines-end outputForm output-lawful (a .lines) (a .text .now) n (a .names .now) (a .words .now) (a .seen)
+    (a .outputs .now) (l .i) (l .left) (l .first)
     (l .unknown) (l .outputs) (l .inv n) (c .loop-test .left)
 
 pub output-lines-spec : {M : Type 1} → statement M

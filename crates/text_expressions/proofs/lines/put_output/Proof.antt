@@ -26,7 +26,8 @@ returns : tie.Need-returns
 unfolding portWords
 returns c =
     let a = c .args in five-stores (a .outputs .now)
-    (a .port / 65536 % 65536 ∷ a .port / 4294967296 % 65536 ∷ a .port / 281474976710656 % 65536 ∷ a .word ∷ []) (5 * a .number) (a .port % 65536) refl
+    (a .port / 65536 % 65536 ∷ a .port / 4294967296 % 65536 ∷ a .port / 281474976710656 % 65536 ∷ a .word ∷ [])
+    (5 * a .number) (a .port % 65536) refl
 
 pub put-output-spec : {M : Type 1} → statement M
 put-output-spec =

@@ -22,7 +22,8 @@ slice-write-gates-5 c = simp length-set (omega arith)
 returns : tie.Need-returns
 returns c =
     let a = c .before .before .before .before .args in
-    five-stores (a .gates .now) (a .slots .now) (5 * a .number) (a .kind + 8 * a .count) (c .before .before .before .before .pre .1 .1)
+    five-stores (a .gates .now) (a .slots .now) (5 * a .number) (a .kind + 8 * a .count)
+    (c .before .before .before .before .pre .1 .1)
 
 pub put-gate-spec : {M : Type 1} → statement M
 put-gate-spec =

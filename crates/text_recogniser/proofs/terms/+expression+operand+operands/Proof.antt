@@ -20,7 +20,6 @@ use Rattle.text_recogniser.proofs.names.name_bytes.Reads as name-bytes-
 use Rattle.words_layout.proofs.kinds.fewest_operands.Reads as fewest-operands-reads
 use Rattle.text_recogniser.proofs.terms.kind.Reads as kind-reads
 use Rattle.words_layout.proofs.kinds.most_operands.Reads as most-operands-reads
-use Rattle.text_recogniser.proofs.terms.one_less.Reads as one-less-reads
 use Rattle.text_recogniser.proofs.terms.+expression+operand+operands.{statement}
 use Rattle.text_recogniser.proofs.terms.+expression+operand+operands.Tie.{close}
 use borrow.Author.Needs.{needs}
@@ -28,7 +27,8 @@ use mathlib.Core.Path.{_≡_, sym, ap, _∙_}
 use mathlib.Core.Bool.{false}
 use Prim.Native.Nat.{suc, _-_, _*_, _≤_}
 use native.Mathlib.Omega.{arith}
-use lib.ListN.{length, getD}
+use mathlib.Core.List.{List}
+use lib.ListN.{length, getD, drop}
 use Rattle.prelude.proofs.Elements.{rest-is-drop, byte-there}
 use Rattle.netlist.specs.Names.{isNameStart}
 use Rattle.netlist.specs.Kinds.{mostOperands, fewestOperands}
@@ -36,11 +36,12 @@ use Rattle.netlist.specs.Syntax.{Term, apply}
 use Rattle.netlist.specs.Parse.{nameBytes, termReader, termsReader, exprReader}
 use Rattle.text_recogniser.specs.Scan.{scanOf}
 use Rattle.text_recogniser.proofs.Shortens.{shortens-term}
-use Rattle.text_recogniser.proofs.Continues.{left-short}
-use Rattle.text_recogniser.proofs.Chain.{Behind, lent-rest, lent-last-length, lent-rest-length, then-bad, then-next, then-last, behind-first}
+use Rattle.text_recogniser.proofs.ListFacts.{lastOnes}
+use Rattle.text_recogniser.proofs.Chain.{Behind, lent, lent-last, lent-last-length, lent-rest-length, then-last}
 use Rattle.text_recogniser.proofs.Operands.{inner, start-there, operand-name, operand-0, operand-1, operand-inner, inner-deepest, inner-other, inner-expression}
-use Rattle.text_recogniser.proofs.OperandLists.{operandThen, continues-operand, list-full, list-closed, list-needed, list-other, list-more, expression-kind}
-use Rattle.text_recogniser.proofs.OperandLists.{expression-none}
+use Rattle.text_recogniser.proofs.OperandLists.{expression-kind, expression-none}
+use Rattle.text_recogniser.proofs.OperandSteps.{OperandsLeft, operands-start, operands-end, left-there, left-closed, left-needed, left-other}
+use Rattle.text_recogniser.proofs.OperandSteps.{space-there, left-bad, left-next}
 
 abbrev μ-expression : Measures 1 expression-kinds.ps ℕ
 μ-expression κs a = suc (2 * length (a .0 .now))
@@ -98,17 +99,19 @@ operand-claims t = (
 
 abbrev operands-claims : ℕ → operands-lts.Claims
 operands-claims t = (
-  word-reads.Asked,
-  word-reads.Learnt,
   byte-at-reads.Asked,
   byte-at-reads.Learnt,
   operand-below t,
   operand.Post,
-  one-less-reads.Asked,
-  one-less-reads.Learnt,
-  operands-below t,
-  operands.Post,
+  word-reads.Asked,
+  word-reads.Learnt,
 )
+
+abbrev Inv : operands-lts.InvT-loop
+Inv s depth most needed left₀ i₀ t12 left i = OperandsLeft (termReader depth) s most needed i left
+
+abbrev μ : operands-lts.MeasureT-loop
+μ s depth most needed left₀ i₀ t12 left i = most - i
 
 -- an expression's entry, from behind its kind; there the operands are left
 abbrev expression-start : (t : ℕ) → expression-lts.After-known-told (expression-claims t) (expression-at t) expression.Post
@@ -282,147 +285,140 @@ operand-returns-6 t c =
     c .expression .ensures ∙ ap (λ u. scanOf (exprReader {A = Term} (termReader (a .depth - 1)) apply u)) (rest-is-drop (a .s .now) 1)
     ∙ sym (no-leaf t n ∙ inner-expression (a .depth) (a .s .now) (b .before .if4 .left) (operand-byte t n .byte-at .ensures) (b .if5 .left))
 
--- a list's entry, from behind its space, and the stage there, from behind its first operand; there the others are left
-abbrev operands-start : (t : ℕ) → operands-lts.Else4 (operands-claims t) (operands-at t) operands.Post
-    → operands-lts.Start (operands-claims t) (operands-at t) operands.Post
-operands-start t c = c .before .before .before .before .before
+-- ---- the operands of an expression: where a turn's first byte is read, the loop and the function's entry, the text and what is left of it
 
-abbrev operands-space : (t : ℕ) → operands-lts.After-known-told (operands-claims t) (operands-at t) operands.Post
-    → operands-lts.Else4 (operands-claims t) (operands-at t) operands.Post
-operands-space t c = c .before .before .before .before .before
+module _ (t : ℕ) where
+  abbrev Stage : Type 0
+  Stage = operands-lts.After-byte-at (operands-claims t) (operands-at t) operands.Post Inv μ
 
-space-there : (t : ℕ) (c : operands-lts.Else4 (operands-claims t) (operands-at t) operands.Post) → 0 < length (operands-start t c .args .s .now)
-space-there t c = byte-there (operands-start t c .args .s .now) (c .before .before .byte-at .ensures) (c .if4 .left) (omega arith)
+  abbrev turn : Stage → operands-lts.At-loop (operands-claims t) (operands-at t) operands.Post Inv μ
+  turn c = c .before .before .before
 
-operands-chain : (t : ℕ) (c : operands-lts.Else4 (operands-claims t) (operands-at t) operands.Post) → let a = operands-start t c .args in
-    Behind (termsReader (termReader (a .depth)) (a .most) (a .needed)) (a .s .now) (length (a .s .now) - 1)
-    (operandThen (termReader (a .depth)) (termsReader (termReader (a .depth)) (a .most - 1) (a .needed - 1)))
-operands-chain t c =
-    let a = operands-start t c .args in
-    behind-first (a .s .now) (space-there t c)
-    (list-more (termReader (a .depth)) (a .most) (a .needed) (a .s .now) (c .before .before .before .if1 .left) (c .before .before .byte-at .ensures)
-    (c .before .if2 .left) (c .if4 .left))
+  abbrev start : Stage → operands-lts.Start (operands-claims t) (operands-at t) operands.Post Inv μ
+  start c = turn c .before .before
 
-operands-chain-2 : (t : ℕ) (c : operands-lts.After-known-told (operands-claims t) (operands-at t) operands.Post)
-    → let a = operands-start t (operands-space t c) .args in
-    Behind (termsReader (termReader (a .depth)) (a .most) (a .needed)) (a .s .now) (c .before .found .given .0 .0)
-    (termsReader (termReader (a .depth)) (a .most - 1) (a .needed - 1))
-operands-chain-2 t c =
-    let b = operands-space t c in
-    let a = operands-start t b .args in
-    let rest = termsReader (termReader (a .depth)) (a .most - 1) (a .needed - 1) in
-    then-next (continues-operand (termReader (a .depth)) rest) (shortens-term (a .depth)) (operands-chain t b)
-    (c .before .before .before .operand .ensures ∙ ap (λ u. scanOf (termReader (a .depth) u)) (lent-rest (a .s .now) (space-there t b)))
-    (c .before .found .given .1)
+  abbrev text : Stage → List ℕ
+  text c = start c .args .s .now
 
-operands-slice-aggregate-word : (t : ℕ) → operands-lts.Need-slice-aggregate-word (operands-claims t) (operands-at t) operands.Post
-operands-slice-aggregate-word t c = search needs
+  abbrev rest : Stage → List ℕ
+  rest c = lent (turn c .loop .left) (text c)
 
-operands-word-requires : (t : ℕ) → operands-lts.Need-word-requires (operands-claims t) (operands-at t) operands.Post
-operands-word-requires t c κs = search needs
+  lent-here : (c : Stage) → rest c ≡ lastOnes (turn c .loop .left) (text c)
+  lent-here c = lent-last (turn c .loop .left) (text c)
 
-operands-returns : (t : ℕ) → operands-lts.Need-returns (operands-claims t) (operands-at t) operands.Post
-operands-returns t c = let a = c .before .before .before .before .args in
-    c .word .ensures ∙ sym (list-full (termReader (a .depth)) (a .most) (a .needed) (a .s .now) (c .before .before .if1 .taken))
+  operands-loop-holds : operands-lts.Need-loop-holds (operands-claims t) (operands-at t) operands.Post Inv μ
+  operands-loop-holds c =
+      let a = c .before .args in
+      operands-start (termReader (a .depth)) (a .s .now) (a .most) (a .needed)
 
-operands-byte-at-requires : (t : ℕ) → operands-lts.Need-byte-at-requires (operands-claims t) (operands-at t) operands.Post
-operands-byte-at-requires t c κs = search needs
+  operands-sub-rest : operands-lts.Need-sub-rest (operands-claims t) (operands-at t) operands.Post Inv μ
+  operands-sub-rest c = c .before .loop .inv .within
 
-operands-sub-t16 : (t : ℕ) → operands-lts.Need-sub-t16 (operands-claims t) (operands-at t) operands.Post
-operands-sub-t16 t c =
-    let start = c .before .before .before .before .before in
-    byte-there (start .args .s .now) (c .before .before .byte-at .ensures) (c .before .if2 .taken) (omega arith)
+  operands-returns : operands-lts.Need-returns (operands-claims t) (operands-at t) operands.Post Inv μ
+  operands-returns c =
+      let a = c .before .before in
+      let g = start a .args in
+      let l = turn a .loop in
+      left-needed (termReader (g .depth)) (text a) (g .most) (g .needed) (l .i) (l .left) (l .inv) (rest a) (lent-here a)
+      (a .before .before .loop-test .taken) (a .byte-at .ensures) (c .before .if1 .taken) (c .if2 .taken)
 
-operands-returns-2 : (t : ℕ) → operands-lts.Need-returns-2 (operands-claims t) (operands-at t) operands.Post
-operands-returns-2 t c =
-    let at-if1 = c .before .before .before in
-    let start = at-if1 .before .before in
-    let a = start .args in
-    sym (list-closed (termReader (a .depth)) (a .most) (a .needed) (a .s .now) (at-if1 .if1 .left) (c .before .before .byte-at .ensures)
-    (c .before .if2 .taken) (c .if3 .taken))
+  operands-sub-t20 : operands-lts.Need-sub-t20 (operands-claims t) (operands-at t) operands.Post Inv μ
+  operands-sub-t20 c =
+      let a = c .before .before in
+      let g = start a .args in
+      let l = turn a .loop in
+      left-there (termReader (g .depth)) (text a) (g .most) (g .needed) (l .i) (l .left) (l .inv) (rest a) (lent-here a)
+      (a .before .before .loop-test .taken) (a .byte-at .ensures) (c .before .if1 .taken)
 
-operands-returns-3 : (t : ℕ) → operands-lts.Need-returns-3 (operands-claims t) (operands-at t) operands.Post
-operands-returns-3 t c =
-    let at-if1 = c .before .before .before in
-    let start = at-if1 .before .before in
-    let a = start .args in
-    sym (list-needed (termReader (a .depth)) (a .most) (a .needed) (a .s .now) (at-if1 .if1 .left) (c .before .before .byte-at .ensures)
-    (c .before .if2 .taken) (c .if3 .left))
+  operands-returns-2 : operands-lts.Need-returns-2 (operands-claims t) (operands-at t) operands.Post Inv μ
+  operands-returns-2 c =
+      let a = c .before .before in
+      let g = start a .args in
+      let l = turn a .loop in
+      left-closed (termReader (g .depth)) (text a) (g .most) (g .needed) (l .i) (l .left) (l .inv) (rest a) (lent-here a)
+      (a .before .before .loop-test .taken) (a .byte-at .ensures) (c .before .if1 .taken) (c .if2 .left)
 
-operands-returns-4 : (t : ℕ) → operands-lts.Need-returns-4 (operands-claims t) (operands-at t) operands.Post
-operands-returns-4 t c =
-    let at-if1 = c .before .before .before in
-    let start = at-if1 .before .before in
-    let a = start .args in
-    sym (list-other (termReader (a .depth)) (a .most) (a .needed) (a .s .now) (at-if1 .if1 .left) (c .before .before .byte-at .ensures)
-    (c .before .if2 .left) (c .if4 .taken))
+  operands-returns-3 : operands-lts.Need-returns-3 (operands-claims t) (operands-at t) operands.Post Inv μ
+  operands-returns-3 c =
+      let a = c .before .before in
+      let g = start a .args in
+      let l = turn a .loop in
+      left-other (termReader (g .depth)) (text a) (g .most) (g .needed) (l .i) (l .left) (l .inv) (rest a) (lent-here a)
+      (a .before .before .loop-test .taken) (a .byte-at .ensures) (c .before .if1 .left) (c .if3 .taken)
 
-operands-sub-operand : (t : ℕ) → operands-lts.Need-sub-operand (operands-claims t) (operands-at t) operands.Post
-operands-sub-operand t c = space-there t c
+  -- an operand comes
+  space : (c : operands-lts.Else3 (operands-claims t) (operands-at t) operands.Post Inv μ) → 0 < length (rest (c .before .before))
+  space c =
+      let a = c .before .before in
+      let g = start a .args in
+      let l = turn a .loop in
+      space-there (termReader (g .depth)) (text a) (g .most) (g .needed) (l .i) (l .left) (l .inv) (rest a) (lent-here a)
+      (a .before .before .loop-test .taken) (a .byte-at .ensures) (c .before .if1 .left) (c .if3 .left)
 
-operands-part-operand-start : (t : ℕ) → operands-lts.Need-part-operand-start (operands-claims t) (operands-at t) operands.Post
-operands-part-operand-start t c = space-there t c
+  operands-sub-operand : operands-lts.Need-sub-operand (operands-claims t) (operands-at t) operands.Post Inv μ
+  operands-sub-operand c = space c
 
-operands-part-operand-end : (t : ℕ) → operands-lts.Need-part-operand-end (operands-claims t) (operands-at t) operands.Post
-operands-part-operand-end t c = search needs
+  operands-part-operand-start : operands-lts.Need-part-operand-start (operands-claims t) (operands-at t) operands.Post Inv μ
+  operands-part-operand-start c = space c
 
-operands-operand-requires : (t : ℕ) → operands-lts.Need-operand-requires (operands-claims t) (operands-at t) operands.Post
-operands-operand-requires t c κs =
-    let b = c .before in
-    let start = operands-start t b in
-    (omega (arith, lent-rest-length (start .args .s .now) (space-there t b), space-there t b, start .pre .0), tt)
+  operands-operand-requires : operands-lts.Need-operand-requires (operands-claims t) (operands-at t) operands.Post Inv μ
+  operands-operand-requires c κs =
+      let b = c .before in
+      let a = b .before .before in
+      let l = turn a .loop in (
+        omega (
+          arith,
+          lent-rest-length (rest a) (space b),
+          space b,
+          lent-last-length (l .left) (text a) (l .inv .within),
+          l .inv .within,
+          start a .pre .0,
+        ),
+        tt,
+      )
 
-operands-enum-known-found : (t : ℕ) → operands-lts.Need-enum-known-found (operands-claims t) (operands-at t) operands.Post
-operands-enum-known-found t c = search needs
+  -- it is read
+  module _ (c : operands-lts.After-operand (operands-claims t) (operands-at t) operands.Post Inv μ) where
+    abbrev spaced : operands-lts.Else3 (operands-claims t) (operands-at t) operands.Post Inv μ
+    spaced = c .before .before
 
-operands-enum-told : (t : ℕ) → operands-lts.Need-enum-told (operands-claims t) (operands-at t) operands.Post
-operands-enum-told t c = search needs
+    abbrev read-at : Stage
+    read-at = spaced .before .before
 
-operands-returns-5 : (t : ℕ) → operands-lts.Need-returns-5 (operands-claims t) (operands-at t) operands.Post
-operands-returns-5 t c =
-    let b = c .before .before .before .before in
-    let a = operands-start t b .args in
-    let rest = termsReader (termReader (a .depth)) (a .most - 1) (a .needed - 1) in
-    then-bad (continues-operand (termReader (a .depth)) rest) (operands-chain t b)
-    (c .before .before .operand .ensures ∙ ap (λ u. scanOf (termReader (a .depth) u)) (lent-rest (a .s .now) (space-there t b))) (c .enum-told .given .1)
+    told : c .operand .result ≡ scanOf (termReader (start read-at .args .depth) (drop 1 (rest read-at)))
+    told = c .operand .ensures ∙ ap (λ u. scanOf (termReader (start read-at .args .depth) u)) (rest-is-drop (rest read-at) 1)
 
-operands-sub-at : (t : ℕ) → operands-lts.Need-sub-at (operands-claims t) (operands-at t) operands.Post
-operands-sub-at t c = operands-chain-2 t c .within
+  operands-returns-4 : operands-lts.Need-returns-4 (operands-claims t) (operands-at t) operands.Post Inv μ
+  operands-returns-4 c =
+      let m = c .before .before .before in
+      let b = spaced m in
+      let a = read-at m in
+      let g = start a .args in
+      let l = turn a .loop in
+      left-bad (termReader (g .depth)) (text a) (g .most) (g .needed) (l .i) (l .left) (l .inv) (rest a) (lent-here a)
+      (a .before .before .loop-test .taken) (a .byte-at .ensures) (b .before .if1 .left) (b .if3 .left) (told m) (c .before .found2 .given .1)
 
-operands-one-less-requires : (t : ℕ) → operands-lts.Need-one-less-requires (operands-claims t) (operands-at t) operands.Post
-operands-one-less-requires t c κs = search needs
+  operands-loop-again : operands-lts.Need-loop-again (operands-claims t) (operands-at t) operands.Post Inv μ
+  operands-loop-again c =
+      let m = c .before .before .before in
+      let b = spaced m in
+      let a = read-at m in
+      let g = start a .args in
+      let l = turn a .loop in
+      left-next (termReader (g .depth)) (text a) (g .most) (g .needed) (l .i) (l .left) (l .inv) (rest a) (lent-here a)
+      (a .before .before .loop-test .taken) (a .byte-at .ensures) (b .before .if1 .left) (b .if3 .left) (told m) (shortens-term (g .depth)) (c .before .found .given .1)
 
-operands-sub-operands : (t : ℕ) → operands-lts.Need-sub-operands (operands-claims t) (operands-at t) operands.Post
-operands-sub-operands t c = search needs
+  operands-sub-word : operands-lts.Need-sub-word (operands-claims t) (operands-at t) operands.Post Inv μ
+  operands-sub-word c = c .before .loop .inv .within
 
-operands-part-operands-start : (t : ℕ) → operands-lts.Need-part-operands-start (operands-claims t) (operands-at t) operands.Post
-operands-part-operands-start t c = search needs
-
-operands-part-operands-end : (t : ℕ) → operands-lts.Need-part-operands-end (operands-claims t) (operands-at t) operands.Post
-operands-part-operands-end t c = search needs
-
-operands-sub-operands-2 : (t : ℕ) → operands-lts.Need-sub-operands-2 (operands-claims t) (operands-at t) operands.Post
-operands-sub-operands-2 t c =
-    let b = operands-space t (c .before .before) in
-    omega (arith, b .before .before .before .if1 .left)
-
-operands-operands-requires : (t : ℕ) → operands-lts.Need-operands-requires (operands-claims t) (operands-at t) operands.Post
-operands-operands-requires t c κs =
-    let b = c .before .before in
-    let d = operands-space t b in
-    let start = operands-start t d in
-    let s = start .args .s .now in
-    let n = b .before .found .given .0 .0 in
-    let l : n ≤ length s - 1 = rw (lent-rest-length s (space-there t d)) at
-    (left-short (shortens-term (start .args .depth)) _ (sym (b .before .found .given .1) ∙ b .before .before .before .operand .ensures)) in
-    (omega (arith, lent-last-length n s (operands-chain-2 t b .within), space-there t d, start .pre .0), tt)
-
-operands-returns-6 : (t : ℕ) → operands-lts.Need-returns-6 (operands-claims t) (operands-at t) operands.Post
-operands-returns-6 t c =
-    let b = c .before .before .before in
-    let a = operands-start t (operands-space t b) .args in
-    then-last (termsReader (termReader (a .depth)) (a .most - 1) (a .needed - 1)) (operands-chain-2 t b)
-    (rw (c .before .before .one-less .ensures) at (c .operands .ensures))
+  operands-returns-5 : operands-lts.Need-returns-5 (operands-claims t) (operands-at t) operands.Post Inv μ
+  operands-returns-5 c =
+      let after = c .before .before .before in
+      let l = after .before .loop in
+      let begin = after .before in
+      let g = begin .before .before .args in
+      operands-end (termReader (g .depth)) (g .s .now) (g .most) (g .needed) (l .i) (l .left) (l .inv) _ (lent-last (l .left) (g .s .now))
+      (after .loop-test .left) (c .word .ensures)
 
 pub +expression+operand+operands-spec : {M : Type 1} → statement M
 +expression+operand+operands-spec =
@@ -463,26 +459,32 @@ pub +expression+operand+operands-spec : {M : Type 1} → statement M
     (operand-returns-6 t))
     λ t. operands-lts.spec (operands-claims t) (operands-at t)
     operands.Post
-    (operands-slice-aggregate-word t)
-    (operands-word-requires t)
+    Inv
+    μ
+    (operands-loop-holds t)
+    (operands-sub-rest t)
+    (λ c. omega arith)
+    (λ c. omega arith)
+    (λ c. omega arith)
+    (λ c κs. omega arith)
     (operands-returns t)
-    (operands-byte-at-requires t)
-    (operands-sub-t16 t)
+    (operands-sub-t20 t)
     (operands-returns-2 t)
     (operands-returns-3 t)
-    (operands-returns-4 t)
     (operands-sub-operand t)
     (operands-part-operand-start t)
-    (operands-part-operand-end t)
+    (λ c. search needs)
     (operands-operand-requires t)
-    (operands-enum-known-found t)
-    (operands-enum-told t)
+    (λ c. omega arith)
+    (λ c. omega arith)
+    (operands-returns-4 t)
+    (λ c. omega arith)
+    (λ c. omega arith)
+    (operands-loop-again t)
+    (operands-sub-word t)
+    (λ c. omega arith)
+    (λ c. omega arith)
+    (λ c. omega arith)
+    (λ c. omega arith)
+    (λ c κs. omega arith)
     (operands-returns-5 t)
-    (operands-sub-at t)
-    (operands-one-less-requires t)
-    (operands-sub-operands t)
-    (operands-part-operands-start t)
-    (operands-part-operands-end t)
-    (operands-sub-operands-2 t)
-    (operands-operands-requires t)
-    (operands-returns-6 t)

@@ -2,6 +2,7 @@
 use Prim.Native.Nat.{_+_, _-_, _≤_}
 use mathlib.Core.Path.{_≡_}
 use native.Mathlib.Omega.{arith}
+use borrow.Author.Needs.{needs}
 use lib.ListN.{length, drop}
 use Rattle.text_symbols.specs.Lines.{lengthWithLf}
 use Rattle.text_symbols.proofs.Scanning.{length-more, length-last, length-end}
@@ -15,26 +16,26 @@ abbrev μ-loop : tie.MeasureT-loop
 μ-loop s i₀ i = length s - i
 
 loop-holds : tie.Need-loop-holds Inv-loop μ-loop
-loop-holds c = (omega arith, omega arith)
+loop-holds c = c .skip-parts .ensures
 
 returns : tie.Need-returns Inv-loop μ-loop
 returns c =
     let at-loop = c .before .before .before in
-    let start = at-loop .before in
+    let start = at-loop .before .before .before in
     let l = at-loop .loop in length-last (start .args .s .now) (l .i) (omega arith) (c .if1 .taken) (l .inv .1)
 
 loop-again : tie.Need-loop-again Inv-loop μ-loop
 loop-again c =
     let at-loop = c .before .before .before in
-    let start = at-loop .before in
+    let start = at-loop .before .before .before in
     let l = at-loop .loop in (omega arith, length-more (start .args .s .now) (l .i) (omega arith) (c .if1 .left) (l .inv .1))
 
 returns-2 : tie.Need-returns-2 Inv-loop μ-loop
-returns-2 c = let l = c .before .loop in length-end (c .before .before .args .s .now) (l .i) (l .i) (omega arith) (l .inv .1)
+returns-2 c = let l = c .before .loop in length-end (c .before .before .before .before .args .s .now) (l .i) (l .i) (omega arith) (l .inv .1)
 
 pub line-length-spec : {M : Type 1} → statement M
 line-length-spec =
     tie.close
     (tie.spec
-    Inv-loop μ-loop loop-holds (λ c. omega arith) (λ c. omega arith) returns (λ c. omega arith) (λ c. omega arith)
+    Inv-loop μ-loop (λ c κs. search needs) loop-holds (λ c. omega arith) (λ c. omega arith) returns (λ c. omega arith) (λ c. omega arith)
     loop-again returns-2)
