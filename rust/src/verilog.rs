@@ -7,9 +7,10 @@ use std::sync::LazyLock;
 
 /// The words of Verilog and SystemVerilog that a netlist's name or a module's may be, those of small letters, and Icarus's own (`bool`,
 /// `wone`, `wreal`).
-static KEYWORDS: LazyLock<HashSet<&str>> = LazyLock::new(|| WORDS.split_whitespace().collect());
+static RESERVED: LazyLock<HashSet<&str>> = LazyLock::new(|| KEYWORDS.split_whitespace().collect());
 
-const WORDS: &str = "accept_on alias always always_comb always_ff always_latch and assert assign assume automatic before begin bind bins \
+/// The same in one text, which tests/synthesis reads too.
+const KEYWORDS: &str = "accept_on alias always always_comb always_ff always_latch and assert assign assume automatic before begin bind bins \
     binsof bit bool break buf bufif0 bufif1 byte case casex casez cell chandle checker class clocking cmos config const constraint context continue \
     cover covergroup coverpoint cross deassign default defparam design disable dist do edge else end endcase endchecker endclass endclocking \
     endconfig endfunction endgenerate endgroup endinterface endmodule endpackage endprimitive endprogram endproperty endsequence endspecify \
@@ -150,7 +151,7 @@ fn declared(word: &str, ports: &[Port]) -> Vec<String> {
 fn escaped(name: &str) -> String {
     let plain = |byte: u8| byte.is_ascii_alphanumeric() || byte == b'_';
     let digit = name.starts_with(|first: char| first.is_ascii_digit());
-    match name.bytes().all(plain) && !digit && !KEYWORDS.contains(name) {
+    match name.bytes().all(plain) && !digit && !RESERVED.contains(name) {
         true => name.to_string(),
         false => format!("\\{name} "),
     }
