@@ -146,6 +146,17 @@ impl Block {
         members
     }
 
+    /// The loop that each gate is in, by its number in [`Block::loops`].
+    pub fn loops_of_gates(&self) -> Vec<Option<usize>> {
+        let mut loops = vec![None; self.gates()];
+        for (number, members) in self.loops().into_iter().enumerate() {
+            members
+                .into_iter()
+                .for_each(|gate| loops[gate] = Some(number));
+        }
+        loops
+    }
+
     /// How many settings may come: those that no never line excludes.
     pub fn settings_that_come(&self) -> usize {
         let nevers = self.never_lines();

@@ -13,14 +13,10 @@ pub struct Opening {
 
 impl Opening {
     pub fn of(block: &Block) -> Opening {
-        let gates = block.gate_list();
-        let mut loops = vec![None; gates.len()];
-        for (number, members) in block.loops().into_iter().enumerate() {
-            members
-                .into_iter()
-                .for_each(|gate| loops[gate] = Some(number));
+        Opening {
+            gates: block.gate_list(),
+            loops: block.loops_of_gates(),
         }
-        Opening { gates, loops }
     }
 
     /// The gates that have a value under a setting even where all that they read of their own loop is undefined. `settled` is what the block

@@ -5,6 +5,7 @@
 mod blif;
 mod cells;
 mod circuit;
+mod cursor;
 mod difference;
 mod interface;
 mod netlist;
@@ -59,23 +60,17 @@ impl Form<'_> {
 /// assert_eq!(wrong.to_string(), "with s = 0 it shows y = 1, and the original simulated again shows y = 0");
 /// ```
 pub fn agrees(original: &[u8], written: &[u8], form: Form) -> Result<(), Difference> {
-    let ours = text(original).and_then(|original| netlist::read(original, true));
-    let ours = ours.map_err(Difference::Original)?;
+    let ours = netlist::read(original, true).map_err(Difference::Original)?;
     let theirs = read(written, form).map_err(Difference::Unreadable)?;
     interface::same(&ours, &theirs, form)?;
     simulation::same(&ours, &theirs)
 }
 
-fn read(written: &[u8], form: Form) -> Result<Circuit, String> {
-    let written = text(written)?;
+fn read<'a>(written: &'a [u8], form: Form) -> Result<Circuit<'a>, String> {
     match form.language {
         Language::Netlist => netlist::read(written, form.loops),
         Language::Verilog => verilog::read(written, form.loops),
         Language::Blif => blif::read(written, form.loops),
         Language::Cells => cells::read(written),
     }
-}
-
-fn text(written: &[u8]) -> Result<&str, String> {
-    std::str::from_utf8(written).map_err(|_| "it is no text".to_string())
 }

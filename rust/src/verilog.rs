@@ -2,10 +2,14 @@
 
 use crate::export::Nets;
 use crate::{Block, Labels, Operand};
-use std::collections::HashMap;
+use std::collections::{HashMap, HashSet};
+use std::sync::LazyLock;
 
 /// The words of Verilog and SystemVerilog that a netlist's name or a module's may be, those of small letters, and Icarus's own (`bool`,
-/// `wone`, `wreal`); sorted.
+/// `wone`, `wreal`).
+static RESERVED: LazyLock<HashSet<&str>> = LazyLock::new(|| KEYWORDS.split_whitespace().collect());
+
+/// The same in one text, which tests/synthesis reads too.
 const KEYWORDS: &str = "accept_on alias always always_comb always_ff always_latch and assert assign assume automatic before begin bind bins \
     binsof bit bool break buf bufif0 bufif1 byte case casex casez cell chandle checker class clocking cmos config const constraint context continue \
     cover covergroup coverpoint cross deassign default defparam design disable dist do edge else end endcase endchecker endclass endclocking \
@@ -145,10 +149,9 @@ fn declared(word: &str, ports: &[Port]) -> Vec<String> {
 
 /// A name that is a keyword, or that Verilog wouldn't take for one name, is escaped: a backslash before it, a space behind it.
 fn escaped(name: &str) -> String {
-    let is_keyword = || KEYWORDS.split_whitespace().any(|keyword| keyword == name);
     let plain = |byte: u8| byte.is_ascii_alphanumeric() || byte == b'_';
     let digit = name.starts_with(|first: char| first.is_ascii_digit());
-    match name.bytes().all(plain) && !digit && !is_keyword() {
+    match name.bytes().all(plain) && !digit && !RESERVED.contains(name) {
         true => name.to_string(),
         false => format!("\\{name} "),
     }

@@ -1,8 +1,9 @@
-//! Cover, by brute force over all partial assignments and all settings.
+//! Cover, by brute force over all partial assignments and all settings that agree with each.
 
 use crate::answer::{told, Answer, Outcome};
 use crate::malformed::well_formed;
 use crate::values::Network;
+use std::iter::successors;
 
 /// Two words an entry, the mask of fixed inputs and of those fixed at 1; count: entries.
 pub fn cover(block: &[u16], room: usize) -> (Answer, Vec<u16>) {
@@ -31,18 +32,22 @@ pub fn entries(good: &[bool]) -> Vec<(usize, usize)> {
 
 /// Every partial assignment, as fixed inputs and those fixed at 1, ascending.
 fn assignments(settings: usize) -> Vec<(usize, usize)> {
-    let masks = 0..settings;
-    let below = |mask| (0..=mask).map(move |ones| (mask, ones));
-    let part = |&(mask, ones): &(usize, usize)| ones & !mask == 0;
-    masks.flat_map(below).filter(part).collect()
+    let below = |mask| parts(mask).map(move |ones| (mask, ones));
+    (0..settings).flat_map(below).collect()
+}
+
+/// The masks that have no bit but those of one, ascending.
+fn parts(mask: usize) -> impl Iterator<Item = usize> {
+    let next = move |part: &usize| (*part != mask).then(|| part.wrapping_sub(mask) & mask);
+    successors(Some(0), next)
 }
 
 /// For each assignment, whether every setting that agrees with it is settled or excluded.
 fn soundness(good: &[bool]) -> Vec<Vec<bool>> {
     let mut sound = vec![vec![false; good.len()]; good.len()];
     for (mask, ones) in assignments(good.len()) {
-        let mut agreeing = (0..good.len()).filter(|setting| setting & mask == ones);
-        sound[mask][ones] = agreeing.all(|setting| good[setting]);
+        let mut free = parts(good.len() - 1 - mask);
+        sound[mask][ones] = free.all(|others| good[ones | others]);
     }
     sound
 }

@@ -15,6 +15,7 @@ pub mod circuit;
 pub mod compare;
 pub mod compare_cells;
 pub mod cover;
+pub mod cut;
 pub mod executed;
 pub mod foreign;
 pub mod gate_table;

@@ -1,12 +1,12 @@
 //! The program `bench`: the simulator against worked examples, and target/bin/bench against the simulator, its input cut
 //! into pieces. Its `main` can have no contract, so that it moves all bytes, and each answer at once, is held by this.
 
-use simulator::bench;
 use simulator::bench::{first_error, parted};
 use simulator::compare::programs::{bench_program, compare_bench, set_lines, written_in_pieces};
 use simulator::compare::tally::answered_often;
 use simulator::executed::{ended, root};
 use simulator::generate::{bench_input, long_bench_inputs, set_line, text, Random, Size};
+use simulator::{bench, cut};
 use std::fs;
 use std::io::{BufRead, BufReader, Write};
 use std::process::Stdio;
@@ -126,9 +126,11 @@ fn thousands_of_lines() {
         // No difference is printed: the texts are long.
         assert!(ended(&mut bench_program(), &input).stdout == expected);
         for size in [1, 2, 7, 4_096] {
-            let written = written_in_pieces(bench_program(), input.chunks(size));
+            let written = cut::written("bench", &input, &[("CUT_READ", size)]);
             assert!(written == expected, "pieces of {size}, seed {seed}");
         }
+        let written = written_in_pieces(bench_program(), input.chunks(29));
+        assert!(written == expected, "datagrams, seed {seed}");
     }
 }
 

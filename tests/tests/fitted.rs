@@ -1,13 +1,14 @@
 //! `bin/unloop --check-cells` and `--fit`: what is said of tables of cells that were made elsewhere, and what becomes of those that a mapper
 //! makes: here a stand-in for ABC, which is right, wrong or broken. The real one is run by tests/synthesis.
 
+mod mapper;
 mod session;
 
-use session::{command, run, told, with};
-use simulator::executed::{ended, netlists, root, Scratch};
+use session::{run, told, with};
+use simulator::executed::{netlists, Scratch};
 use simulator::generate::{for_blocks, for_typical_blocks, order, Random, Report, Size};
 use std::fs;
-use std::process::{Command, Output};
+use std::process::Output;
 use unloop::{blif, cells_of_blif, module_name, Block, CellTable, Refusal};
 
 const LOOPED: &str =
@@ -289,20 +290,9 @@ fn models_that_are_no_cells() {
     assert!(cells_of_blif("", &block, &module_name("m")).is_err());
 }
 
-/// The driver with a PATH that has nothing but a stand-in for ABC, if one is given.
+/// The driver with nothing on its PATH but a stand-in for ABC, if one is given.
 fn fit(scratch: &Scratch, abc: Option<&str>, words: &[&str]) -> Output {
-    // What it needs is built by the first run.
-    command(scratch);
-    fs::create_dir_all(scratch.path("tools")).unwrap();
-    if let Some(script) = abc {
-        scratch.put_script("tools/abc", &format!("#!/bin/sh\n{script}"));
-    }
-    let mut driver = Command::new(root().join("target/driver/release/unloop-files"));
-    driver.arg(root().join("target/bin/unloop")).args(words);
-    driver
-        .current_dir(scratch.path("."))
-        .env("PATH", scratch.path("tools"));
-    ended(&mut driver, b"")
+    mapper::run_with(scratch, abc.map(|script| ("abc", script)), words)
 }
 
 /// The output is b where something is settled, and nothing is where a is 1 and b is 0, which never comes.

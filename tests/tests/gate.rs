@@ -31,16 +31,21 @@ if [ "$2" = --version ]; then ! grep -qx "missing $1" fails; exit; fi
 package=
 for word; do case $word in */Cargo.toml) package=${word%/Cargo.toml} ;; esac; done
 call="${0##*/}${package:+ $1 $package}"
+case $* in *--test=other*) call+=' --test=other' ;; --others) call+=' --others' ;; esac
 echo "$call" >> calls
 ! grep -qx "$call" fails
 "#;
 
+/// As `--others` it says what the other tests are.
+const LEVELS: &str = "status=$?\n[ \"$1\" != --others ] || echo --test=other\nexit $status\n";
+
 fn gate() -> Scratch {
     let scratch = repository();
     scratch.put_script("tools/rt", RT);
-    for tool in ["tools/cargo", "tests/probes", "tests/c/run", "tests/levels"] {
+    for tool in ["tools/cargo", "tests/probes", "tests/c/run"] {
         scratch.put_script(tool, OTHER);
     }
+    scratch.put_script("tests/levels", &format!("{OTHER}{LEVELS}"));
     scratch.put("fails", "");
     scratch.put("pace", "0 0\n");
     scratch.put("verdict", "4 passed, 0 failed\n");
@@ -54,7 +59,7 @@ fn run(scratch: &Scratch) -> Output {
 }
 
 /// What is called before the tests, which run beside each other.
-const IN_ORDER: [&str; 10] = [
+const IN_ORDER: [&str; 11] = [
     "rt fmt --check",
     "cargo fmt rust",
     "cargo fmt tests",
@@ -65,6 +70,7 @@ const IN_ORDER: [&str; 10] = [
     "cargo clippy rust",
     "cargo clippy tests",
     "cargo clippy perf",
+    "levels --others",
 ];
 
 /// Everything is run, and the last lines are the phases and rt's verdict.
@@ -93,14 +99,14 @@ fn phases_and_the_last_line() {
     assert!(phases[1].1 >= 1 && phases[2].1 >= 2, "{phases:?}");
     let calls = scratch.get("calls");
     let calls: Vec<&str> = calls.lines().collect();
-    assert_eq!(calls[..10], IN_ORDER);
-    let mut beside = calls[10..].to_vec();
-    beside.retain(|&call| call != "cargo test tests");
+    assert_eq!(calls[..11], IN_ORDER);
+    let mut beside = calls[11..].to_vec();
+    beside.retain(|&call| call != "cargo test tests --test=other");
     assert_eq!(
         beside,
         ["cargo test perf", "cargo test rust", "run", "levels"]
     );
-    assert_eq!(calls.len(), 15);
+    assert_eq!(calls.len(), 16);
     let folder = scratch.get("room");
     assert!(folder == "\n" || !std::path::Path::new(folder.trim_end()).exists());
 }
@@ -116,7 +122,8 @@ fn failures() {
         "probes",
         "cargo clippy rust",
         "cargo clippy perf",
-        "cargo test tests",
+        "levels --others",
+        "cargo test tests --test=other",
         "cargo test perf",
         "cargo test rust",
         "run",

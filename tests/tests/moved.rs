@@ -2,6 +2,7 @@
 //! no contract, so this is held by runs: over calls that are cut at every size (tests/c/cut.c), over sockets and full pipes, and under signals.
 
 use simulator::compare::programs::written_in_pieces;
+use simulator::cut::written;
 use simulator::executed::{ended, root, Scratch};
 use simulator::generate::{bench_input, long_texts, Random, Report, Size};
 use simulator::limits::WRITTEN_BYTES;
@@ -10,7 +11,6 @@ use simulator::{bench, unloop};
 use std::collections::BTreeSet;
 use std::io::{pipe, Read, Write};
 use std::process::{Child, Command, Stdio};
-use std::sync::OnceLock;
 use std::thread;
 use std::time::Duration;
 
@@ -21,40 +21,6 @@ fn program(name: &str) -> Command {
     let mut command = Command::new("timeout");
     command.arg("60").arg(root().join("target/bin").join(name));
     command
-}
-
-/// What is loaded before the C library, compiled once.
-fn cutter() -> &'static Scratch {
-    static CUTTER: OnceLock<Scratch> = OnceLock::new();
-    CUTTER.get_or_init(|| {
-        let scratch = Scratch::new();
-        let mut compiler = Command::new("gcc");
-        compiler.args(["-std=gnu99", "-Wall", "-Wextra", "-Werror", "-O1"]);
-        compiler
-            .args(["-shared", "-fPIC", "-o"])
-            .arg(scratch.path("cut.so"));
-        let compiled = ended(compiler.arg(root().join("tests/c/cut.c")), b"");
-        assert!(compiled.status.success(), "{compiled:?}");
-        scratch
-    })
-}
-
-/// What a program writes where its calls of C's `read` and `write` go by these words, each a variable and a number.
-fn written(name: &str, input: &[u8], words: &[(&str, usize)]) -> Vec<u8> {
-    let mut command = Command::new(root().join("target/bin").join(name));
-    // A path without the spaces of a test's folder, which would divide it.
-    command
-        .current_dir(cutter().path(""))
-        .env("LD_PRELOAD", "./cut.so");
-    for (variable, number) in words {
-        command.env(variable, number.to_string());
-    }
-    let ended = ended(&mut command, input);
-    assert!(
-        ended.status.success() && ended.stderr.is_empty(),
-        "{ended:?}"
-    );
-    ended.stdout
 }
 
 /// Netlists: short ones, the longest, and one whose rendering is long.

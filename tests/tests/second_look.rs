@@ -302,6 +302,73 @@ fn undefined_and_excluded() {
     );
 }
 
+/// A gate of each kind and as many operands as it may have, its word and its table.
+fn kinds() -> Vec<(&'static str, u32, u32)> {
+    let value = |word: &str, row: u32, operands: u32| match word {
+        "and" => row + 1 == 1 << operands,
+        "or" => row != 0,
+        _ => row.count_ones() % 2 == 1,
+    };
+    let words = [
+        ("and", "nand", "and"),
+        ("or", "nor", "or"),
+        ("xor", "xnor", "xor"),
+    ];
+    let mut kinds = vec![("not", 1, 0b01)];
+    for (plain, inverted, word) in words {
+        for operands in 2..=4 {
+            let rows = (0..1 << operands).filter(|&row| value(word, row, operands));
+            let table = rows.map(|row| 1 << row).sum();
+            kinds.push((plain, operands, table));
+            kinds.push((inverted, operands, !table & ((1 << (1 << operands)) - 1)));
+        }
+    }
+    kinds
+}
+
+/// Of all tables over up to three operands, and of many over four, the one that is a kind's is accepted for it and no other.
+#[test]
+fn tables_of_every_kind() {
+    let mut tried = 0;
+    for (word, operands, right) in kinds() {
+        let pins = ["a", "b", "c", "d"][..operands as usize].join(" ");
+        let inputs: String = pins.split(' ').map(|pin| format!("(in {pin})\n")).collect();
+        let original = format!("{inputs}(gate p ({word} {pins}))\n(out y p)\n");
+        let rows = 1 << operands;
+        let step = if operands < 4 { 1 } else { 13 };
+        let others = (0..1_u32 << rows).step_by(step);
+        let near = (0..rows).map(|row| right ^ 1 << row);
+        for table in others.chain(near).chain([right]) {
+            let of_row = |row: u32| {
+                let digits = (0..operands).map(|operand| (row >> operand & 1).to_string());
+                format!("{} 1\n", digits.collect::<String>())
+            };
+            let ones = (0..rows).filter(|row| table >> row & 1 == 1);
+            let ones: String = ones.map(of_row).collect();
+            let model =
+                format!(".model m\n.inputs {pins}\n.outputs y\n.names {pins} y\n{ones}.end\n");
+            let words = (0..4).map(|operand| match operand < operands {
+                true => format!("{operand} "),
+                false => "65534 ".to_string(),
+            });
+            let words: String = words.collect();
+            let cells = format!(
+                "# inputs {operands} {pins}\n{words}{table}\n# outputs 1\n# output y {operands}\n"
+            );
+            for (language, text) in [(Language::Blif, model), (Language::Cells, cells)] {
+                let looked = agrees(
+                    original.as_bytes(),
+                    text.as_bytes(),
+                    Form::rendering(language),
+                );
+                assert_eq!(looked.is_ok(), table == right, "{original}{text}{looked:?}");
+                tried += 1;
+            }
+        }
+    }
+    assert!(tried > 50_000, "{tried}");
+}
+
 /// Without pins there is one setting; of more than can be tried none is.
 #[test]
 fn no_pins_and_too_many() {

@@ -1,16 +1,17 @@
 //! `bin/unloop --shrink`: other orders of a block's gates, held to Render and Compare, and what becomes of the results of a stand-in for ABC.
 
+mod mapper;
 mod session;
 
-use session::{command, run, told, with};
+use session::{run, told, with};
 use simulator::block::Block as Simulated;
-use simulator::executed::{ended, root, Scratch};
+use simulator::executed::{root, Scratch};
 use simulator::generate::{
     about_1024_copies, for_blocks, for_typical_blocks, Random, Report, Size,
 };
 use simulator::render::copied;
 use std::fs;
-use std::process::{Command, Output};
+use std::process::Output;
 use unloop::orders::{reordered, Rule};
 use unloop::{Block, Refusal};
 
@@ -18,20 +19,9 @@ fn catalogue(name: &str) -> String {
     fs::read_to_string(root().join("catalogue").join(name)).unwrap()
 }
 
-/// The driver with a PATH that has nothing but a stand-in for ABC, if one is given.
+/// The driver with nothing on its PATH but a stand-in for ABC, if one is given.
 fn shrink(scratch: &Scratch, abc: Option<&str>, words: &[&str]) -> Output {
-    // What it needs is built by the first run.
-    command(scratch);
-    fs::create_dir_all(scratch.path("tools")).unwrap();
-    if let Some(script) = abc {
-        scratch.put_script("tools/yosys-abc", &format!("#!/bin/sh\n{script}"));
-    }
-    let mut driver = Command::new(root().join("target/driver/release/unloop-files"));
-    driver.arg(root().join("target/bin/unloop")).args(words);
-    driver
-        .current_dir(scratch.path("."))
-        .env("PATH", scratch.path("tools"));
-    ended(&mut driver, b"")
+    mapper::run_with(scratch, abc.map(|script| ("yosys-abc", script)), words)
 }
 
 /// A block in the order that is found renders to as many gates as are told, by the library and the simulator, and is accepted.

@@ -1,7 +1,7 @@
 //! Compare: the outputs of both blocks under every settled setting of ours, until two differ.
 
 use super::block::{name, Block};
-use super::decided::{by_width, lowest};
+use super::decided::{by_width, lowest_difference};
 use super::gate::Gate;
 use super::groups::Groups;
 use super::lanes::{to_its_end, Lanes, Order};
@@ -42,17 +42,11 @@ fn first_difference<const W: usize>(ours: &Block, theirs: &Block) -> Option<(usi
         their_lanes.start(base);
         our_lanes.settle(&coming, &mut to_its_end)?;
         their_lanes.settle(&coming, &mut to_its_end)?;
-        let undecided = our_lanes.undecided(&coming);
-        let differ = |(our, their): (usize, usize)| -> Option<usize> {
-            let [our, their] = [our_lanes.pairs[our][1], their_lanes.pairs[their][1]];
-            let differ = |i: usize| coming[i] & !undecided[i] & (our[i] ^ their[i]);
-            lowest(&std::array::from_fn::<_, W, _>(differ))
-        };
-        let settings = ours.shown().zip(theirs.shown()).map(differ);
-        let first = settings
-            .zip(0..)
-            .filter_map(|(setting, output)| Some((setting?, output)));
-        if let Some((setting, output)) = first.min() {
+        let shown = ours.shown().zip(theirs.shown());
+        let ones =
+            shown.map(|(our, their)| (&our_lanes.pairs[our][1], &their_lanes.pairs[their][1]));
+        let among = our_lanes.decided(&coming);
+        if let Some((setting, output)) = lowest_difference(&among, ones) {
             return Some((base + setting, output));
         }
     }

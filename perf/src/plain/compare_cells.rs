@@ -3,7 +3,7 @@
 
 use super::block::{Block, ONE, ZERO};
 use super::cells::are_legal;
-use super::decided::{by_width, lowest};
+use super::decided::{by_width, lowest_difference};
 use super::gate::Gate;
 use super::groups::Groups;
 use super::lanes::{to_its_end, Lanes, Order};
@@ -62,17 +62,9 @@ fn first_difference<const W: usize>(
         for (number, cell) in cells.iter().enumerate() {
             values[ours.n + number] = chosen(cell, &values);
         }
-        let undecided = lanes.undecided(&coming);
-        let differ = |(our, &their): (usize, &u16)| -> Option<usize> {
-            let (our, their) = (lanes.pairs[our][1], values[usize::from(their)]);
-            let differ = |i: usize| coming[i] & !undecided[i] & (our[i] ^ their[i]);
-            lowest(&from_fn::<_, W, _>(differ))
-        };
-        let settings = ours.shown().zip(shown).map(differ);
-        let first = settings
-            .zip(0..)
-            .filter_map(|(setting, output)| Some((setting?, output)));
-        if let Some((setting, output)) = first.min() {
+        let ones = ours.shown().zip(shown);
+        let ones = ones.map(|(our, &their)| (&lanes.pairs[our][1], &values[usize::from(their)]));
+        if let Some((setting, output)) = lowest_difference(&lanes.decided(&coming), ones) {
             return Some((base + setting, output));
         }
     }

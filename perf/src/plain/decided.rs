@@ -4,6 +4,8 @@ use super::block::Block;
 use super::gate::Gate;
 use super::groups::Groups;
 use super::lanes::{to_its_end, Lanes, Order};
+use super::pair::Set;
+use std::array::from_fn;
 use std::sync::atomic::{AtomicBool, Ordering::Relaxed};
 
 /// What is known of all settings.
@@ -91,4 +93,18 @@ fn all_settings<const W: usize>(
 pub fn lowest(set: &[u64]) -> Option<usize> {
     let word = set.iter().position(|&word| word != 0)?;
     Some(64 * word + set[word].trailing_zeros() as usize)
+}
+
+/// The lowest of these settings under which an output differs, and the lowest such output: each comes with our ones and theirs.
+pub fn lowest_difference<'a, const W: usize>(
+    among: &Set<W>,
+    outputs: impl Iterator<Item = (&'a Set<W>, &'a Set<W>)>,
+) -> Option<(usize, usize)> {
+    let differ = |(our, their): (&Set<W>, &Set<W>)| -> Option<usize> {
+        lowest(&from_fn::<_, W, _>(|i| among[i] & (our[i] ^ their[i])))
+    };
+    let settings = outputs.map(differ).zip(0..);
+    settings
+        .filter_map(|(setting, output)| Some((setting?, output)))
+        .min()
 }

@@ -167,6 +167,12 @@ impl<'a, const W: usize> Lanes<'a, W> {
         }
         undecided
     }
+
+    /// Those of these settings under which every output is defined.
+    pub fn decided(&self, coming: &Set<W>) -> Set<W> {
+        let undecided = self.undecided(coming);
+        from_fn(|i| coming[i] & !undecided[i])
+    }
 }
 
 /// Whatever passes a loop needs.

@@ -1,144 +1,137 @@
 //! A reader of BLIF models as they are written here: one model of `.names` tables, each of whose rows fixes all of its at most four inputs.
 
-use super::circuit::{Circuit, Draft, Driver, Function, Operand, Reads};
-use super::nets::Net;
+use super::circuit::{Circuit, Function, Gate, Reads};
+use super::cursor::{bytes, Bytes, Cursor};
+use super::nets::Name;
+
+/// What names are made of: all but blanks and what begins a comment.
+const LETTERS: Bytes = bytes(&[(b'!', b'"'), (b'$', 254)]);
 
 /// The circuit of a model; `loops`: whether a table may read its own net or one that is driven below it.
-pub fn read(text: &str, loops: bool) -> Result<Circuit, String> {
+pub fn read(text: &[u8], loops: bool) -> Result<Circuit<'_>, String> {
     let mut model = Model {
-        draft: Draft::of(text),
-        outputs: None,
-        begun: false,
-        ended: false,
-        table: None,
+        text: Cursor::of(text),
+        circuit: Circuit::of(text),
+        part: Part::Before,
+        inputs: false,
+        outputs: false,
     };
-    let mut words: Vec<&str> = Vec::new();
-    for (line, number) in text.lines().zip(1..) {
-        split(line, &mut words);
-        let taken = words.is_empty() || model.line(&words).is_some();
-        if !taken {
-            return Err(format!(
-                "line {number} is no line of such a model, or out of its place"
-            ));
-        }
+    while !model.text.is_at_end() {
+        let taken = model.line();
+        taken.ok_or_else(|| {
+            let line = model.text.line_of(model.text.place());
+            format!("line {line} is no line of such a model, or out of its place")
+        })?;
     }
-    let (outputs, true) = (model.outputs.unwrap_or_default(), model.ended) else {
-        return Err("the model has no end".to_string());
-    };
-    let mut draft = model.draft;
-    let named = |net: Net| (draft.nets.name(net).to_string(), net);
-    draft.ports = outputs.into_iter().map(named).collect();
-    draft.circuit(loops)
-}
-
-/// The words of a line, up to a comment.
-fn split<'a>(line: &'a str, words: &mut Vec<&'a str>) {
-    words.clear();
-    let mut began = 0;
-    let bytes = line.bytes().chain([b'#']).enumerate();
-    for (at, byte) in bytes {
-        if matches!(byte, b' ' | b'\t' | b'#') {
-            words.extend((at > began).then(|| &line[began..at]));
-            began = at + 1;
-        }
-        if byte == b'#' {
-            break;
-        }
+    match model.part {
+        Part::Behind => model.circuit.whole(loops),
+        _ => Err("the model has no end".to_string()),
     }
 }
 
-/// A table whose rows are being read.
-struct Table {
-    net: Net,
-    inputs: Reads<Operand>,
-    rows: u16,
-    /// What the rows told so far say: that they are 1, or 0.
-    told: Option<bool>,
+/// Where a line stands.
+#[derive(Clone, Copy, PartialEq, Eq)]
+enum Part {
+    Before,
+    Model,
+    Behind,
 }
 
 struct Model<'a> {
-    draft: Draft<'a>,
-    outputs: Option<Vec<Net>>,
-    begun: bool,
-    ended: bool,
-    table: Option<Table>,
+    text: Cursor<'a>,
+    circuit: Circuit<'a>,
+    part: Part,
+    /// Whether these were told.
+    inputs: bool,
+    outputs: bool,
 }
 
 impl<'a> Model<'a> {
-    /// Takes the words of a line, if they may stand there.
-    fn line(&mut self, words: &[&'a str]) -> Option<()> {
-        if !words[0].starts_with('.') {
-            return self.table.as_mut()?.row(words);
+    /// Takes a line, and with the first line of a table its rows.
+    fn line(&mut self) -> Option<()> {
+        let body = self.part == Part::Model;
+        if self.text.takes(b".names ") {
+            body.then(|| self.table())?
+        } else if self.text.takes(b".inputs") {
+            let new = body && !std::mem::replace(&mut self.inputs, true);
+            while let Some(pin) = self.word() {
+                let pin = self.circuit.nets.of(pin);
+                self.circuit.pins.push(pin);
+            }
+            new.then(|| self.end_line())?
+        } else if self.text.takes(b".outputs") {
+            let new = body && !std::mem::replace(&mut self.outputs, true);
+            while let Some(port) = self.word() {
+                let net = self.circuit.nets.of(port);
+                self.circuit.ports.push((self.circuit.nets.name(net), net));
+            }
+            new.then(|| self.end_line())?
+        } else if self.text.takes(b".model ") {
+            let new = self.part == Part::Before && self.word().is_some();
+            self.part = Part::Model;
+            new.then(|| self.end_line())?
+        } else if self.text.takes(b".end") {
+            self.part = Part::Behind;
+            body.then(|| self.end_line())?
+        } else {
+            self.end_line()
         }
-        let table = self.table.take();
-        self.draft.gates.extend(table.map(Table::driver));
-        let body = self.begun && !self.ended;
-        match words {
-            [".model", _] if !self.begun => self.begun = true,
-            [".inputs", pins @ ..] if body && self.draft.pins.is_empty() => {
-                let pins = pins.iter().map(|pin| self.draft.nets.of(pin));
-                self.draft.pins = pins.collect();
-            }
-            [".outputs", ports @ ..] if body && self.outputs.is_none() => {
-                let ports = ports.iter().map(|port| self.draft.nets.of(port));
-                self.outputs = Some(ports.collect());
-            }
-            [".names", names @ .., net] if body => {
-                let mut inputs = Reads::none();
-                for name in names {
-                    inputs.push(Operand::Net(self.draft.nets.of(name)))?;
-                }
-                self.table = Some(Table {
-                    net: self.draft.nets.of(net),
-                    inputs,
-                    rows: 0,
-                    told: None,
-                });
-            }
-            [".end"] if body => self.ended = true,
-            _ => return None,
+    }
+
+    /// A table: its inputs and its net, and then the rows.
+    fn table(&mut self) -> Option<()> {
+        let mut reads = Reads::none();
+        let word = self.word()?;
+        let mut net = self.circuit.nets.of(word);
+        while let Some(word) = self.word() {
+            reads.push(net)?;
+            net = self.circuit.nets.of(word);
         }
+        self.end_line()?;
+        let operands = reads.all().len();
+        // All rows have the same value, and where none is met it is the other one; a table without rows is 0.
+        let (mut rows, mut told) = (0, None);
+        while let Some(b'0' | b'1') = self.text.next() {
+            let (row, value) = self.row(operands)?;
+            rows |= 1 << row;
+            (*told.get_or_insert(value) == value).then_some(())?;
+        }
+        let table = if told == Some(false) { !rows } else { rows };
+        let function = Function::of_table(table, operands);
+        self.circuit.gates.push(Gate::of(function, net, reads));
         Some(())
     }
-}
 
-impl Table {
-    /// Takes a row: a digit for each input, and the value, which is the same in all rows.
-    fn row(&mut self, words: &[&str]) -> Option<()> {
-        let (digits, value) = match words {
-            [value] => ("", value),
-            [digits, value] => (*digits, value),
-            _ => return None,
-        };
-        let value = match *value {
-            "0" => false,
-            "1" => true,
-            _ => return None,
-        };
-        let fits =
-            digits.len() == self.inputs.all().len() && *self.told.get_or_insert(value) == value;
-        let mut row = 0;
-        for (input, digit) in digits.bytes().enumerate() {
-            match digit {
-                b'0' => {}
-                b'1' => row |= 1 << input,
-                _ => return None,
-            }
+    /// A row of a table: a digit for each input, and the value.
+    fn row(&mut self, operands: usize) -> Option<(u16, bool)> {
+        let (mut row, mut others) = (0, 0);
+        for (input, digit) in self.text.several(operands)?.iter().enumerate() {
+            row |= u16::from(digit & 1) << input;
+            others |= digit ^ b'0';
         }
-        self.rows |= 1 << row;
-        fits.then_some(())
+        (others <= 1).then_some(())?;
+        if operands > 0 {
+            self.text.must(b" ")?;
+        }
+        let value = self.text.takes(b"1");
+        if !value {
+            self.text.must(b"0")?;
+        }
+        self.end_line()?;
+        Some((row, value))
     }
 
-    /// Where no row is met, the value is the other one; a table without rows is 0.
-    fn driver(self) -> Driver {
-        let table = match self.told.unwrap_or(true) {
-            true => self.rows,
-            false => !self.rows,
-        };
-        Driver {
-            net: Some(self.net),
-            function: Function::Table(table),
-            reads: self.inputs,
+    /// The next word of the line, if there is one.
+    fn word(&mut self) -> Option<Name<'a>> {
+        self.text.skip(|byte| byte == b' ');
+        self.text.name(&LETTERS)
+    }
+
+    /// Goes past the end of the line, and a comment before it.
+    fn end_line(&mut self) -> Option<()> {
+        if self.text.next() == Some(b'#') {
+            self.text.skip(|byte| byte != b'\n');
         }
+        self.text.must(b"\n")
     }
 }

@@ -1,12 +1,7 @@
-//! A circuit as a reader finds it: pins, never lines, gates and ports; and how the nets of a text become nodes.
+//! A circuit as a reader finds it: pins, never lines, gates and ports, all by their nets.
 
-use super::nets::{Net, Nets};
-
-/// The constants 0 and 1 are nodes 0 and 1, then come the pins, then the gates, each in order.
-pub type Node = usize;
-
-/// The node of the first pin.
-pub const PINS: Node = 2;
+use super::nets::{Net, Nets, ONE, ZERO};
+use std::mem::replace;
 
 const MOST_READS: usize = 4;
 
@@ -21,40 +16,59 @@ pub enum Function {
     Table(u16),
 }
 
+/// The table of `xor` over four operands, whose beginnings are those over fewer.
+const PARITY: u16 = 0x6996;
+
 impl Function {
     /// By the word that netlists and Verilog have for it; `not` has one operand, the others two to four.
-    pub fn of_word(word: &str, operands: usize) -> Option<Function> {
+    pub fn of_word(word: &[u8], operands: usize) -> Option<Function> {
         let function = match word {
-            "not" => return (operands == 1).then_some(Function::And(true)),
-            "and" => Function::And(false),
-            "nand" => Function::And(true),
-            "or" => Function::Or(false),
-            "nor" => Function::Or(true),
-            "xor" => Function::Xor(false),
-            "xnor" => Function::Xor(true),
+            b"not" => return (operands == 1).then_some(Function::And(true)),
+            b"and" => Function::And(false),
+            b"nand" => Function::And(true),
+            b"or" => Function::Or(false),
+            b"nor" => Function::Or(true),
+            b"xor" => Function::Xor(false),
+            b"xnor" => Function::Xor(true),
             _ => return None,
         };
         (2..=MOST_READS).contains(&operands).then_some(function)
     }
+
+    /// By its table over so many operands: most are one of the kinds above, which take less time.
+    pub fn of_table(table: u16, operands: usize) -> Function {
+        let rows = 1 << operands;
+        let all = u16::MAX >> (16 - rows);
+        let (table, last) = (table & all, 1 << (rows - 1));
+        match table {
+            _ if table == last => Function::And(false),
+            _ if table == all ^ last => Function::And(true),
+            _ if table == all ^ 1 => Function::Or(false),
+            1 => Function::Or(true),
+            _ if table == PARITY & all => Function::Xor(false),
+            _ if table == !PARITY & all => Function::Xor(true),
+            _ => Function::Table(table),
+        }
+    }
 }
 
-/// What a gate reads, in order: at most four.
+/// What a gate reads, in order: at most four nets.
 #[derive(Debug, Clone, Copy)]
-pub struct Reads<T> {
-    list: [T; MOST_READS],
+pub struct Reads {
+    list: [Net; MOST_READS],
     count: usize,
 }
 
-impl<T: Copy + Default> Reads<T> {
-    pub fn none() -> Reads<T> {
+impl Reads {
+    pub fn none() -> Reads {
         Reads {
-            list: [T::default(); MOST_READS],
+            list: [ZERO; MOST_READS],
             count: 0,
         }
     }
 
     /// None where there are four already.
-    pub fn push(&mut self, read: T) -> Option<()> {
+    pub fn push(&mut self, read: Net) -> Option<()> {
         *self.list.get_mut(self.count)? = read;
         self.count += 1;
         Some(())
@@ -64,15 +78,34 @@ impl<T: Copy + Default> Reads<T> {
         self.count -= 1;
     }
 
-    pub fn all(&self) -> &[T] {
+    pub fn all(&self) -> &[Net] {
         &self.list[..self.count]
     }
 }
 
-#[derive(Debug)]
+#[derive(Debug, Clone, Copy)]
 pub struct Gate {
     pub function: Function,
-    pub reads: Reads<Node>,
+    /// The net that it drives.
+    pub net: Net,
+    /// Where it reads fewer than four, the last are the constant that changes nothing.
+    pub reads: [Net; MOST_READS],
+}
+
+impl Gate {
+    pub fn of(function: Function, net: Net, reads: Reads) -> Gate {
+        let neutral = match function {
+            Function::And(_) => ONE,
+            _ => ZERO,
+        };
+        let mut list = reads.list;
+        list[reads.count..].fill(neutral);
+        Gate {
+            function,
+            net,
+            reads: list,
+        }
+    }
 }
 
 /// Pins that are never at these values together: by masks, pin i has weight 2^i.
@@ -83,107 +116,55 @@ pub struct Never {
 }
 
 #[derive(Debug)]
-pub struct Circuit {
-    pub pins: Vec<String>,
-    pub nevers: Vec<Never>,
-    pub gates: Vec<Gate>,
-    pub ports: Vec<(String, Node)>,
-}
-
-/// What a gate reads, as a text says it.
-#[derive(Debug, Clone, Copy)]
-pub enum Operand {
-    Constant(bool),
-    /// The gate of this number.
-    Gate(usize),
-    Net(Net),
-}
-
-impl Default for Operand {
-    fn default() -> Operand {
-        Operand::Constant(false)
-    }
-}
-
-/// A gate, and the net that it drives, if it has a name.
-pub struct Driver {
-    pub net: Option<Net>,
-    pub function: Function,
-    pub reads: Reads<Operand>,
-}
-
-/// A circuit whose gates read nets by name. A net is a pin's, or the one that a gate drives.
-pub struct Draft<'a> {
+pub struct Circuit<'a> {
     pub nets: Nets<'a>,
     pub pins: Vec<Net>,
     pub nevers: Vec<Never>,
-    pub gates: Vec<Driver>,
+    pub gates: Vec<Gate>,
     /// Each port, and the net that it shows.
     pub ports: Vec<(String, Net)>,
+    /// Whether each gate stands behind all that it reads.
+    pub straight: bool,
 }
 
-impl<'a> Draft<'a> {
+impl<'a> Circuit<'a> {
     /// Nothing yet of this text.
-    pub fn of(text: &'a str) -> Draft<'a> {
-        Draft {
-            nets: Nets::of_text(text.len()),
+    pub fn of(text: &'a [u8]) -> Circuit<'a> {
+        Circuit {
+            nets: Nets::none(),
             pins: Vec::new(),
             nevers: Vec::new(),
-            gates: Vec::new(),
+            gates: Vec::with_capacity(text.len() / 16),
             ports: Vec::new(),
+            straight: true,
         }
     }
 
-    /// The circuit, if each net is driven once and, where there may be no loops, each gate reads only gates before it.
-    pub fn circuit(self, loops: bool) -> Result<Circuit, String> {
-        let nodes = self.nodes()?;
-        let node = |net: Net| {
-            let unknown = || format!("nothing drives {}", self.nets.name(net));
-            nodes[net].ok_or_else(unknown)
+    /// It, if each net that is read or shown is driven, none is twice and, where there may be no loops, each gate reads only what is driven
+    /// above it.
+    pub fn whole(mut self, loops: bool) -> Result<Circuit<'a>, String> {
+        let mut driven = vec![false; self.nets.count()];
+        let mut twice = None;
+        let mut drive = |driven: &mut [bool], net: Net| {
+            if replace(&mut driven[net as usize], true) {
+                twice.get_or_insert(net);
+            }
         };
-        let first = PINS + self.pins.len();
-        let mut gates = Vec::with_capacity(self.gates.len());
-        for (number, driver) in self.gates.iter().enumerate() {
-            let mut reads = Reads::none();
-            for &operand in driver.reads.all() {
-                let read = match operand {
-                    Operand::Constant(value) => usize::from(value),
-                    Operand::Gate(gate) => first + gate,
-                    Operand::Net(net) => node(net)?,
-                };
-                if !loops && read >= first + number {
-                    return Err(format!("gate {number} reads itself or a gate below it"));
-                }
-                reads.push(read).ok_or("a gate reads too much")?;
-            }
-            let function = driver.function;
-            gates.push(Gate { function, reads });
+        let given = [ZERO, ONE].iter().chain(&self.pins);
+        given.for_each(|&net| drive(&mut driven, net));
+        for gate in &self.gates {
+            self.straight &= gate.reads.iter().all(|&read| driven[read as usize]);
+            drive(&mut driven, gate.net);
         }
-        let ports = self.ports.iter();
-        let ports = ports.map(|(port, net)| Ok((port.clone(), node(*net)?)));
-        Ok(Circuit {
-            ports: ports.collect::<Result<_, String>>()?,
-            pins: self
-                .pins
-                .iter()
-                .map(|&pin| self.nets.name(pin).to_string())
-                .collect(),
-            nevers: self.nevers,
-            gates,
-        })
-    }
-
-    /// The node of each net that is driven.
-    fn nodes(&self) -> Result<Vec<Option<Node>>, String> {
-        let mut nodes = vec![None; self.nets.count()];
-        let driven = self.gates.iter().map(|driver| driver.net);
-        let driven = self.pins.iter().map(|&pin| Some(pin)).chain(driven);
-        for (node, net) in (PINS..).zip(driven) {
-            let Some(net) = net else { continue };
-            if nodes[net].replace(node).is_some() {
-                return Err(format!("{} is driven twice", self.nets.name(net)));
-            }
+        let mut read = self.gates.iter().flat_map(|gate| &gate.reads);
+        let mut shown = self.ports.iter().map(|(_, net)| net);
+        let open = |net: &&Net| !driven[**net as usize];
+        let name = |net: Net| self.nets.name(net);
+        match (twice, read.find(open).or_else(|| shown.find(open))) {
+            (Some(net), _) => Err(format!("{} is driven twice", name(net))),
+            (None, Some(&net)) => Err(format!("nothing drives {}", name(net))),
+            _ if !loops && !self.straight => Err("a gate reads itself or one below it".to_string()),
+            _ => Ok(self),
         }
-        Ok(nodes)
     }
 }

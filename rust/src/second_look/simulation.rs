@@ -1,7 +1,10 @@
 //! The three-valued simulation, 64 settings to a word: every gate begins undefined and is evaluated again until none changes.
 
-use super::circuit::{Circuit, Function, Gate, Never, Node, PINS};
+use super::circuit::{Circuit, Function, Gate, Never};
+use super::nets::{Net, ONE, ZERO};
 use super::{Difference, Shown};
+use std::mem::replace;
+use std::ops::Range;
 
 /// More pins than a netlist may have, and few enough to try every setting.
 const MOST_PINS: usize = 16;
@@ -48,6 +51,13 @@ impl Values {
         }
     }
 
+    fn or(self, other: Values) -> Values {
+        Values {
+            zero: self.zero & other.zero,
+            one: self.one | other.one,
+        }
+    }
+
     fn xor(self, other: Values) -> Values {
         Values {
             zero: self.zero & other.zero | self.one & other.one,
@@ -81,7 +91,7 @@ pub fn same(ours: &Circuit, theirs: &Circuit) -> Result<(), Difference> {
         right.settle(first);
         let both = ours.ports.iter().zip(&theirs.ports);
         let both: Vec<_> = both
-            .map(|(a, b)| (left.values[a.1], right.values[b.1]))
+            .map(|(a, b)| (left.value(a.1), right.value(b.1)))
             .collect();
         let lanes = both
             .iter()
@@ -104,9 +114,9 @@ fn told(ours: &Circuit, setting: usize, lane: u32, both: &[(Values, Values)]) ->
     let pins = ours.pins.iter().enumerate();
     Difference::Value {
         setting: pins
-            .map(|(pin, name)| (name.clone(), setting >> pin & 1 == 1))
+            .map(|(pin, &net)| (ours.nets.name(net), setting >> pin & 1 == 1))
             .collect(),
-        port: port.clone(),
+        port: port.to_string(),
         written,
         original,
     }
@@ -139,87 +149,82 @@ fn settings_that_come(pins: usize, first: usize, nevers: &[Never]) -> u64 {
         .fold(there, |lanes, never| lanes & !excluded(never))
 }
 
-/// A circuit, an order of evaluation, and the values of its nodes.
+/// A circuit's gates in an order of evaluation, and the values of its nets.
 struct Simulation<'a> {
-    circuit: &'a Circuit,
-    order: Vec<usize>,
-    /// Whether each gate stands in the order behind all that it reads: one sweep is enough.
-    straight: bool,
+    circuit: &'a Circuit<'a>,
+    gates: Vec<Gate>,
+    /// Where in the order loops close; each gate before and behind them stands behind all that it reads.
+    loops: Range<usize>,
     values: Vec<Values>,
 }
 
 impl Simulation<'_> {
-    fn of(circuit: &Circuit) -> Simulation<'_> {
-        let order = order(circuit);
-        let first = PINS + circuit.pins.len();
-        let mut before = vec![false; first + circuit.gates.len()];
-        before[..first].fill(true);
-        let straight = order.iter().all(|&gate| {
-            let mut reads = circuit.gates[gate].reads.all().iter();
-            let behind = reads.all(|&read| before[read]);
-            before[first + gate] = true;
-            behind
-        });
-        let values = vec![UNDEFINED; first + circuit.gates.len()];
+    fn of<'a>(circuit: &'a Circuit<'a>) -> Simulation<'a> {
+        let gates = match circuit.straight {
+            true => circuit.gates.clone(),
+            false => ordered(circuit),
+        };
         Simulation {
             circuit,
-            order,
-            straight,
-            values,
+            loops: where_loops_close(circuit, &gates),
+            gates,
+            values: vec![UNDEFINED; circuit.nets.count()],
         }
+    }
+
+    fn value(&self, net: Net) -> Values {
+        self.values[net as usize]
     }
 
     /// The settled values under the 64 settings from `first` on.
     fn settle(&mut self, first: usize) {
+        let Range { start, end } = self.loops;
         self.values.fill(UNDEFINED);
-        (self.values[0], self.values[1]) = (Values::of(0), Values::of(u64::MAX));
-        let pins = self.circuit.pins.len();
-        for pin in 0..pins {
-            self.values[PINS + pin] = pin_values(pin, first);
+        self.values[ZERO as usize] = Values::of(0);
+        self.values[ONE as usize] = Values::of(u64::MAX);
+        for (pin, &net) in self.circuit.pins.iter().enumerate() {
+            self.values[net as usize] = pin_values(pin, first);
         }
-        let mut changed = true;
-        while changed {
-            changed = false;
-            for &gate in &self.order {
-                let value = evaluated(&self.circuit.gates[gate], &self.values);
-                let node = PINS + pins + gate;
-                changed |= !self.straight && self.values[node] != value;
-                self.values[node] = value;
-            }
+        self.sweep(0..start);
+        while self.sweep(start..end) {}
+        self.sweep(end..self.gates.len());
+    }
+
+    /// Evaluates these gates once; whether any of them has changed.
+    fn sweep(&mut self, gates: Range<usize>) -> bool {
+        let mut changed = 0;
+        for gate in &self.gates[gates] {
+            let value = evaluated(gate, &self.values);
+            let kept = &mut self.values[gate.net as usize];
+            changed |= kept.zero ^ value.zero | kept.one ^ value.one;
+            *kept = value;
         }
+        changed != 0
     }
 }
 
 /// A gate's values from those of what it reads.
 fn evaluated(gate: &Gate, values: &[Values]) -> Values {
-    let reads = gate.reads.all().iter().map(|&read: &Node| values[read]);
+    let value = |operand: usize| values[gate.reads[operand] as usize];
+    let [a, b, c, d] = [value(0), value(1), value(2), value(3)];
     match gate.function {
-        Function::And(inverted) => reads
-            .fold(Values::of(u64::MAX), Values::and)
-            .inverted(inverted),
-        Function::Or(inverted) => {
-            let all = reads.map(|value| value.inverted(true));
-            all.fold(Values::of(u64::MAX), Values::and)
-                .inverted(!inverted)
-        }
-        Function::Xor(inverted) => reads.fold(Values::of(0), Values::xor).inverted(inverted),
-        Function::Table(table) => by_table(table, reads),
+        Function::And(inverted) => a.and(b).and(c).and(d).inverted(inverted),
+        Function::Or(inverted) => a.or(b).or(c).or(d).inverted(inverted),
+        Function::Xor(inverted) => a.xor(b).xor(c).xor(d).inverted(inverted),
+        Function::Table(table) => by_table(table, [a, b, c, d]),
     }
 }
 
 /// A row may be met where no operand has the other value; the value is 1 where only rows of 1 may be met.
-fn by_table(table: u16, reads: impl ExactSizeIterator<Item = Values> + Clone) -> Values {
+fn by_table(table: u16, reads: [Values; 4]) -> Values {
     let (mut may_be_zero, mut may_be_one) = (0, 0);
-    for row in 0..1 << reads.len() {
-        let other = |(operand, value): (usize, Values)| match row >> operand & 1 {
+    for row in 0..16 {
+        let other = |(operand, value): (usize, &Values)| match row >> operand & 1 {
             0 => value.one,
             _ => value.zero,
         };
-        let met = reads
-            .clone()
-            .enumerate()
-            .map(other)
-            .fold(u64::MAX, |met, other| met & !other);
+        let others = reads.iter().enumerate().map(other);
+        let met = others.fold(u64::MAX, |met, other| met & !other);
         match table >> row & 1 {
             0 => may_be_zero |= met,
             _ => may_be_one |= met,
@@ -232,31 +237,59 @@ fn by_table(table: u16, reads: impl ExactSizeIterator<Item = Values> + Clone) ->
 }
 
 /// The gates that the ports need, in an order in which each stands behind what it reads, but where a loop closes.
-fn order(circuit: &Circuit) -> Vec<usize> {
-    let first = PINS + circuit.pins.len();
-    let mut begun = vec![false; circuit.gates.len()];
+fn ordered(circuit: &Circuit) -> Vec<Gate> {
+    let mut drivers: Vec<Option<&Gate>> = vec![None; circuit.nets.count()];
+    for gate in &circuit.gates {
+        drivers[gate.net as usize] = Some(gate);
+    }
     let mut order = Vec::with_capacity(circuit.gates.len());
     // The gates that wait, each with the number of its operands that have been followed.
-    let mut waiting: Vec<(usize, usize)> = Vec::new();
-    let mut begin = |node: Node| {
-        let gate = node.checked_sub(first)?;
-        (!std::mem::replace(&mut begun[gate], true)).then_some((gate, 0))
-    };
+    let mut waiting: Vec<(&Gate, usize)> = Vec::new();
     for (_, shown) in &circuit.ports {
-        waiting.extend(begin(*shown));
+        // Taken, so that no gate is begun twice.
+        waiting.extend(drivers[*shown as usize].take().map(|gate| (gate, 0)));
         while let Some((gate, followed)) = waiting.last_mut() {
-            let reads = circuit.gates[*gate].reads.all();
-            match reads.get(*followed) {
+            match gate.reads.get(*followed) {
                 Some(&read) => {
                     *followed += 1;
-                    waiting.extend(begin(read));
+                    waiting.extend(drivers[read as usize].take().map(|gate| (gate, 0)));
                 }
                 None => {
-                    order.push(*gate);
+                    order.push(**gate);
                     waiting.pop();
                 }
             }
         }
     }
     order
+}
+
+/// From the first gate that reads a net which is driven there or later to the last gate that drives such a net.
+fn where_loops_close(circuit: &Circuit, gates: &[Gate]) -> Range<usize> {
+    if circuit.straight {
+        return 0..0;
+    }
+    #[derive(Clone, Copy, PartialEq)]
+    enum Net {
+        Open,
+        Read,
+        Driven,
+    }
+    let mut nets = vec![Net::Open; circuit.nets.count()];
+    let given = [ZERO, ONE].iter().chain(&circuit.pins);
+    given.for_each(|&net| nets[net as usize] = Net::Driven);
+    let mut closed: Option<Range<usize>> = None;
+    for (place, gate) in gates.iter().enumerate() {
+        for &read in &gate.reads {
+            if nets[read as usize] != Net::Driven {
+                nets[read as usize] = Net::Read;
+                closed.get_or_insert(place..place);
+            }
+        }
+        let net = replace(&mut nets[gate.net as usize], Net::Driven);
+        if let (Net::Read, Some(closed)) = (net, &mut closed) {
+            closed.end = place + 1;
+        }
+    }
+    closed.unwrap_or(0..0)
 }

@@ -8,7 +8,7 @@ use crate::generate::{
     text, Random, Report, Size,
 };
 use crate::limits::{TEXT_BYTES, WRITTEN_BYTES};
-use crate::{bench, unloop, write};
+use crate::{bench, cut, unloop, write};
 use std::io::Read;
 use std::ops::Range;
 use std::os::fd::OwnedFd;
@@ -101,6 +101,9 @@ pub fn compare_piped(input: &[u8]) -> Vec<u8> {
     expected
 }
 
+/// An input that is longer is cut into the smallest pieces by what is loaded into the program, which takes a twentieth of the time.
+const FEW_BYTES: usize = 2_000;
+
 /// Compares the program `bench`, through a pipe and with pieces of 1, 2, 7 and random sizes.
 pub fn compare_bench(random: &mut Random, input: &[u8]) {
     let start = &input[..input.len().min(2_000)];
@@ -108,7 +111,10 @@ pub fn compare_bench(random: &mut Random, input: &[u8]) {
     let expected = compare_piped(input);
     let shown = String::from_utf8_lossy;
     for size in [1, 2, 7] {
-        let written = written_in_pieces(bench_program(), input.chunks(size));
+        let written = match input.len() <= FEW_BYTES {
+            true => written_in_pieces(bench_program(), input.chunks(size)),
+            false => cut::written("bench", input, &[("CUT_READ", size)]),
+        };
         assert_eq!(shown(&written), shown(&expected), "pieces of {size}");
     }
     for most in [30, 1_000] {

@@ -121,6 +121,33 @@ impl Tally {
         TALLY.with_borrow(Tally::clone)
     }
 
+    /// The same, and counting begins again.
+    pub fn taken() -> Tally {
+        TALLY.take()
+    }
+
+    /// Counts what another thread compared.
+    pub fn add(&mut self, other: &Tally) {
+        let sums = [
+            (&mut self.words, other.words),
+            (&mut self.all_excluded, other.all_excluded),
+            (&mut self.brought, other.brought),
+            (&mut self.made, other.made),
+            (&mut self.runs, other.runs),
+            (&mut self.tables, other.tables),
+            (&mut self.gathered, other.gathered),
+            (&mut self.scattered, other.scattered),
+            (&mut self.settings, other.settings),
+            (&mut self.records, other.records),
+            (&mut self.texts, other.texts),
+        ];
+        let lines = self.lines.iter_mut().zip(other.lines);
+        let answered = self.answered.iter_mut().flatten();
+        let answered = answered.zip(other.answered.into_iter().flatten());
+        let sums = sums.into_iter().chain(lines).chain(answered);
+        sums.for_each(|(sum, count)| *sum += count);
+    }
+
     /// How often a number was answered, by whichever operation.
     pub fn answers(&self, number: usize) -> usize {
         self.answered.iter().map(|numbers| numbers[number]).sum()

@@ -41,12 +41,6 @@ impl Labels {
         };
         let name = |gate: usize| names.get(gate).cloned().flatten().unwrap_or_default();
         let gates = block.gate_list();
-        let mut loops = vec![None; gates.len()];
-        for (number, members) in block.loops().into_iter().enumerate() {
-            members
-                .into_iter()
-                .for_each(|gate| loops[gate] = Some(number));
-        }
         Labels {
             inputs: block.input_names(),
             outputs: block.output_names(),
@@ -55,7 +49,7 @@ impl Labels {
                 .enumerate()
                 .map(|(number, gate)| (name(number), kind(gate)))
                 .collect(),
-            loops,
+            loops: block.loops_of_gates(),
             rows: gate_rows(text),
             waiting: unsettled.map_or(Vec::new(), |setting| circle(text, setting)),
         }
