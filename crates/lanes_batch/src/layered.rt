@@ -22,11 +22,11 @@ ghost use Rattle.netlist.specs.Rendering.{isStraight};
 ghost use Rattle.graph_gates.specs.Graph.{Node, Graph, network};
 ghost use Rattle.graph_scc.specs.Layers.{Layers};
 ghost use Rattle.lanes_dual_rail.specs.Pairs.{full};
-ghost use Rattle.lanes_dual_rail.specs.Batches.{lanesOf};
+ghost use Rattle.lanes_dual_rail.specs.Batches.{inputPair};
 ghost use Rattle.lanes_dual_rail.specs.LaneWords.{laneSize};
 ghost use Rattle.lanes_batch.specs.Batch.{placeOf};
 ghost use Rattle.lanes_batch.specs.Layered.{GateEvaluated, GatesEvaluated, Part, OrderPart, part, LanesUnderway, PartAdvanced, PartDecided, roomIn};
-ghost use Rattle.lanes_batch.specs.Layered.{Cleared, InputsStarted, LanesStarted, Reached, LayerSettled, LanesSettled};
+ghost use Rattle.lanes_batch.specs.Layered.{Cleared, ConstantsStarted, InputsPut, LanesStarted, Reached, LayerSettled, LanesFresh, LanesFixed, StraightFixed, LanesSettled};
 
 // Stores 0 in the words below `end`.
 fn clear_words(end: usize, lanes: &mut [u64; LANE_WORDS])
@@ -43,7 +43,7 @@ fn clear_words(end: usize, lanes: &mut [u64; LANE_WORDS])
 // Stores every input's pair.
 fn put_inputs(n: usize, base: usize, lanes: &mut [u64; LANE_WORDS])
     requires { ⌜ (n ≤ maxInputs) × (length (now lanes) ≡ laneSize) ⌝ }
-    ensures { λ r. ⌜ InputsStarted n base n (now (lanes .entry)) (now (lanes .exit)) ⌝ }
+    ensures { λ r. ⌜ InputsPut (inputPair n base) n (now (lanes .entry)) (now (lanes .exit)) ⌝ }
 {
     let mut k = 0;
     while k < n {
@@ -52,10 +52,10 @@ fn put_inputs(n: usize, base: usize, lanes: &mut [u64; LANE_WORDS])
     }
 }
 
-// Stores the constants' pairs and every input's, and makes every gate undefined.
-pub fn start_lanes(m: usize, n: usize, base: usize, lanes: &mut [u64; LANE_WORDS])
-    requires { ⌜ (m ≤ maxGates) × (n ≤ maxInputs) × (length (now lanes) ≡ laneSize) ⌝ }
-    ensures { λ r. ⌜ LanesStarted m n base (now (lanes .exit)) ⌝ }
+// Stores the constants' pairs at the lanes of a block of n inputs, and makes every input and every gate undefined.
+pub fn start_constants(m: usize, n: usize, lanes: &mut [u64; LANE_WORDS])
+    requires { ⌜ (m ≤ maxGates) × (length (now lanes) ≡ laneSize) ⌝ }
+    ensures { λ r. ⌜ ConstantsStarted m n (now (lanes .exit)) ⌝ }
 {
     clear_words(2 * (FIRST_GATE + m), lanes);
     let used = used_lanes(n);
@@ -75,6 +75,14 @@ pub fn start_lanes(m: usize, n: usize, base: usize, lanes: &mut [u64; LANE_WORDS
             ones: used, // constant 1
         },
     );
+}
+
+// Stores the constants' pairs and every input's, and makes every gate undefined.
+pub fn start_lanes(m: usize, n: usize, base: usize, lanes: &mut [u64; LANE_WORDS])
+    requires { ⌜ (m ≤ maxGates) × (n ≤ maxInputs) × (length (now lanes) ≡ laneSize) ⌝ }
+    ensures { λ r. ⌜ LanesStarted m n base (now (lanes .exit)) ⌝ }
+{
+    start_constants(m, n, lanes);
     put_inputs(n, base, lanes);
 }
 
@@ -214,6 +222,37 @@ fn settle_layer(
     end
 }
 
+// Settles started lanes layer by layer, whatever the values of their inputs are.
+pub fn settle_layers(
+    graph: &[u16; GRAPH_WORDS],
+    m: usize,
+    n: usize,
+    order: &[u16; MAX_GATES],
+    ends: &[u16; MAX_GATES],
+    lanes: &mut [u64; LANE_WORDS],
+)
+    requires { ⌜ Graph m (now graph) × Layers m (now graph) (now order) (now ends) × LanesFresh m n (now lanes) ⌝ }
+    ensures { λ r. ⌜ LanesFixed (network m (now (graph .entry))) n (now (lanes .entry)) (now (lanes .exit)) ⌝ }
+{
+    let mut i = 0;
+    while i < m {
+        i = settle_layer(graph, m, n, order, ends, i, lanes);
+    }
+}
+
+// Settles started lanes of a straight block: its gates, each of which reads only gates before it, are evaluated once, as
+// they come.
+pub fn settle_straight(graph: &[u16; GRAPH_WORDS], m: usize, lanes: &mut [u64; LANE_WORDS])
+    requires { ⌜ Graph m (now graph) × (isStraight (network m (now graph)) ≡ true) ⌝ }
+    ensures { λ r. ⌜ StraightFixed m (now (graph .entry)) (now (lanes .entry)) (now (lanes .exit)) ⌝ }
+{
+    let mut j = 0;
+    while j < m {
+        step(graph, j, lanes);
+        j += 1;
+    }
+}
+
 // Finds the settled values of the batch at every lane.
 pub fn decide_batch(
     graph: &[u16; GRAPH_WORDS],
@@ -229,14 +268,10 @@ pub fn decide_batch(
     ensures { λ r. ⌜ LanesSettled (network m (now (graph .entry))) n base (now (lanes .exit)) ⌝ }
 {
     start_lanes(m, n, base, lanes);
-    let mut i = 0;
-    while i < m {
-        i = settle_layer(graph, m, n, order, ends, i, lanes);
-    }
+    settle_layers(graph, m, n, order, ends, lanes);
 }
 
-// Finds the settled values of a straight block: its gates, each of which reads only gates before it, are evaluated once,
-// as they come.
+// Finds the settled values of a straight block's batch.
 pub fn decide_straight(
     graph: &[u16; GRAPH_WORDS],
     m: usize,
@@ -249,9 +284,5 @@ pub fn decide_straight(
     ensures { λ r. ⌜ LanesSettled (network m (now (graph .entry))) n base (now (lanes .exit)) ⌝ }
 {
     start_lanes(m, n, base, lanes);
-    let mut j = 0;
-    while j < m {
-        step(graph, j, lanes);
-        j += 1;
-    }
+    settle_straight(graph, m, lanes);
 }
