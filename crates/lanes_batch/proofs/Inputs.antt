@@ -4,13 +4,10 @@
 -- Assumes nothing.
 use mathlib.Core.Path.{_≡_, refl, sym, ap, _∙_, fun-ext}
 use mathlib.Core.Logic.{⊎-elim}
-use mathlib.Core.Bool.{cond}
 use mathlib.Core.List.{List, [], _∷_, map}
 use Prim.Native.Nat.{ℕ, zero, suc, _+_, _%_, _≤_, _<_}
-use native.Mathlib.Omega.{arith}
 use borrow.Author.Tests.{lt-ltb, le-ltb}
-use lib.Dec.{ltb}
-use lib.ListN.{length, getD, List·getD-eq-default}
+use lib.ListN.{getD, List·getD-eq-default}
 use Rattle.prelude.specs.Lists.{tab}
 use Rattle.prelude.proofs.Tab.{length-tab, getD-tab}
 use Rattle.prelude.proofs.Tests.{lt-or-le}
@@ -20,7 +17,6 @@ use Rattle.netlist.specs.Kinds.{gateValue}
 use Rattle.netlist.specs.Netlist.{Operand, input, gate, constant, Block, gateCount}
 use Rattle.netlist.specs.Steps.{stepAt, run}
 use Rattle.netlist.specs.Rounds.{operandValue, evaluated, round, afterRounds, isStable, rounds, settled, settingOf}
-use Rattle.lanes_dual_rail.specs.declared.Pair.{Pair}
 use Rattle.lanes_dual_rail.specs.Pairs.{lane, noLanes}
 use Rattle.lanes_dual_rail.specs.PairRounds.{AllProper}
 use Rattle.lanes_dual_rail.specs.Batches.{lanesOf, inputPair, inputPairs}

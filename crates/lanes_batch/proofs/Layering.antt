@@ -46,7 +46,7 @@ use Rattle.lanes_dual_rail.specs.declared.Pair.{Pair}
 use Rattle.lanes_dual_rail.specs.Pairs.{lane, full, noLanes}
 use Rattle.lanes_dual_rail.specs.PairRounds.{evaluatedPair, LegalGate}
 use Rattle.lanes_dual_rail.specs.Batches.{lanesOf, inputPair}
-use Rattle.lanes_dual_rail.specs.LaneWords.{laneSize, pairAt, putPair, inputsIn, gatesIn, Filled, gatePairIn}
+use Rattle.lanes_dual_rail.specs.LaneWords.{laneSize, pairAt, putPair, inputsIn, gatesIn, gatePairIn}
 use Rattle.lanes_dual_rail.proofs.LaneLaws.{nothing-lane, nothing-proper}
 use Rattle.lanes_dual_rail.proofs.RoundLaws.{getD-lane}
 use Rattle.lanes_dual_rail.proofs.LaneWordLaws.{node-legal, gatePairIn-evaluated, put-inputs, put-gates, put-filled}

@@ -21,7 +21,6 @@ ghost use Rattle.netlist.specs.Limits.{maxInputs, maxGates};
 ghost use Rattle.netlist.specs.Rendering.{isStraight};
 ghost use Rattle.graph_gates.specs.Graph.{Node, Graph, network};
 ghost use Rattle.graph_scc.specs.Layers.{Layers};
-ghost use Rattle.lanes_dual_rail.specs.Pairs.{full};
 ghost use Rattle.lanes_dual_rail.specs.Batches.{inputPair};
 ghost use Rattle.lanes_dual_rail.specs.LaneWords.{laneSize};
 ghost use Rattle.lanes_batch.specs.Batch.{placeOf};

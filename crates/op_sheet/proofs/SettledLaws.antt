@@ -16,10 +16,9 @@ use Rattle.prelude.specs.Lists.{tab}
 use Rattle.prelude.proofs.Elements.{getD-defaults}
 use Rattle.prelude.proofs.Tab.{length-tab, getD-tab}
 use Rattle.prelude.proofs.Tests.{eq-or-ne}
-use Rattle.netlist.specs.Limits.{maxInputs}
-use Rattle.netlist.specs.Values.{Value, undefined, val, valueOf, isDefined}
+use Rattle.netlist.specs.Values.{Value, undefined, valueOf, isDefined}
 use Rattle.netlist.specs.Assignments.{bit, isOne}
-use Rattle.netlist.specs.Netlist.{Operand, constant, Output, Block, gateCount}
+use Rattle.netlist.specs.Netlist.{Operand, constant, Output, Block}
 use Rattle.netlist.specs.StoredBlock.{nameSize, outputSize, outputsAt, operandOf, outputAt, decode, isMalformed}
 use Rattle.netlist.specs.Rounds.{operandValue, outputValue, settled}
 use Rattle.netlist.specs.Sheet.{settingBytes, outputValues, settledOutputs}
@@ -30,7 +29,7 @@ use Rattle.graph_gates.proofs.Network.{network-gates, count-gates, settled-gate
 use Rattle.lanes_dual_rail.specs.declared.Pair.{Pair}
 use Rattle.lanes_dual_rail.specs.Pairs.{markedLanes, lane}
 use Rattle.lanes_dual_rail.specs.Batches.{lanesOf}
-use Rattle.lanes_dual_rail.specs.LaneWords.{pairAt, putPair, inputsIn, gatesIn}
+use Rattle.lanes_dual_rail.specs.LaneWords.{pairAt, putPair, inputsIn}
 use Rattle.lanes_dual_rail.proofs.RoundLaws.{operandPair-lane}
 use Rattle.lanes_dual_rail.proofs.LaneWordLaws.{put-length, put-same, put-other}
 use Rattle.lanes_batch.specs.Layered.{LanesFixed}

@@ -4,7 +4,7 @@
 --   Packed, packed-none, packed-next, packed-all   the pair made from the last value to the first
 --   records-started, started-lane   the lanes of the records, and the setting at each
 -- Assumes nothing.
-use mathlib.Core.Path.{_≡_, refl, sym, ap, ap₂, _∙_}
+use mathlib.Core.Path.{_≡_, refl, sym, ap, _∙_}
 use mathlib.Core.Logic.{⊎-elim}
 use mathlib.Core.Bool.{Bool, true, false, cond}
 use mathlib.Core.List.{List, map}
@@ -12,7 +12,7 @@ use Prim.Native.Nat.{ℕ, zero, suc, _+_, _-_, _*_, _^_, _≤_, _<_}
 use native.Mathlib.Omega.{arith}
 use borrow.Author.Tests.{lt-ltb, le-ltb}
 use lib.Dec.{ltb}
-use lib.ListN.{length, getD, drop, length-drop, length-map, List·getD-eq-default}
+use lib.ListN.{length, getD, drop, length-drop, List·getD-eq-default}
 use lib.Seq.{drop-length}
 use lib.Pow.{pow-mono}
 use Rattle.prelude.specs.Lists.{tab}
@@ -24,7 +24,6 @@ use Rattle.netlist.specs.Assignments.{bit, maskOf, isOne}
 use Rattle.netlist.specs.Sheet.{inputByte, settingBytes}
 use Rattle.words_layout.proofs.Gathered.{mask-below, mask-next}
 use Rattle.theory_grammar.proofs.Masks.{mask-bit}
-use Rattle.lanes_dual_rail.specs.declared.Pair.{Pair}
 use Rattle.lanes_dual_rail.specs.Pairs.{markedLanes, lane, Proper, noLanes}
 use Rattle.lanes_dual_rail.specs.Batches.{lanesOf}
 use Rattle.lanes_dual_rail.proofs.BitLaws.{bit-high}

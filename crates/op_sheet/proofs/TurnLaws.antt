@@ -1,11 +1,11 @@
 -- The batch after a turn, and the turns one after the other.
 --   advanced-kept, advanced-read, advanced-full   a turn that answers, one that reads, and the last one that reads
 -- Assumes nothing.
-use mathlib.Core.Path.{_≡_, refl, sym, ap, _∙_}
+use mathlib.Core.Path.{_≡_, refl, _∙_}
 use mathlib.Core.List.{List}
-use Prim.Native.Nat.{ℕ, suc, _+_, _-_, _*_, _/_, _%_, _≤_, _<_}
+use Prim.Native.Nat.{ℕ, _+_, _-_, _%_, _≤_, _<_}
 use native.Mathlib.Omega.{arith}
-use lib.ListN.{length, getD, set, length-set}
+use lib.ListN.{length, set, length-set}
 use Rattle.netlist.specs.declared.Record.{Record}
 use Rattle.op_sheet.specs.declared.turns.Batch.{Batch}
 use Rattle.op_sheet.specs.Side.{SettledLanes, Room}

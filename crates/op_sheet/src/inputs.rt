@@ -26,7 +26,7 @@ fn zero_bit(fixed: u16, ones: u16, i: usize) -> u64
     if (fixed >> i) % 2 == 1 {
         (1 - (ones >> i) % 2) as u64
     } else {
-        0
+        0 // not fixed, and so not at 0
     }
 }
 

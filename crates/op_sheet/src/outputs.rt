@@ -45,7 +45,7 @@ fn one_bit(shown: &[u64; SHOWN_WORDS], o: usize, s: usize) -> u16
     if (shown[2 * o] >> s) % 2 == 1 {
         0
     } else {
-        ((shown[2 * o + 1] >> s) % 2) as u16
+        ((shown[2 * o + 1] >> s) % 2) as u16 // at lane s
     }
 }
 

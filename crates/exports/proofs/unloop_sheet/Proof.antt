@@ -3,7 +3,7 @@
 -- functions that are called is that they meet their contracts. What the turns come to is in Walked of `op_sheet`. Assumes nothing.
 use mathlib.Core.Path.{_≡_, refl, sym, _∙_, ap, subst}
 use Prim.Native.Nat.{ℕ, zero, suc, _+_, _-_, _*_, _%_, _≤_, _<_, _^_}
-use native.Mathlib.Nat.{add-zero, add-suc, suc-add, zero-add, lt-of-lt-of-le, lt-suc-self, lt-irrefl}
+use native.Mathlib.Nat.{add-zero, add-suc, suc-add, zero-add, lt-suc-self, lt-irrefl}
 use native.Mathlib.Omega.{arith}
 use mathlib.Core.Bool.{Bool, true, false}
 use mathlib.Core.List.{List, [], _∷_}

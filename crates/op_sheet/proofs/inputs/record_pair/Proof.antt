@@ -4,7 +4,6 @@ use mathlib.Core.Bool.{cond}
 use Prim.Native.Nat.{_-_, _<_}
 use native.Mathlib.Omega.{arith}
 use denote.Ref.{now}
-use borrow.Author.Needs.{needs}
 use lib.ListN.{getD}
 use Rattle.prelude.specs.Lists.{tab}
 use Rattle.prelude.proofs.Tab.{length-tab}

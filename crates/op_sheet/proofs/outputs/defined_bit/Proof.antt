@@ -1,6 +1,5 @@
 -- `op_sheet::outputs::defined_bit` meets its contract. Assumes nothing.
 use mathlib.Core.Path.{sym}
-use native.Mathlib.Omega.{arith}
 use borrow.Author.Needs.{needs}
 use Rattle.netlist.specs.Assignments.{bit}
 use Rattle.lanes_dual_rail.specs.LaneWords.{pairAt}

@@ -1,11 +1,11 @@
 -- `op_sheet::outputs::show_lane` meets its contract: the masks of the outputs from o on are gathered. Assumes nothing.
-use mathlib.Core.Path.{_≡_, sym, ap, _∙_}
+use mathlib.Core.Path.{_≡_, sym, _∙_}
 use mathlib.Core.Bool.{cond}
 use Prim.Native.Nat.{_-_, _<_}
 use native.Mathlib.Omega.{arith}
 use denote.Ref.{now}
 use borrow.Author.Needs.{needs}
-use lib.ListN.{length, getD}
+use lib.ListN.{getD}
 use Rattle.netlist.specs.Values.{undefined, isDefined}
 use Rattle.netlist.specs.Assignments.{isOne}
 use Rattle.theory_encoding.proofs.Readers.{whole-parts}

@@ -1,5 +1,4 @@
 -- `op_sheet::settling::settle_lanes` meets its contract: a straight block is settled by one sweep, another by its plan. Assumes nothing.
-use denote.Ref.{now}
 use borrow.Author.Needs.{needs}
 use Rattle.netlist.specs.declared.Refusal.the-variants.{NotStraight}
 use Rattle.words_refusals.proofs.Promised.{passed-false}

@@ -1,5 +1,4 @@
 -- `op_sheet::settling::settle_looped` meets its contract: the lanes are settled by the plan. Assumes nothing.
-use mathlib.Core.Path.{_∙_}
 use borrow.Author.Needs.{needs}
 use Rattle.op_sheet.proofs.SettledLaws.{fixed-decoded}
 use Rattle.op_sheet.proofs.settling.settle_looped.Statement.{statement}

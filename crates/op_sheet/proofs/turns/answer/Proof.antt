@@ -1,5 +1,5 @@
 -- `op_sheet::turns::answer` meets its contract: the record as it was, or the answer. Assumes nothing.
-use mathlib.Core.Path.{refl, _∙_}
+use mathlib.Core.Path.{refl}
 use borrow.Author.Needs.{needs}
 use borrow.Author.Tests.{lt-ltb, le-ltb}
 use Rattle.netlist.specs.Sheet.{answeredRecord}
