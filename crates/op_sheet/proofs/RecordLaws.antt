@@ -34,7 +34,8 @@ module _ (ws : List ℕ) (count : ℕ) where
 -- ---- one record
 
 -- what a test of the masks came to, of the number of inputs that was read
-pub bad-as : (ws : List ℕ) (fixed ones : ℕ) {n : ℕ} {r t : Bool} → n ≡ getD ws 0 0 → r ≡ areMasks n fixed ones → not r ≡ t
+pub bad-as : (ws : List ℕ) (fixed ones : ℕ) {n : ℕ} {r t : Bool} → n ≡ getD ws 0 0 → r ≡ areMasks n fixed ones
+    → not r ≡ t
     → isBadMasks (getD ws 0 0) fixed ones ≡ t
 unfolding isBadMasks
 bad-as ws fixed ones e p q = ap (λ (k : ℕ). not (areMasks k fixed ones)) (sym e) ∙ ap not (sym p) ∙ q
@@ -54,7 +55,8 @@ gathered-record {vs} {o} fixed ones g z =
     rw (g .defineds, g .ones, p)
 
 -- what the outputs show under the settled values of the masks' setting
-pub shown-record : (ws : List ℕ) (fixed ones s : ℕ) {shown : List ℕ} → isBadMasks (getD ws 0 0) fixed ones ≡ false → ShownFor ws fixed ones s shown
+pub shown-record : (ws : List ℕ) (fixed ones s : ℕ) {shown : List ℕ} → isBadMasks (getD ws 0 0) fixed ones ≡ false
+    → ShownFor ws fixed ones s shown
     → showing fixed ones (shownAt (getD ws 2 0) shown s) ≡ recordOf (decode ws) fixed ones
 unfolding recordOf
 shown-record ws fixed ones s h t = rw (decode-inputCount ws, h, t .is)

@@ -39,7 +39,8 @@ use Rattle.lanes_masks.proofs.OutputLaws.{output-operand, output-is}
 use Rattle.op_sheet.specs.Side.{RecordsStarted, OutputsPut, shownAt, ShownFor, SettledLanes}
 use Rattle.op_sheet.proofs.SideLaws.{started-lane}
 
-pub fixed-decoded : {b : Block} {m n : ℕ} {graph w after : List ℕ} → Decoded b m graph → LanesFixed (network m graph) n w after → LanesFixed b n w after
+pub fixed-decoded : {b : Block} {m n : ℕ} {graph w after : List ℕ} → Decoded b m graph
+    → LanesFixed (network m graph) n w after → LanesFixed b n w after
 fixed-decoded {b} {m} {n} {graph} {w} {after} d s =
     let e = network-gates b m graph d in
     let count = count-gates (network m graph) b e in
@@ -57,7 +58,8 @@ pub outputs-none : (ws w shown : List ℕ) → length shown ≡ 32 → OutputsPu
 outputs-none ws w shown long = record { long = long; put = λ o l. absurd (omega arith) }
 
 pub outputs-more : {ws w shown : List ℕ} {o : ℕ} {p : Pair} → OutputsPut ws w o shown → o < 16
-    → p ≡ outputPair ws (outputsAt (getD ws 0 0) (getD ws 3 0) (getD ws 1 0)) (getD ws 0 0) w o → OutputsPut ws w (o + 1) (putPair shown o p)
+    → p ≡ outputPair ws (outputsAt (getD ws 0 0) (getD ws 3 0) (getD ws 1 0)) (getD ws 0 0) w o
+    → OutputsPut ws w (o + 1) (putPair shown o p)
 outputs-more {ws} {w} {shown} {o} {p} s few is =
     record {
       long = put-length shown o p ∙ s .long;

@@ -130,10 +130,12 @@ module _ {vs : List Value} {s z o : ℕ} (g : Packed vs s z o) (some : 0 < s) wh
     pub ones-fit : 2 * o + b < 2 ^ 64
     ones-fit = let f = fits isOne in omega (arith, ones-next)
 
-  pub packed-next : {b c : ℕ} → b ≡ cond (isZero here′) 1 0 → c ≡ cond (isOne here′) 1 0 → Packed vs (s - 1) (2 * z + b) (2 * o + c)
+  pub packed-next : {b c : ℕ} → b ≡ cond (isZero here′) 1 0 → c ≡ cond (isOne here′) 1 0
+      → Packed vs (s - 1) (2 * z + b) (2 * o + c)
   packed-next p q = record { below = omega (arith, g .below); few = g .few; zeros = zeros-next p; ones = ones-next q }
 
-pub packed-all : {vs : List Value} {s z o : ℕ} → Packed vs s z o → s ≤ 0 → record { zeros = z; ones = o } ≡ valuesPair vs
+pub packed-all : {vs : List Value} {s z o : ℕ} → Packed vs s z o → s ≤ 0
+    → record { zeros = z; ones = o } ≡ valuesPair vs
 unfolding valuesPair
 packed-all {vs} {s} g l =
     let e : s ≡ 0 = omega arith in
@@ -141,8 +143,10 @@ packed-all {vs} {s} g l =
     rw (g .zeros, g .ones, p)
 
 -- the bit of a test, of the masks that were read for record s
-pub lane-bit : (test : Value → Bool) (fixed ones : List ℕ) (i count s : ℕ) {f v b : ℕ} → s < count → f ≡ getD fixed s 0 → v ≡ getD ones s 0
-    → b ≡ cond (test (valueOf (inputByte f v i))) 1 0 → b ≡ cond (test (getD (tab (laneValue fixed ones i) count) s undefined)) 1 0
+pub lane-bit : (test : Value → Bool) (fixed ones : List ℕ) (i count s : ℕ) {f v b : ℕ} → s < count
+    → f ≡ getD fixed s 0 → v ≡ getD ones s 0
+    → b ≡ cond (test (valueOf (inputByte f v i))) 1 0
+    → b ≡ cond (test (getD (tab (laneValue fixed ones i) count) s undefined)) 1 0
 unfolding laneValue
 lane-bit test fixed ones i count s l ef ev e = rw (getD-tab (laneValue fixed ones i) count s undefined l, ← ef, ← ev) e
 
@@ -153,7 +157,8 @@ module _ (n count : ℕ) (fixed ones : List ℕ) (fewInputs : n ≤ maxInputs) w
   unfolding recordPair
   pairs-proper few i l = values-proper (tab (laneValue fixed ones i) count) (rw (length-tab (laneValue fixed ones i) count) few)
 
-  pub records-started : {m : ℕ} {c d : List ℕ} → m ≤ maxGates → count ≤ 64 → ConstantsStarted m 6 c → InputsPut (recordPair count fixed ones) n c d
+  pub records-started : {m : ℕ} {c d : List ℕ} → m ≤ maxGates → count ≤ 64 → ConstantsStarted m 6 c
+      → InputsPut (recordPair count fixed ones) n c d
       → RecordsStarted m n count fixed ones d
   unfolding lanesOf
   records-started fewGates few started inputs =
@@ -168,7 +173,8 @@ module _ (n count : ℕ) (fixed ones : List ℕ) (fewInputs : n ≤ maxInputs) w
       }
 
   -- at the lane of a record stand its setting's values
-  pub started-lane : (s : ℕ) → s < count → (i : ℕ) → getD (map (lane s) (padded n (recordPair count fixed ones))) i undefined
+  pub started-lane : (s : ℕ) → s < count → (i : ℕ)
+      → getD (map (lane s) (padded n (recordPair count fixed ones))) i undefined
       ≡ getD (map valueOf (settingBytes n (getD fixed s 0) (getD ones s 0))) i undefined
   unfolding settingBytes recordPair laneValue
   started-lane s l i =
@@ -180,13 +186,15 @@ module _ (n count : ℕ) (fixed ones : List ℕ) (fewInputs : n ≤ maxInputs) w
       byte : ℕ → ℕ
       byte = inputByte (getD fixed s 0) (getD ones s 0)
 
-      own : i < n → lane s (cond (ltb i n) (recordPair count fixed ones i) noLanes) ≡ getD (tab (λ k. valueOf (byte k)) n) i undefined
+      own : i < n
+          → lane s (cond (ltb i n) (recordPair count fixed ones i) noLanes) ≡ getD (tab (λ k. valueOf (byte k)) n) i undefined
       own h =
           rw (lt-ltb i n h, getD-tab (λ k. valueOf (byte k)) n i undefined h)
           (values-lane (tab (laneValue fixed ones i) count) s (rw (length-tab (laneValue fixed ones i) count) l)
           ∙ getD-tab (laneValue fixed ones i) count s undefined l)
 
-      past : n ≤ i → lane s (cond (ltb i n) (recordPair count fixed ones i) noLanes) ≡ getD (tab (λ k. valueOf (byte k)) n) i undefined
+      past : n ≤ i
+          → lane s (cond (ltb i n) (recordPair count fixed ones i) noLanes) ≡ getD (tab (λ k. valueOf (byte k)) n) i undefined
       past h =
           rw (le-ltb i n h)
           (nothing-lane s

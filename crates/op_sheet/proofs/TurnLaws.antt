@@ -44,7 +44,8 @@ module _ {ws : List ℕ} {count t : ℕ} {z : Record} {b : Batch} (room : Room b
         kept = λ l. absurd (omega arith);
       }
 
-  pub advanced-full : {shown : List ℕ} → t % 128 < sizeAt count t → SettledLanes ws (sizeAt count t) (set (b .fixed) (t % 128) (z .fixed)) (set (b .ones) (t % 128) (z .ones)) shown
+  pub advanced-full : {shown : List ℕ} → t % 128 < sizeAt count t
+      → SettledLanes ws (sizeAt count t) (set (b .fixed) (t % 128) (z .fixed)) (set (b .ones) (t % 128) (z .ones)) shown
       → Advanced ws count t z b (more b (t % 128) z shown)
   advanced-full {shown} h s =
       record {

@@ -39,7 +39,8 @@ module _ (f : Record → Record) where
   length-partly (suc i) (r ∷ rs) = ap suc (length-partly i rs)
 
   -- one more: record i under f
-  partly-next : (i : ℕ) (rs : List Record) (d : Record) → i < length rs → set (partly i rs) i (f (getD (partly i rs) i d)) ≡ partly (suc i) rs
+  partly-next : (i : ℕ) (rs : List Record) (d : Record) → i < length rs
+      → set (partly i rs) i (f (getD (partly i rs) i d)) ≡ partly (suc i) rs
   partly-next i [] d l = absurd (not-suc-le-zero l)
   partly-next zero (r ∷ rs) d l = refl
   partly-next (suc i) (r ∷ rs) d l = ap (λ (t : List Record). f r ∷ t) (partly-next i rs d (le-of-suc-le-suc l))
@@ -79,7 +80,8 @@ answered-same count t l =
     none-more a r k l = omega arith
 
 -- a turn that answers
-answered-next : (count t : ℕ) → t < 2 * count → sizeAt count t ≤ t % 128 → suc (answered count t) ≡ answered count (suc t)
+answered-next : (count t : ℕ) → t < 2 * count → sizeAt count t ≤ t % 128
+    → suc (answered count t) ≡ answered count (suc t)
 answered-next count t small h = ⊎-elim within last (lt-or-le (t % 128) 127)
   where
     add : (a r k : ℕ) → k ≤ r → suc (a + (r - k)) ≡ a + (suc r - k)
@@ -139,17 +141,20 @@ module _ (ws : List ℕ) (rs : List Record) (d : Record) (t : ℕ) where
   turn-finds : getD (before ws rs t) place d ≡ getD rs place d
   turn-finds = partly-beyond (answeredRecord (decode ws)) (answered (length rs) t) place rs d (place-before (length rs) t)
 
-  turn-leaves : t < 2 * length rs → set (before ws rs t) place (turned ws (length rs) t (getD (before ws rs t) place d)) ≡ before ws rs (suc t)
+  turn-leaves : t < 2 * length rs
+      → set (before ws rs t) place (turned ws (length rs) t (getD (before ws rs t) place d)) ≡ before ws rs (suc t)
   unfolding turned readsAt
   turn-leaves small = ⊎-elim reading answering (lt-or-le (t % 128) (sizeAt (length rs) t))
     where
-      reading : t % 128 < sizeAt (length rs) t → set (before ws rs t) place (turned ws (length rs) t (getD (before ws rs t) place d)) ≡ before ws rs (suc t)
+      reading : t % 128 < sizeAt (length rs) t
+          → set (before ws rs t) place (turned ws (length rs) t (getD (before ws rs t) place d)) ≡ before ws rs (suc t)
       reading l =
           let e = answered-same (length rs) t l in
           rw (lt-ltb (t % 128) (sizeAt (length rs) t) l)
           (set-getD (before ws rs t) place d ∙ ap (λ (k : ℕ). partly (answeredRecord (decode ws)) k rs) e)
 
-      answering : sizeAt (length rs) t ≤ t % 128 → set (before ws rs t) place (turned ws (length rs) t (getD (before ws rs t) place d)) ≡ before ws rs (suc t)
+      answering : sizeAt (length rs) t ≤ t % 128
+          → set (before ws rs t) place (turned ws (length rs) t (getD (before ws rs t) place d)) ≡ before ws rs (suc t)
       answering h =
           let e = answered-next (length rs) t small h in
           rw (le-ltb (t % 128) (sizeAt (length rs) t) h, place-answers (length rs) t h)
@@ -161,12 +166,15 @@ module _ (ws : List ℕ) (rs : List Record) (d : Record) (t : ℕ) where
 -- before turn t: the masks of the records that were read, and once all are read what their lanes show
 pub record BatchAt (ws : List ℕ) (rs : List Record) (d : Record) (t : ℕ) (b : Batch) : Type 0 where
   pub room : Room b
-  pub fixed : (s : ℕ) → s < t % 128 → s < sizeAt (length rs) t → getD (b .fixed) s 0 ≡ getD rs (64 * (t / 128) + s) d .fixed
-  pub ones : (s : ℕ) → s < t % 128 → s < sizeAt (length rs) t → getD (b .ones) s 0 ≡ getD rs (64 * (t / 128) + s) d .ones
+  pub fixed : (s : ℕ) → s < t % 128 → s < sizeAt (length rs) t
+      → getD (b .fixed) s 0 ≡ getD rs (64 * (t / 128) + s) d .fixed
+  pub ones : (s : ℕ) → s < t % 128 → s < sizeAt (length rs) t
+      → getD (b .ones) s 0 ≡ getD rs (64 * (t / 128) + s) d .ones
   pub settled : sizeAt (length rs) t ≤ t % 128 → SettledLanes ws (sizeAt (length rs) t) (b .fixed) (b .ones) (b .shown)
 
 -- nothing is read where a batch begins
-batch-begins : (ws : List ℕ) (rs : List Record) (d : Record) (t : ℕ) {b : Batch} → t % 128 ≡ 0 → Room b → BatchAt ws rs d t b
+batch-begins : (ws : List ℕ) (rs : List Record) (d : Record) (t : ℕ) {b : Batch} → t % 128 ≡ 0 → Room b
+    → BatchAt ws rs d t b
 batch-begins ws rs d t e room =
     record {
       room = room;
@@ -189,7 +197,8 @@ module _ (ws : List ℕ) (rs : List Record) (d : Record) (t : ℕ) (small : t < 
       reads : t % 128 < sizeAt (length rs) t → ⊥
       reads l = true≢false (sym (lt-ltb (t % 128) (sizeAt (length rs) t) l) ∙ e)
 
-      answers : sizeAt (length rs) t ≤ t % 128 → Answerable ws (t % 128 - sizeAt (length rs) t) (z .fixed) (z .ones) (after .shown)
+      answers : sizeAt (length rs) t ≤ t % 128
+          → Answerable ws (t % 128 - sizeAt (length rs) t) (z .fixed) (z .ones) (after .shown)
       answers h =
           let s : ℕ = t % 128 - sizeAt (length rs) t in
           let l : s < sizeAt (length rs) t = omega arith in
@@ -199,7 +208,8 @@ module _ (ws : List ℕ) (rs : List Record) (d : Record) (t : ℕ) (small : t < 
           record { whole = whole; below = omega arith; shows = rw (turn .kept h, ← ef, ← eo) (state .settled h .each s l) }
 
   -- the masks that were read, with this turn's
-  fixed-more : (s : ℕ) → s < suc (t % 128) → s < sizeAt (length rs) t → getD (after .fixed) s 0 ≡ getD rs (64 * (t / 128) + s) d .fixed
+  fixed-more : (s : ℕ) → s < suc (t % 128) → s < sizeAt (length rs) t
+      → getD (after .fixed) s 0 ≡ getD rs (64 * (t / 128) + s) d .fixed
   fixed-more s l h = ⊎-elim reading answering (lt-or-le (t % 128) (sizeAt (length rs) t))
     where
       reading : t % 128 < sizeAt (length rs) t → getD (after .fixed) s 0 ≡ getD rs (64 * (t / 128) + s) d .fixed
@@ -213,7 +223,8 @@ module _ (ws : List ℕ) (rs : List Record) (d : Record) (t : ℕ) (small : t < 
       answering : sizeAt (length rs) t ≤ t % 128 → getD (after .fixed) s 0 ≡ getD rs (64 * (t / 128) + s) d .fixed
       answering k = rw (turn .kept k) (state .fixed s (omega arith) h)
 
-  ones-more : (s : ℕ) → s < suc (t % 128) → s < sizeAt (length rs) t → getD (after .ones) s 0 ≡ getD rs (64 * (t / 128) + s) d .ones
+  ones-more : (s : ℕ) → s < suc (t % 128) → s < sizeAt (length rs) t
+      → getD (after .ones) s 0 ≡ getD rs (64 * (t / 128) + s) d .ones
   ones-more s l h = ⊎-elim reading answering (lt-or-le (t % 128) (sizeAt (length rs) t))
     where
       reading : t % 128 < sizeAt (length rs) t → getD (after .ones) s 0 ≡ getD rs (64 * (t / 128) + s) d .ones
@@ -227,7 +238,8 @@ module _ (ws : List ℕ) (rs : List Record) (d : Record) (t : ℕ) (small : t < 
       answering : sizeAt (length rs) t ≤ t % 128 → getD (after .ones) s 0 ≡ getD rs (64 * (t / 128) + s) d .ones
       answering k = rw (turn .kept k) (state .ones s (omega arith) h)
 
-  settled-more : sizeAt (length rs) t ≤ suc (t % 128) → SettledLanes ws (sizeAt (length rs) t) (after .fixed) (after .ones) (after .shown)
+  settled-more : sizeAt (length rs) t ≤ suc (t % 128)
+      → SettledLanes ws (sizeAt (length rs) t) (after .fixed) (after .ones) (after .shown)
   settled-more l =
       ⊎-elim (λ k. turn .settled (omega arith)) (λ k. rw (turn .kept k) (state .settled k)) (lt-or-le (t % 128) (sizeAt (length rs) t))
 

@@ -1,5 +1,5 @@
--- The turns of a call, two for each record: turn t belongs to batch t / 128, of 64 records or what is left of them; it reads one of them,
--- or once all are read answers one.
+-- The turns of a call, two for each record: turn t belongs to batch t / 128, of 64 records or what is left of them; it
+-- reads one of them, or once all are read answers one.
 --   sizeAt, readsAt, placeAt   the size of a turn's batch, whether the turn reads, and its place
 --   Advanced                   the batch after a turn
 --   Answerable, turned         what a turn that answers asks, and the record that a turn leaves
@@ -31,7 +31,8 @@ pub record Advanced (ws : List ℕ) (count t : ℕ) (z : Record) (b after : Batc
   pub room : Room after
   pub fixed : t % 128 < sizeAt count t → after .fixed ≡ set (b .fixed) (t % 128) (z .fixed)
   pub ones : t % 128 < sizeAt count t → after .ones ≡ set (b .ones) (t % 128) (z .ones)
-  pub settled : suc (t % 128) ≡ sizeAt count t → SettledLanes ws (sizeAt count t) (after .fixed) (after .ones) (after .shown)
+  pub settled : suc (t % 128) ≡ sizeAt count t
+      → SettledLanes ws (sizeAt count t) (after .fixed) (after .ones) (after .shown)
   pub kept : sizeAt count t ≤ t % 128 → after ≡ b
 
 -- what the answer to two masks asks

@@ -1,4 +1,5 @@
--- Up to 64 records side by side, a lane to a record: lane s has the setting of the masks at place s of `fixed` and `ones`.
+-- Up to 64 records side by side, a lane to a record: lane s has the setting of the masks at place s of `fixed` and
+-- `ones`.
 --   isZero, laneValue, valuesPair, recordPair   the pair of an input
 --   RecordsStarted        the lanes before they are settled
 --   OutputsPut, shownAt   what the outputs show at a lane
@@ -46,7 +47,8 @@ pub record RecordsStarted (m n count : ℕ) (fixed ones w : List ℕ) : Type 0 w
 -- the pairs of the first k outputs are put
 pub record OutputsPut (ws w : List ℕ) (k : ℕ) (shown : List ℕ) : Type 0 where
   pub long : length shown ≡ 32
-  pub put : (o : ℕ) → o < k → pairAt shown o ≡ outputPair ws (outputsAt (getD ws 0 0) (getD ws 3 0) (getD ws 1 0)) (getD ws 0 0) w o
+  pub put : (o : ℕ) → o < k
+      → pairAt shown o ≡ outputPair ws (outputsAt (getD ws 0 0) (getD ws 3 0) (getD ws 1 0)) (getD ws 0 0) w o
 
 -- what so many outputs show at lane s
 unfoldable pub shownAt : ℕ → List ℕ → ℕ → List Value
@@ -54,7 +56,8 @@ shownAt count shown s = tab (λ o. lane s (pairAt shown o)) count
 
 -- lane s shows the outputs under the settled values of the setting of two masks
 pub record ShownFor (ws : List ℕ) (fixed ones s : ℕ) (shown : List ℕ) : Type 0 where
-  pub is : shownAt (getD ws 2 0) shown s ≡ settledOutputs (decode ws) (map valueOf (settingBytes (getD ws 0 0) fixed ones))
+  pub is : shownAt (getD ws 2 0) shown s
+      ≡ settledOutputs (decode ws) (map valueOf (settingBytes (getD ws 0 0) fixed ones))
 
 -- each of so many lanes shows what its record asks
 pub record SettledLanes (ws : List ℕ) (count : ℕ) (fixed ones shown : List ℕ) : Type 0 where

@@ -1,4 +1,5 @@
-// The inputs of up to 64 records in lanes: lane s has the setting of record s, whose masks are entry s of `fixed` and `ones`.
+// The inputs of up to 64 records in lanes: lane s has the setting of record s, whose masks are entry s of `fixed` and
+// `ones`.
 use crate::LANES;
 use graph_gates::FIRST_INPUT;
 use lanes_batch::layered::start_constants;

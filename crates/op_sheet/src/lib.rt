@@ -1,6 +1,6 @@
-// A sheet of settings in one call: the call's reply, and its turns, on numbers and arrays. A turn reads a record or answers
-// one; up to 64 records are read, settled side by side in lanes and answered. The function over the caller's records is the
-// C function in crates/exports, whose proof goes step by step by hand.
+// A sheet of settings in one call: the call's reply, and its turns, on numbers and arrays. A turn reads a record or
+// answers one; up to 64 records are read, settled side by side in lanes and answered. The function over the caller's
+// records is the C function in crates/exports, whose proof goes step by step by hand.
 mod inputs;
 mod outputs;
 mod settling;

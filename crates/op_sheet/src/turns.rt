@@ -1,5 +1,5 @@
-// The turns of a call, two for each record: up to LANES records are read one after the other, at the last of them they are
-// settled, and then they are answered one after the other.
+// The turns of a call, two for each record: up to LANES records are read one after the other, at the last of them they
+// are settled, and then they are answered one after the other.
 use crate::LANES;
 use crate::outputs::SHOWN_WORDS;
 use crate::outputs::show_lane;

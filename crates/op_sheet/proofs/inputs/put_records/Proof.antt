@@ -1,4 +1,5 @@
--- `op_sheet::inputs::put_records` meets its contract: after k turns the first k inputs' pairs stand there. Assumes nothing.
+-- `op_sheet::inputs::put_records` meets its contract: after k turns the first k inputs' pairs stand there. Assumes
+-- nothing.
 use mathlib.Core.Path.{_≡_}
 use Prim.Native.Nat.{_-_, _≤_}
 use native.Mathlib.Omega.{arith}

@@ -1,4 +1,5 @@
--- `op_sheet::inputs::record_pair` meets its contract: the pair is packed from the last record to the first (`packed-next`). Assumes nothing.
+-- `op_sheet::inputs::record_pair` meets its contract: the pair is packed from the last record to the first (`packed-
+-- next`). Assumes nothing.
 use mathlib.Core.Path.{_≡_, refl, sym}
 use mathlib.Core.Bool.{cond}
 use Prim.Native.Nat.{_-_, _<_}
@@ -10,7 +11,8 @@ use Rattle.prelude.proofs.Tab.{length-tab}
 use Rattle.netlist.specs.Values.{undefined}
 use Rattle.netlist.specs.Assignments.{isOne}
 use Rattle.op_sheet.specs.Side.{isZero, laneValue, recordPair}
-use Rattle.op_sheet.proofs.SideLaws.{Packed, packed-none, packed-next, packed-all, zeros-half, zeros-fit, ones-half, ones-fit, lane-bit}
+use Rattle.op_sheet.proofs.SideLaws.{Packed, packed-none, packed-next, packed-all, zeros-half, zeros-fit}
+use Rattle.op_sheet.proofs.SideLaws.{ones-half, ones-fit, lane-bit}
 use Rattle.op_sheet.proofs.inputs.record_pair.Statement.{statement}
 use Rattle.op_sheet.proofs.inputs.record_pair.Tie as tie
 

@@ -1,4 +1,5 @@
--- `op_sheet::outputs::put_outputs` meets its contract: after o turns the first o outputs' pairs stand there. Assumes nothing.
+-- `op_sheet::outputs::put_outputs` meets its contract: after o turns the first o outputs' pairs stand there. Assumes
+-- nothing.
 use mathlib.Core.Path.{_≡_, refl, _∙_}
 use Prim.Native.Nat.{_-_, _≤_, _<_}
 use native.Mathlib.Omega.{arith}

@@ -9,7 +9,8 @@ use lib.ListN.{getD}
 use Rattle.netlist.specs.Values.{undefined, isDefined}
 use Rattle.netlist.specs.Assignments.{isOne}
 use Rattle.theory_encoding.proofs.Readers.{whole-parts}
-use Rattle.words_layout.proofs.Gathered.{Gathered, gathered-none, gathered-next, defined-half, defined-fits, one-half, one-fits}
+use Rattle.words_layout.proofs.Gathered.{Gathered, gathered-none, gathered-next, defined-half, defined-fits, one-half}
+use Rattle.words_layout.proofs.Gathered.{one-fits}
 use Rattle.op_sheet.specs.Side.{shownAt}
 use Rattle.op_sheet.proofs.SettledLaws.{length-shown, shown-bit}
 use Rattle.op_sheet.proofs.RecordLaws.{gathered-record}

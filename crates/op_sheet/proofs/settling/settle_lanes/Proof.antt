@@ -1,4 +1,5 @@
--- `op_sheet::settling::settle_lanes` meets its contract: a straight block is settled by one sweep, another by its plan. Assumes nothing.
+-- `op_sheet::settling::settle_lanes` meets its contract: a straight block is settled by one sweep, another by its plan.
+-- Assumes nothing.
 use borrow.Author.Needs.{needs}
 use Rattle.netlist.specs.declared.Refusal.the-variants.{NotStraight}
 use Rattle.words_refusals.proofs.Promised.{passed-false}

@@ -1,4 +1,5 @@
--- `op_sheet::turns::advance` meets its contract: the batch is kept, or has one record more, or is settled. Assumes nothing.
+-- `op_sheet::turns::advance` meets its contract: the batch is kept, or has one record more, or is settled. Assumes
+-- nothing.
 use Prim.Native.Nat.{_%_, _<_}
 use native.Mathlib.Omega.{arith}
 use borrow.Author.Needs.{needs}
@@ -17,7 +18,8 @@ start x = x .before .before
 returns : tie.Need-returns
 returns c = let n = c .before in advanced-kept (start n .pre .2) (omega (arith, n .size-at .ensures, c .if1 .taken))
 
-reads : (x : tie.After-shown) → start (sized x) .args .t % 128 < sizeAt (start (sized x) .args .count) (start (sized x) .args .t)
+reads : (x : tie.After-shown)
+    → start (sized x) .args .t % 128 < sizeAt (start (sized x) .args .count) (start (sized x) .args .t)
 reads x = let e = x .before .before .before in omega (arith, sized x .size-at .ensures, e .if1 .left)
 
 returns-2 : tie.Need-returns-2
