@@ -41,22 +41,26 @@ there c =
 small : (c : tie.In-loop Inv-loop μ-loop) → c .before .loop .s - 1 < 64
 small c = omega (arith, there c, entry c .pre .0)
 
+-- the turn in which its first bit was made
+abbrev turn : tie.After-zero-bit Inv-loop μ-loop → tie.In-loop Inv-loop μ-loop
+turn z = z .before .before .before
+
 -- the bits that a turn adds
 zero-is : (c : tie.After-zero-bit Inv-loop μ-loop)
-    → let t = c .before .before .before in let a = entry t .args in
+    → let t = turn c in let a = entry t .args in
     c .zero-bit .result
     ≡ cond (isZero (getD (tab (laneValue (now (a .fixed)) (now (a .ones)) (a .i)) (a .count)) (t .before .loop .s - 1) undefined)) 1 0
 zero-is c =
-    let t = c .before .before .before in
+    let t = turn c in
     let a = entry t .args in
     lane-bit isZero (now (a .fixed)) (now (a .ones)) (a .i) (a .count) (t .before .loop .s - 1) (there t) refl refl (c .zero-bit .ensures)
 
 one-is : (c : tie.After-one-bit Inv-loop μ-loop)
-    → let t = c .before .before .before .before in let a = entry t .args in
+    → let t = turn (c .before) in let a = entry t .args in
     c .one-bit .result
     ≡ cond (isOne (getD (tab (laneValue (now (a .fixed)) (now (a .ones)) (a .i)) (a .count)) (t .before .loop .s - 1) undefined)) 1 0
 one-is c =
-    let t = c .before .before .before .before in
+    let t = turn (c .before) in
     let a = entry t .args in
     lane-bit isOne (now (a .fixed)) (now (a .ones)) (a .i) (a .count) (t .before .loop .s - 1) (there t) refl refl (c .one-bit .ensures)
 
@@ -64,22 +68,24 @@ mul-zeros : tie.Need-mul-zeros Inv-loop μ-loop
 mul-zeros c = let t = c .before .before in record { fits = zeros-half (t .before .loop .inv) (omega arith) }
 
 add-zeros : tie.Need-add-zeros Inv-loop μ-loop
-add-zeros c = let t = c .before .before .before in record { fits = zeros-fit (t .before .loop .inv) (omega arith) (zero-is c) }
+add-zeros c =
+    let t = turn c in
+    record { fits = zeros-fit (t .before .loop .inv) (omega arith) (zero-is c) }
 
 mul-marked : tie.Need-mul-marked Inv-loop μ-loop
-mul-marked c = let t = c .before .before .before in record { fits = ones-half (t .before .loop .inv) (omega arith) }
+mul-marked c =
+    let t = turn c in
+    record { fits = ones-half (t .before .loop .inv) (omega arith) }
 
 add-marked : tie.Need-add-marked Inv-loop μ-loop
 add-marked c =
-    let z = c .before in
-    let t = z .before .before .before in
+    let t = turn (c .before) in
     record { fits = ones-fit (t .before .loop .inv) (omega arith) (one-is c) }
 
 loop-again : tie.Need-loop-again Inv-loop μ-loop
 loop-again c =
-    let z = c .before in
-    let t = z .before .before .before in
-    packed-next (t .before .loop .inv) (omega arith) (zero-is z) (one-is c)
+    let t = turn (c .before) in
+    packed-next (t .before .loop .inv) (omega arith) (zero-is (c .before)) (one-is c)
 
 returns : tie.Need-returns Inv-loop μ-loop
 unfolding recordPair

@@ -32,7 +32,9 @@ loop-holds c =
 
 -- before each turn: the entry, and the output of the turn is one
 abbrev entry : tie.In-loop Inv-loop μ-loop → tie.Start Inv-loop μ-loop
-entry c = let n = c .before .before .before .before in n .before .before
+entry c =
+    let n = c .before .before .before in
+    n .before .before .before
 
 there : (c : tie.In-loop Inv-loop μ-loop) → c .before .loop .o < getD (now (entry c .args .words)) 2 0
 there c = let i = c .before .loop .inv in omega (arith, c .loop-test .taken, i .2)

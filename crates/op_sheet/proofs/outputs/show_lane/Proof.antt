@@ -32,7 +32,9 @@ loop-holds c =
 
 -- before each turn: the entry, and the output of the turn is one
 abbrev entry : tie.In-loop Inv-loop μ-loop → tie.Start Inv-loop μ-loop
-entry c = let n = c .before .before in n .before .before
+entry c =
+    let n = c .before .before in
+    n .before .before
 
 there : (c : tie.In-loop Inv-loop μ-loop) → c .before .loop .o - 1 < getD (now (entry c .args .words)) 2 0
 there c =
@@ -67,7 +69,9 @@ add-values : tie.Need-add-values Inv-loop μ-loop
 add-values c = let t = c .before .before in record { fits = one-fits (t .before .loop .inv) (omega arith) (one-is c) }
 
 loop-again : tie.Need-loop-again Inv-loop μ-loop
-loop-again c = let t = c .before .before in gathered-next (t .before .loop .inv) (omega arith) (defined-is (c .before)) (one-is c)
+loop-again c =
+    let t = c .before .before in
+    gathered-next (t .before .loop .inv) (omega arith) (defined-is (c .before)) (one-is c)
 
 returns : tie.Need-returns Inv-loop μ-loop
 returns c = gathered-record _ _ (c .before .loop .inv) (omega arith)

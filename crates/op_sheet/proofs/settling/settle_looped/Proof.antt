@@ -20,7 +20,8 @@ settle-layers-requires c κs =
 
 returns : tie.Need-returns
 returns c =
-    let m = c .before .before .before .before in
+    let lent = c .before in
+    let m = lent .before .before .before in
     fixed-decoded (planned m .plan-block .ensures .decoded) (rw (m .gates-of .ensures) at (c .settle-layers .ensures))
 
 pub settle-looped-spec : {M : Type 1} → statement M

@@ -10,7 +10,9 @@ use Rattle.op_sheet.proofs.turns.advance.Tie as tie
 
 -- the size of the batch and the function's entry, from a turn that reads
 abbrev sized : tie.After-shown → tie.After-size-at
-sized x = x .before .before .before .before
+sized x =
+    let e = x .before .before .before in
+    e .before
 
 abbrev start : tie.After-size-at → tie.Start
 start x = x .before .before

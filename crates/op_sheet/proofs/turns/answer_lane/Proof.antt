@@ -22,6 +22,12 @@ returns c =
     ∙ record-refused (now (a .words)) (a .fixed) (a .ones)
     (bad-as (now (a .words)) (a .fixed) (a .ones) (n .inputs-of .ensures) (tested .are-masks .ensures) (c .before .if1 .taken))
 
+show-lane-requires : tie.Need-show-lane-requires
+show-lane-requires c κs =
+    let n = c .before .before in
+    let s = n .before .before in
+    (s .pre .whole, s .pre .below)
+
 returns-2 : tie.Need-returns-2
 returns-2 c =
     let kept = c .before in
@@ -38,4 +44,4 @@ answer-lane-spec =
     tie.close
     (tie.spec
     (λ c κs. search needs) are-masks-requires (λ c κs. search needs) returns
-    (λ c κs. let n = c .before .before in let s = n .before .before in (s .pre .whole, s .pre .below)) returns-2)
+    show-lane-requires returns-2)
