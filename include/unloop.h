@@ -112,7 +112,7 @@ unloop_reply unloop_pass(const uint16_t *block, size_t block_length, const uint8
                          uint8_t *values, size_t values_length);
 
 /* Sheet: each record's outputs under the values that Settle finds, an input that is not fixed being undefined; count: the records. A record has 7
-   for a bit at or above n, or a bit at 1 of an input that is not fixed. 6, and then no record changes. Stack: 32 KiB. */
+   for a bit at or above n, or a bit at 1 of an input that is not fixed. 6, and then no record changes. Stack: 64 KiB. */
 unloop_reply unloop_sheet(const uint16_t *block, size_t block_length, unloop_record *records, size_t records_length);
 
 /* Verdict: count: settled settings, where every output is 0 or 1; detail: the number of the lowest other, or 2^n if none. A setting that a never

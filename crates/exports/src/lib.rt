@@ -2,8 +2,11 @@
 // Each has its operation's promise and no condition. A slice is a pointer and a length.
 use netlist::Record;
 use netlist::Reply;
-use op_sheet::record::answer_masks;
 use op_sheet::reply_to_sheet;
+use op_sheet::turns::advance;
+use op_sheet::turns::answer;
+use op_sheet::turns::no_batch;
+use op_sheet::turns::place_at;
 use words_refusals::reply_of;
 ghost use mathlib.Core.Path.{_≡_};
 ghost use Prim.Native.Nat.{_≤_};
@@ -68,19 +71,25 @@ pub extern "C" fn unloop_pass(block: &[u16], setting: &[u8], values: &mut [u8]) 
     reply_of(op_pass::pass(block, setting, values))
 }
 
-// Sheet: each record's answer from its two masks of inputs; count: the records. A function on a slice of structs is
-// proved step by step by hand: hence one loop and no branch.
+// Sheet: each record's answer from its two masks of inputs; count: the records. Two turns for each record: it is read, and
+// once its batch is settled it is answered. A function on a slice of structs is proved step by step by hand: hence one loop
+// and no branch.
 #[no_mangle]
 pub extern "C" fn unloop_sheet(block: &[u16], records: &mut [Record]) -> Reply
     ensures answers { λ r. ⌜ Shows (answerOf (sheet (now (block .entry)) (length (now (records .entry))))) r ⌝ }
     ensures leaves { λ r. ⌜ now (records .exit) ≡ sheetRecords (now (block .entry)) (now (records .entry)) ⌝ }
 {
     let reply = reply_to_sheet(block, records.len());
-    let turns = reply.count;
-    let mut i = 0;
-    while i < turns {
-        records[i] = answer_masks(block, records[i].fixed, records[i].ones);
-        i += 1;
+    let count = reply.count;
+    let turns = 2 * count;
+    let mut batch = no_batch();
+    let mut t = 0;
+    while t < turns {
+        let i = place_at(count, t);
+        let asked = records[i];
+        batch = advance(block, count, t, asked, batch);
+        records[i] = answer(block, count, t, asked, batch);
+        t += 1;
     }
     reply
 }

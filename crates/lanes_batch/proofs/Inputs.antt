@@ -4,13 +4,10 @@
 -- Assumes nothing.
 use mathlib.Core.Path.{_≡_, refl, sym, ap, _∙_, fun-ext}
 use mathlib.Core.Logic.{⊎-elim}
-use mathlib.Core.Bool.{cond}
 use mathlib.Core.List.{List, [], _∷_, map}
 use Prim.Native.Nat.{ℕ, zero, suc, _+_, _%_, _≤_, _<_}
-use native.Mathlib.Omega.{arith}
 use borrow.Author.Tests.{lt-ltb, le-ltb}
-use lib.Dec.{ltb}
-use lib.ListN.{length, getD, List·getD-eq-default}
+use lib.ListN.{getD, List·getD-eq-default}
 use Rattle.prelude.specs.Lists.{tab}
 use Rattle.prelude.proofs.Tab.{length-tab, getD-tab}
 use Rattle.prelude.proofs.Tests.{lt-or-le}
@@ -20,13 +17,13 @@ use Rattle.netlist.specs.Kinds.{gateValue}
 use Rattle.netlist.specs.Netlist.{Operand, input, gate, constant, Block, gateCount}
 use Rattle.netlist.specs.Steps.{stepAt, run}
 use Rattle.netlist.specs.Rounds.{operandValue, evaluated, round, afterRounds, isStable, rounds, settled, settingOf}
-use Rattle.lanes_dual_rail.specs.declared.Pair.{Pair}
 use Rattle.lanes_dual_rail.specs.Pairs.{lane, noLanes}
 use Rattle.lanes_dual_rail.specs.PairRounds.{AllProper}
 use Rattle.lanes_dual_rail.specs.Batches.{lanesOf, inputPair, inputPairs}
 use Rattle.lanes_dual_rail.proofs.RoundLaws.{getD-lane}
 use Rattle.lanes_dual_rail.proofs.InputLaws.{inputPairs-proper, inputPairs-lane}
 use Rattle.lanes_batch.specs.Layered.{startInputs}
+use Rattle.lanes_batch.proofs.Starting.{padded-at}
 
 module _ (x y : List Value) (e : (i : ℕ) → getD x i undefined ≡ getD y i undefined) where
   operand-inputs : (state : List Value) (o : Operand) → operandValue x state o ≡ operandValue y state o
@@ -69,24 +66,10 @@ module _ (n base : ℕ) (few : n ≤ maxInputs) where
   -- past the block's own inputs nothing is said
   startInputs-at : (i : ℕ) → getD (startInputs n base) i noLanes ≡ getD (inputPairs n base) i noLanes
   unfolding startInputs inputPairs
-  startInputs-at i = ⊎-elim own (λ h. ⊎-elim (blank h) (past h) (lt-or-le i maxInputs)) (lt-or-le i n)
-    where
-      f : ℕ → Pair
-      f = λ i. cond (ltb i n) (inputPair n base i) noLanes
-
-      nothing : n ≤ i → getD (tab (inputPair n base) n) i noLanes ≡ noLanes
-      nothing h = List·getD-eq-default (tab (inputPair n base) n) noLanes (rw (length-tab (inputPair n base) n) h)
-
-      own : i < n → getD (tab f maxInputs) i noLanes ≡ getD (tab (inputPair n base) n) i noLanes
-      own l = rw (getD-tab f maxInputs i noLanes (omega arith), lt-ltb i n l, getD-tab (inputPair n base) n i noLanes l) refl
-
-      blank : n ≤ i → i < maxInputs → getD (tab f maxInputs) i noLanes ≡ getD (tab (inputPair n base) n) i noLanes
-      blank h l = getD-tab f maxInputs i noLanes l ∙ rw (le-ltb i n h) (sym (nothing h))
-
-      past : n ≤ i → maxInputs ≤ i → getD (tab f maxInputs) i noLanes ≡ getD (tab (inputPair n base) n) i noLanes
-      past h l =
-          let long : length (tab f maxInputs) ≤ i = rw (length-tab f maxInputs) l in
-          List·getD-eq-default (tab f maxInputs) noLanes long ∙ sym (nothing h)
+  startInputs-at i =
+      padded-at n (inputPair n base) few i
+      ∙ ⊎-elim (λ l. rw (lt-ltb i n l) (sym (getD-tab (inputPair n base) n i noLanes l)))
+      (λ h. rw (le-ltb i n h) (sym (List·getD-eq-default (tab (inputPair n base) n) noLanes (rw (length-tab (inputPair n base) n) h)))) (lt-or-le i n)
 
   pub startInputs-proper : AllProper (lanesOf n) (startInputs n base)
   startInputs-proper = record { each = λ k. rw (startInputs-at k) (inputPairs-proper n base .each k) }

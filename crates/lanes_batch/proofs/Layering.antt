@@ -3,9 +3,10 @@
 --   lanes-one, lanes-swept, lanes-underway  one gate, a list of gates, and what is left on the way
 --   part-among, among-part                  positions of a part of the order
 --   advanced-none, -swept, -still, -decided, -then   sweeps over a part
---   straight-start, -more, -settled         a straight block, gate by gate
+--   straight-start, -more, -fixed           a straight block, gate by gate
 --   settled-decoded                         a graph's settled values are the block's
---   started-underway, reached-none, reached-one, reached-loop, reached-settled, lone-before   layers
+--   fresh-underway, reached-start, reached-one, reached-loop, reached-fixed, lone-before   layers
+--   started-fresh, fixed-batch              a batch of settings
 -- Assumes nothing.
 use mathlib.Core.Path.{_≡_, refl, sym, ap, ap₂, _∙_}
 use mathlib.Core.Logic.{inl, ⊎-elim}
@@ -45,14 +46,15 @@ use Rattle.lanes_dual_rail.specs.declared.Pair.{Pair}
 use Rattle.lanes_dual_rail.specs.Pairs.{lane, full, noLanes}
 use Rattle.lanes_dual_rail.specs.PairRounds.{evaluatedPair, LegalGate}
 use Rattle.lanes_dual_rail.specs.Batches.{lanesOf, inputPair}
-use Rattle.lanes_dual_rail.specs.LaneWords.{laneSize, pairAt, putPair, inputsIn, gatesIn, Filled, gatePairIn}
+use Rattle.lanes_dual_rail.specs.LaneWords.{laneSize, pairAt, putPair, inputsIn, gatesIn, gatePairIn}
 use Rattle.lanes_dual_rail.proofs.LaneLaws.{nothing-lane, nothing-proper}
 use Rattle.lanes_dual_rail.proofs.RoundLaws.{getD-lane}
 use Rattle.lanes_dual_rail.proofs.LaneWordLaws.{node-legal, gatePairIn-evaluated, put-inputs, put-gates, put-filled}
 use Rattle.lanes_batch.specs.Batch.{Underway, Swept, room, placeOf}
 use Rattle.lanes_batch.specs.Layered.{isOther, GateStored, GateEvaluated, GatesEvaluated, noGate, gateMore, Part, OrderPart, part, Among}
 use Rattle.lanes_batch.specs.Layered.{LanesUnderway, LanesSwept, roomIn, valueAt, evaluatedAt, Still, PartAdvanced, PartDecided}
-use Rattle.lanes_batch.specs.Layered.{startInputs, LanesStarted, Reached, LayersSettled, StraightReached, LanesSettled}
+use Rattle.lanes_batch.specs.Layered.{startInputs, LanesStarted, Reached, LayersSettled, StraightReached, LanesFresh, LanesFixed}
+use Rattle.lanes_batch.specs.Layered.{StraightUnder, StraightFixed, LanesSettled}
 use Rattle.lanes_batch.proofs.Sweeping.{swept-none, swept-one, swept-then, swept-underway, lane-defined}
 use Rattle.lanes_batch.proofs.Inputs.{settled-inputs, startInputs-proper, startInputs-lane}
 
@@ -293,17 +295,17 @@ decided-more {used} {order} {from} {i} {w} d l e f =
 
 -- ---- layers
 
-pub started-underway : {m n base : ℕ} {graph w : List ℕ} → n ≤ maxInputs → LanesStarted m n base w → LanesUnderway m n graph w
-started-underway {m} {n} {base} {graph} {w} few s =
-    let x = startInputs n base in
+pub fresh-underway : {m n : ℕ} {graph w : List ℕ} → LanesFresh m n w → LanesUnderway m n graph w
+fresh-underway {m} {n} {graph} {w} s =
+    let x = inputsIn w in
     let b = network m graph in
     let values : (i : ℕ) → map (lane i) (replicate m noLanes) ≡ replicate m undefined = λ i. map-replicate (lane i) m noLanes ∙ rw (nothing-lane i) in
     record {
       filled = s .filled;
       underway =
-          rw (s .inputs, s .gates)
+          rw (s .gates)
           (record {
-            inputsProper = startInputs-proper n base few;
+            inputsProper = s .inputsProper;
             proper = record { each = λ k. rw (getD-replicate-default m k noLanes) (nothing-proper (lanesOf n)) };
             long = length-replicate m noLanes ∙ sym (network-count m graph);
             rising = λ i l. rw (values i) (start-rising b (map (lane i) x) m);
@@ -311,8 +313,26 @@ started-underway {m} {n} {base} {graph} {w} few s =
           });
     }
 
-pub reached-none : {m n : ℕ} {graph order ends w : List ℕ} → LanesUnderway m n graph w → Reached m n graph order ends 0 w
-reached-none u = record { underway = u; closed = λ k l. absurd (omega arith); still = λ k l. absurd (omega arith) }
+pub reached-start : {m n : ℕ} {graph order ends w : List ℕ} → LanesFresh m n w → Reached m n graph order ends 0 w
+reached-start s = record { underway = fresh-underway s; closed = λ k l. absurd (omega arith); still = λ k l. absurd (omega arith) }
+
+-- a batch's lanes are such ones, and the values that are found there are those of its settings
+pub started-fresh : {m n base : ℕ} {w : List ℕ} → n ≤ maxInputs → LanesStarted m n base w → LanesFresh m n w
+started-fresh {n = n} {base = base} few s =
+    record { filled = s .filled; inputsProper = rw (s .inputs) (startInputs-proper n base few); gates = s .gates }
+
+pub fixed-batch : {b : Block} {m n base : ℕ} {w after : List ℕ} → n ≤ maxInputs → base % 64 ≡ 0 → LanesStarted m n base w → LanesFixed b n w after
+    → LanesSettled b n base after
+fixed-batch {b} {m} {n} {base} {w} {after} few aligned s f =
+    let inputs : inputsIn after ≡ startInputs n base = f .inputsKept ∙ s .inputs in
+    record {
+      filled = f .filled;
+      inputs = inputs;
+      inputsProper = f .inputsProper;
+      gatesProper = f .gatesProper;
+      settledLanes = λ k l. f .settledLanes k l
+          ∙ rw inputs (settled-inputs (map (lane k) (startInputs n base)) (settingOf n (base + k)) (startInputs-lane n base few aligned k l) b);
+    }
 
 -- a gate past the last has no value
 value-past : (m : ℕ) (w : List ℕ) (s j : ℕ) → m ≤ j → valueAt m w s j ≡ undefined
@@ -436,19 +456,17 @@ module _ {m : ℕ} {graph order ends : List ℕ} (layers : Layers m graph order 
       }
 
   -- all layers
-  pub reached-settled : {n : ℕ} {w : List ℕ} {base : ℕ} → n ≤ maxInputs → base % 64 ≡ 0 → Reached m n graph order ends m w → inputsIn w ≡ startInputs n base
-      → LanesSettled (network m graph) n base w
+  pub reached-fixed : {n : ℕ} {start w : List ℕ} → Reached m n graph order ends m w → inputsIn w ≡ inputsIn start → LanesFixed (network m graph) n start w
   unfolding evaluatedAt valueAt
-  reached-settled {n} {w} {base} few aligned r inputs =
+  reached-fixed {n} {start} {w} r inputs =
       record {
         filled = r .underway .filled;
-        inputs = inputs;
+        inputsKept = inputs;
         inputsProper = r .underway .underway .inputsProper;
         gatesProper = rw (network-count m graph) (r .underway .underway .proper);
         settledLanes = λ s l. rw (network-count m graph)
             (fixed-settled b (map (lane s) (inputsIn w)) (map (lane s) (gatesIn m w)) (values-long m s w ∙ sym (network-count m graph))
-            (r .underway .underway .below s l) (fixed s l)
-            ∙ rw inputs (settled-inputs (map (lane s) (startInputs n base)) (settingOf n (base + s)) (startInputs-lane n base few aligned s l) b));
+            (r .underway .underway .below s l) (fixed s l));
       }
     where
       b : Block
@@ -484,24 +502,28 @@ straight-layers m graph h =
           rw (as-come-at m i l) (straight-reads (network m graph) h i k (rw (as-come-at m i l, as-come-at m k q) at e));
     }
 
-pub straight-start : {m n base : ℕ} {graph w : List ℕ} → n ≤ maxInputs → LanesStarted m n base w → StraightReached m n graph 0 w
-straight-start few s = record { reached = reached-none (started-underway few s) }
+pub straight-start : (m : ℕ) (graph w : List ℕ) → StraightUnder m graph w 0 w
+straight-start m graph w = record { each = λ n s. (record { reached = reached-start s }, refl) }
 
 module _ (m : ℕ) (graph : List ℕ) (h : isStraight (network m graph) ≡ true) where
   -- one gate more
-  pub straight-more : {n i : ℕ} {w after : List ℕ} → Graph m graph → i < m → StraightReached m n graph i w
-      → GateStored graph i w after → StraightReached m n graph (i + 1) after × (inputsIn after ≡ inputsIn w)
+  pub straight-more : {i : ℕ} {start w after : List ℕ} → Graph m graph → i < m → StraightUnder m graph start i w
+      → GateStored graph i w after → StraightUnder m graph start (i + 1) after
   unfolding as-come
-  straight-more {n} {i} {w} {after} g l r e =
+  straight-more {i} {start} {w} {after} g l r e =
       let e′ : GateStored graph (getD (as-come m) i 0) w after = rw (as-come-at m i l) e in
-      let s = reached-one (straight-layers m graph h) i g l (as-come-at m i l) (r .reached) e′ in
-      (record { reached = s .reached }, s .inputsKept)
+      record {
+        each = λ n f.
+            let p = r .each n f in
+            let s = reached-one (straight-layers m graph h) i g l (as-come-at m i l) (p .0 .reached) e′ in
+            (record { reached = s .reached }, s .inputsKept ∙ p .1);
+      }
 
   -- all of them
-  pub straight-settled : {n base : ℕ} {w : List ℕ} → n ≤ maxInputs → base % 64 ≡ 0 → StraightReached m n graph m w → inputsIn w ≡ startInputs n base
-      → LanesSettled (network m graph) n base w
+  pub straight-fixed : {start w : List ℕ} → StraightUnder m graph start m w → StraightFixed m graph start w
   unfolding as-come
-  straight-settled few aligned r inputs = reached-settled (straight-layers m graph h) few aligned (r .reached) inputs
+  straight-fixed r =
+      record { each = λ n f. let p = r .each n f in reached-fixed (straight-layers m graph h) (p .0 .reached) (p .1) }
 
 -- ---- a block's words
 

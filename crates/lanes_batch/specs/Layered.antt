@@ -5,7 +5,8 @@
 --   LanesUnderway, LanesSwept the pairs on the way to the settled values, and after a list of gates was evaluated
 --   Still, PartAdvanced, PartDecided   gates that have the values that their evaluation gives
 --   Reached, LayersSettled, StraightReached   the layers below a position are settled
---   startInputs, LanesStarted the first pairs
+--   startInputs, LanesStarted, ConstantsStarted, InputsPut   the first pairs
+--   LanesFresh, LanesFixed, StraightFixed   the settled values from any inputs
 --   LanesSettled              the settled values of a batch
 --   PlanRoom, Planned, StraightPlanned   a block's words, decoded and in layers, or straight
 -- Assumes nothing.
@@ -117,8 +118,11 @@ pub record PartDecided (used : ℕ) (order : List ℕ) (from end : ℕ) (w : Lis
 -- ---- a batch
 
 -- the pairs of the inputs: undefined past the block's own
+unfoldable pub padded : ℕ → (ℕ → Pair) → List Pair
+padded n pair = tab (λ i. cond (ltb i n) (pair i) noLanes) maxInputs
+
 unfoldable pub startInputs : ℕ → ℕ → List Pair
-startInputs n base = tab (λ i. cond (ltb i n) (inputPair n base i) noLanes) maxInputs
+startInputs n base = padded n (inputPair n base)
 
 pub record LanesStarted (m n base : ℕ) (w : List ℕ) : Type 0 where
   pub filled : Filled (full (lanesOf n)) w
@@ -130,10 +134,15 @@ pub record Cleared (end : ℕ) (w after : List ℕ) : Type 0 where
   pub long : length after ≡ length w
   pub none : (k : ℕ) → k < end → getD after k 0 ≡ 0
 
+-- the constants are there, in use are the lanes of a block of n inputs, and nothing else among the first m gates is defined
+pub record ConstantsStarted (m n : ℕ) (w : List ℕ) : Type 0 where
+  pub filled : Filled (full (lanesOf n)) w
+  pub blank : (p : ℕ) → firstInput ≤ p → p < firstGate + m → pairAt w p ≡ noLanes
+
 -- the pairs of the first k inputs are put
-pub record InputsStarted (n base k : ℕ) (w after : List ℕ) : Type 0 where
+pub record InputsPut (pair : ℕ → Pair) (k : ℕ) (w after : List ℕ) : Type 0 where
   pub long : length after ≡ length w
-  pub put : (i : ℕ) → i < k → pairAt after (firstInput + i) ≡ inputPair n base i
+  pub put : (i : ℕ) → i < k → pairAt after (firstInput + i) ≡ pair i
   pub before : (p : ℕ) → p < firstInput → pairAt after p ≡ pairAt w p
   pub behind : (p : ℕ) → firstInput + k ≤ p → pairAt after p ≡ pairAt w p
 
@@ -153,6 +162,27 @@ pub record LayersSettled (m n : ℕ) (graph order ends : List ℕ) (i : ℕ) (w 
 -- the gates below j are still, where gates stand as they come, each a layer of its own
 pub record StraightReached (m n : ℕ) (graph : List ℕ) (i : ℕ) (w : List ℕ) : Type 0 where
   pub reached : Reached m n graph (tab (λ k. k) m) (tab (λ k. k) m) i w
+
+-- before the first evaluation: the inputs are as they may be, and no gate is defined
+pub record LanesFresh (m n : ℕ) (w : List ℕ) : Type 0 where
+  pub filled : Filled (full (lanesOf n)) w
+  pub inputsProper : AllProper (lanesOf n) (inputsIn w)
+  pub gates : gatesIn m w ≡ replicate m noLanes
+
+-- the inputs are as they were, and at every lane the gates have the settled values of the inputs there
+pub record LanesFixed (b : Block) (n : ℕ) (w after : List ℕ) : Type 0 where
+  pub filled : Filled (full (lanesOf n)) after
+  pub inputsKept : inputsIn after ≡ inputsIn w
+  pub inputsProper : AllProper (lanesOf n) (inputsIn after)
+  pub gatesProper : AllProper (lanesOf n) (gatesIn (gateCount b) after)
+  pub settledLanes : (s : ℕ) → s < lanesOf n → map (lane s) (gatesIn (gateCount b) after) ≡ settled b (map (lane s) (inputsIn after))
+
+-- of any lanes in use that were started, the first i gates of a straight block are still; and after all of them
+pub record StraightUnder (m : ℕ) (graph w : List ℕ) (i : ℕ) (after : List ℕ) : Type 0 where
+  pub each : (n : ℕ) → LanesFresh m n w → StraightReached m n graph i after × (inputsIn after ≡ inputsIn w)
+
+pub record StraightFixed (m : ℕ) (graph w after : List ℕ) : Type 0 where
+  pub each : (n : ℕ) → LanesFresh m n w → LanesFixed (network m graph) n w after
 
 -- the settled values of a block's first m gates, of n inputs, in the batch at `base`
 pub record LanesSettled (b : Block) (n base : ℕ) (w : List ℕ) : Type 0 where

@@ -21,12 +21,11 @@ ghost use Rattle.netlist.specs.Limits.{maxInputs, maxGates};
 ghost use Rattle.netlist.specs.Rendering.{isStraight};
 ghost use Rattle.graph_gates.specs.Graph.{Node, Graph, network};
 ghost use Rattle.graph_scc.specs.Layers.{Layers};
-ghost use Rattle.lanes_dual_rail.specs.Pairs.{full};
-ghost use Rattle.lanes_dual_rail.specs.Batches.{lanesOf};
-ghost use Rattle.lanes_dual_rail.specs.LaneWords.{laneSize, inputsIn};
+ghost use Rattle.lanes_dual_rail.specs.Batches.{inputPair};
+ghost use Rattle.lanes_dual_rail.specs.LaneWords.{laneSize};
 ghost use Rattle.lanes_batch.specs.Batch.{placeOf};
 ghost use Rattle.lanes_batch.specs.Layered.{GateStored, GateEvaluated, GatesEvaluated, Part, OrderPart, part, LanesUnderway, PartAdvanced, PartDecided, roomIn};
-ghost use Rattle.lanes_batch.specs.Layered.{Cleared, InputsStarted, LanesStarted, Reached, LayersSettled, LanesSettled};
+ghost use Rattle.lanes_batch.specs.Layered.{Cleared, ConstantsStarted, InputsPut, LanesStarted, Reached, LayersSettled, LanesFresh, LanesFixed, StraightFixed, LanesSettled};
 
 // Stores 0 in the words below `end`.
 fn clear_words(end: usize, lanes: &mut [u64; LANE_WORDS])
@@ -43,7 +42,7 @@ fn clear_words(end: usize, lanes: &mut [u64; LANE_WORDS])
 // Stores every input's pair.
 fn put_inputs(n: usize, base: usize, lanes: &mut [u64; LANE_WORDS])
     requires { ⌜ (n ≤ maxInputs) × (length (now lanes) ≡ laneSize) ⌝ }
-    ensures { λ r. ⌜ InputsStarted n base n (now (lanes .entry)) (now (lanes .exit)) ⌝ }
+    ensures { λ r. ⌜ InputsPut (inputPair n base) n (now (lanes .entry)) (now (lanes .exit)) ⌝ }
 {
     let mut k = 0;
     while k < n {
@@ -52,10 +51,10 @@ fn put_inputs(n: usize, base: usize, lanes: &mut [u64; LANE_WORDS])
     }
 }
 
-// Stores the constants' pairs and every input's, and makes every gate undefined.
-pub fn start_lanes(m: usize, n: usize, base: usize, lanes: &mut [u64; LANE_WORDS])
-    requires { ⌜ (m ≤ maxGates) × (n ≤ maxInputs) × (length (now lanes) ≡ laneSize) ⌝ }
-    ensures { λ r. ⌜ LanesStarted m n base (now (lanes .exit)) ⌝ }
+// Stores the constants' pairs at the lanes of a block of n inputs, and makes every input and every gate undefined.
+pub fn start_constants(m: usize, n: usize, lanes: &mut [u64; LANE_WORDS])
+    requires { ⌜ (m ≤ maxGates) × (length (now lanes) ≡ laneSize) ⌝ }
+    ensures { λ r. ⌜ ConstantsStarted m n (now (lanes .exit)) ⌝ }
 {
     clear_words(2 * (FIRST_GATE + m), lanes);
     let used = used_lanes(n);
@@ -75,6 +74,14 @@ pub fn start_lanes(m: usize, n: usize, base: usize, lanes: &mut [u64; LANE_WORDS
             ones: used, // constant 1
         },
     );
+}
+
+// Stores the constants' pairs and every input's, and makes every gate undefined.
+pub fn start_lanes(m: usize, n: usize, base: usize, lanes: &mut [u64; LANE_WORDS])
+    requires { ⌜ (m ≤ maxGates) × (n ≤ maxInputs) × (length (now lanes) ≡ laneSize) ⌝ }
+    ensures { λ r. ⌜ LanesStarted m n base (now (lanes .exit)) ⌝ }
+{
+    start_constants(m, n, lanes);
     put_inputs(n, base, lanes);
 }
 
@@ -201,7 +208,7 @@ fn settle_loop(
 
 // Settles the layer that starts at position `i`, and if that is a gate on no loop, all such gates up to the next loop;
 // gives the position at which the next layer starts.
-fn settle_layers(
+fn settle_run(
     graph: &[u16; GRAPH_WORDS],
     m: usize,
     n: usize,
@@ -228,8 +235,8 @@ fn settle_layers(
     k
 }
 
-// Settles layer after layer, whatever the inputs are: afterwards no gate can change any more.
-pub fn walk_layers(
+// Settles started lanes layer by layer, whatever the values of their inputs are.
+pub fn settle_layers(
     graph: &[u16; GRAPH_WORDS],
     m: usize,
     n: usize,
@@ -237,15 +244,25 @@ pub fn walk_layers(
     ends: &[u16; MAX_GATES],
     lanes: &mut [u64; LANE_WORDS],
 )
-    requires { ⌜ Graph m (now graph) × Layers m (now graph) (now order) (now ends) × LanesUnderway m n (now graph) (now lanes) ⌝ }
-    ensures { λ r. ⌜
-        Reached m n (now (graph .entry)) (now (order .entry)) (now (ends .entry)) m (now (lanes .exit))
-        × (inputsIn (now (lanes .exit)) ≡ inputsIn (now (lanes .entry)))
-        ⌝ }
+    requires { ⌜ Graph m (now graph) × Layers m (now graph) (now order) (now ends) × LanesFresh m n (now lanes) ⌝ }
+    ensures { λ r. ⌜ LanesFixed (network m (now (graph .entry))) n (now (lanes .entry)) (now (lanes .exit)) ⌝ }
 {
     let mut i = 0;
     while i < m {
-        i = settle_layers(graph, m, n, order, ends, i, lanes);
+        i = settle_run(graph, m, n, order, ends, i, lanes);
+    }
+}
+
+// Settles started lanes of a straight block: its gates, each of which reads only gates before it, are evaluated once, as
+// they come.
+pub fn settle_straight(graph: &[u16; GRAPH_WORDS], m: usize, lanes: &mut [u64; LANE_WORDS])
+    requires { ⌜ Graph m (now graph) × (isStraight (network m (now graph)) ≡ true) ⌝ }
+    ensures { λ r. ⌜ StraightFixed m (now (graph .entry)) (now (lanes .entry)) (now (lanes .exit)) ⌝ }
+{
+    let mut j = 0;
+    while j < m {
+        evaluate(graph, j, lanes);
+        j += 1;
     }
 }
 
@@ -264,11 +281,10 @@ pub fn decide_batch(
     ensures { λ r. ⌜ LanesSettled (network m (now (graph .entry))) n base (now (lanes .exit)) ⌝ }
 {
     start_lanes(m, n, base, lanes);
-    walk_layers(graph, m, n, order, ends, lanes);
+    settle_layers(graph, m, n, order, ends, lanes);
 }
 
-// Finds the settled values of a straight block: its gates, each of which reads only gates before it, are evaluated once,
-// as they come.
+// Finds the settled values of a straight block's batch.
 pub fn decide_straight(
     graph: &[u16; GRAPH_WORDS],
     m: usize,
@@ -281,9 +297,5 @@ pub fn decide_straight(
     ensures { λ r. ⌜ LanesSettled (network m (now (graph .entry))) n base (now (lanes .exit)) ⌝ }
 {
     start_lanes(m, n, base, lanes);
-    let mut j = 0;
-    while j < m {
-        evaluate(graph, j, lanes);
-        j += 1;
-    }
+    settle_straight(graph, m, lanes);
 }

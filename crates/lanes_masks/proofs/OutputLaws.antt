@@ -1,5 +1,6 @@
 -- The outputs of a decided batch, lane by lane.
 --   output-there, outputs-there     outputs can be read
+--   output-operand, output-is       an output's node
 --   output-proper, output-lane      an output's pair
 --   undefined-tells                 where it is undefined
 --   unsettled-tells                 where one of them is
@@ -34,7 +35,7 @@ use Rattle.lanes_dual_rail.specs.declared.Pair.{Pair}
 use Rattle.lanes_dual_rail.specs.Pairs.{markedLanes, lane, Proper, full}
 use Rattle.lanes_dual_rail.specs.Batches.{lanesOf}
 use Rattle.lanes_dual_rail.specs.PairRounds.{operandPair}
-use Rattle.lanes_dual_rail.specs.LaneWords.{inputsIn, gatesIn}
+use Rattle.lanes_dual_rail.specs.LaneWords.{inputsIn, gatesIn, Filled}
 use Rattle.lanes_dual_rail.proofs.BitLaws.{bit-low, bit-or, bit-xor, bit-full}
 use Rattle.lanes_dual_rail.proofs.RoundLaws.{operandPair-proper, operandPair-lane}
 use Rattle.lanes_dual_rail.proofs.LaneWordLaws.{place-operand}
@@ -138,17 +139,25 @@ module _ (ws : List ℕ) (whole : isMalformed ws ≡ false) {n : ℕ} (inputs : 
   pub outputs-there : OutputsThere ws at n (getD ws 2 0)
   outputs-there = record { many = omega (arith, whole-parts ws whole .fewOutputs); each = output-there }
 
+  -- an output's pair is that of its node, whatever the inputs of the lanes are
+  pub output-operand : {used : ℕ} {w : List ℕ} → Filled used w → (o : ℕ) → o < getD ws 2 0 → outputPair ws at n w o
+      ≡ operandPair used (inputsIn w) (gatesIn (gateCount (decode ws)) w) (operandOf n (getD ws (at + outputSize * o + nameSize) 0))
+  unfolding outputPair word
+  output-operand {used} {w} filled o l =
+      let inside = node-inside o l in
+      place-operand filled (gateCount (decode ws)) _ (rw (decode-gateCount ws) (place-there o l))
+      ∙ ap (operandPair used (inputsIn w) (gatesIn (gateCount (decode ws)) w))
+      (operandAt-word n (getD ws (at + outputSize * o + nameSize) 0) few (omega (arith, few, whole-parts ws whole .fewGates)))
+
+  -- the words of output o
+  pub output-is : (o : ℕ) (d : Output) → o < getD ws 2 0 → outputAt n ws (at + outputSize * o) ≡ getD (decode ws .outputs) o d
+  output-is o d l = rw (first, inputs) (sym (decode-output ws o d l))
+
 module _ {ws : List ℕ} {n base : ℕ} {w : List ℕ} (j : Judged ws n base w) {at : ℕ}
     (first : at ≡ outputsAt (getD ws 0 0) (getD ws 3 0) (getD ws 1 0)) where
   pair-is : (o : ℕ) → o < getD ws 2 0 → outputPair ws at n w o
       ≡ operandPair (full (lanesOf n)) (inputsIn w) (gatesIn (gateCount (decode ws)) w) (operandOf n (getD ws (at + outputSize * o + nameSize) 0))
-  unfolding outputPair word
-  pair-is o l =
-      let few = j .fewInputs in
-      let inside = node-inside ws (j .whole) (j .inputs) first o l in
-      place-operand (j .settled .filled) (gateCount (decode ws)) _ (rw (decode-gateCount ws) (place-there ws (j .whole) (j .inputs) first o l))
-      ∙ ap (operandPair (full (lanesOf n)) (inputsIn w) (gatesIn (gateCount (decode ws)) w))
-      (operandAt-word n (getD ws (at + outputSize * o + nameSize) 0) few (omega (arith, whole-parts ws (j .whole) .fewGates)))
+  pair-is o l = output-operand ws (j .whole) (j .inputs) first (j .settled .filled) o l
 
   pub output-proper : (o : ℕ) → o < getD ws 2 0 → Proper (lanesOf n) (outputPair ws at n w o)
   output-proper o l =
@@ -157,10 +166,6 @@ module _ {ws : List ℕ} {n base : ℕ} {w : List ℕ} (j : Judged ws n base w) 
   as-many : (s : ℕ) → length (outputsUnder (decode ws) s) ≡ getD ws 2 0
   unfolding outputsUnder
   as-many s = length-map (decode ws .outputs) _ ∙ decode-outputCount ws
-
-  -- the words of output o
-  output-is : (o : ℕ) (d : Output) → o < getD ws 2 0 → outputAt n ws (at + outputSize * o) ≡ getD (decode ws .outputs) o d
-  output-is o d l = rw (first, j .inputs) (sym (decode-output ws o d l))
 
   -- at each lane the pair holds what the output shows under that setting
   pub output-lane : (o : ℕ) → o < getD ws 2 0 → (s : ℕ) → s < lanesOf n
@@ -182,7 +187,7 @@ module _ {ws : List ℕ} {n base : ℕ} {w : List ℕ} (j : Judged ws n base w) 
       ∙ rw many refl) in
       let inside : o < length (map shows (b .outputs)) = rw (as-many (base + s)) there in
       let shown : shows (outputAt n ws (at + outputSize * o)) ≡ getD (map shows (b .outputs)) o undefined =
-      ap shows (output-is o d there) ∙ sym (getD-defaults (map shows (b .outputs)) o undefined (shows d) inside ∙ List·getD-map shows (b .outputs) o d) in
+      ap shows (output-is ws (j .whole) (j .inputs) first o d there) ∙ sym (getD-defaults (map shows (b .outputs)) o undefined (shows d) inside ∙ List·getD-map shows (b .outputs) o d) in
       values ∙ ap (λ (k : ℕ). operandValue (settingOf k (base + s)) (settledUnder b (base + s)) (operandOf n word)) many ∙ shown
 
   pub undefined-tells : (o : ℕ) → o < getD ws 2 0 → Tells (lanesOf n) base (isUndefinedAt (decode ws) o) (undefinedWord ws at n w o)

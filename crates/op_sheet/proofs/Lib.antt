@@ -1,6 +1,8 @@
 -- The laws that the proofs of this crate cite, and the theorem on calls one after another.
 pub mod MaskLaws
-pub mod OutputLaws
+pub mod SideLaws
+pub mod SettledLaws
 pub mod RecordLaws
-pub mod Turns
+pub mod TurnLaws
+pub mod Walked
 pub mod OneByOne

@@ -2,19 +2,20 @@
 use mathlib.Core.Path.{_≡_}
 use Prim.Native.Nat.{_-_, _≤_}
 use native.Mathlib.Omega.{arith}
-use Rattle.lanes_batch.specs.Layered.{InputsStarted}
+use Rattle.lanes_dual_rail.specs.Batches.{inputPair}
+use Rattle.lanes_batch.specs.Layered.{InputsPut}
 use Rattle.lanes_batch.proofs.Starting.{inputs-none, inputs-more}
 use Rattle.lanes_batch.proofs.layered.put_inputs.Statement.{statement}
 use Rattle.lanes_batch.proofs.layered.put_inputs.Tie as tie
 
 abbrev Inv-loop : tie.InvT-loop
-Inv-loop n base lanes₀ k₀ lanes k = (k ≤ n) × InputsStarted n base k lanes₀ lanes
+Inv-loop n base lanes₀ k₀ lanes k = (k ≤ n) × InputsPut (inputPair n base) k lanes₀ lanes
 
 abbrev μ-loop : tie.MeasureT-loop
 μ-loop n base lanes₀ k₀ lanes k = n - k
 
 loop-holds : tie.Need-loop-holds Inv-loop μ-loop
-loop-holds c = (omega arith, inputs-none _ _ _)
+loop-holds c = (omega arith, inputs-none _ _)
 
 loop-again : tie.Need-loop-again Inv-loop μ-loop
 loop-again c =
