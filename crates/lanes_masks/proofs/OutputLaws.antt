@@ -187,7 +187,8 @@ module _ {ws : List ℕ} {n base : ℕ} {w : List ℕ} (j : Judged ws n base w) 
       ∙ rw many refl) in
       let inside : o < length (map shows (b .outputs)) = rw (as-many (base + s)) there in
       let shown : shows (outputAt n ws (at + outputSize * o)) ≡ getD (map shows (b .outputs)) o undefined =
-      ap shows (output-is ws (j .whole) (j .inputs) first o d there) ∙ sym (getD-defaults (map shows (b .outputs)) o undefined (shows d) inside ∙ List·getD-map shows (b .outputs) o d) in
+      ap shows (output-is ws (j .whole) (j .inputs) first o d there)
+      ∙ sym (getD-defaults (map shows (b .outputs)) o undefined (shows d) inside ∙ List·getD-map shows (b .outputs) o d) in
       values ∙ ap (λ (k : ℕ). operandValue (settingOf k (base + s)) (settledUnder b (base + s)) (operandOf n word)) many ∙ shown
 
   pub undefined-tells : (o : ℕ) → o < getD ws 2 0 → Tells (lanesOf n) base (isUndefinedAt (decode ws) o) (undefinedWord ws at n w o)

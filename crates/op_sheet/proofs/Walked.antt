@@ -203,8 +203,10 @@ module _ (ws : List ℕ) (rs : List Record) (d : Record) (t : ℕ) (small : t < 
           let s : ℕ = t % 128 - sizeAt (length rs) t in
           let l : s < sizeAt (length rs) t = omega arith in
           let p : 64 * (t / 128) + s ≡ placeAt (length rs) t = sym (place-answers (length rs) t h) in
-          let ef : getD (b .fixed) s 0 ≡ z .fixed = state .fixed s (omega arith) l ∙ ap (λ (k : ℕ). getD rs k d .fixed) p ∙ ap (λ (y : Record). y .fixed) (sym is) in
-          let eo : getD (b .ones) s 0 ≡ z .ones = state .ones s (omega arith) l ∙ ap (λ (k : ℕ). getD rs k d .ones) p ∙ ap (λ (y : Record). y .ones) (sym is) in
+          let ef : getD (b .fixed) s 0 ≡ z .fixed =
+          state .fixed s (omega arith) l ∙ ap (λ (k : ℕ). getD rs k d .fixed) p ∙ ap (λ (y : Record). y .fixed) (sym is) in
+          let eo : getD (b .ones) s 0 ≡ z .ones =
+          state .ones s (omega arith) l ∙ ap (λ (k : ℕ). getD rs k d .ones) p ∙ ap (λ (y : Record). y .ones) (sym is) in
           record { whole = whole; below = omega arith; shows = rw (turn .kept h, ← ef, ← eo) (state .settled h .each s l) }
 
   -- the masks that were read, with this turn's

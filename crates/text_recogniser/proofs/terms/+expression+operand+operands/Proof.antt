@@ -38,7 +38,8 @@ use Rattle.text_recogniser.specs.Scan.{scanOf}
 use Rattle.text_recogniser.proofs.Shortens.{shortens-term}
 use Rattle.text_recogniser.proofs.ListFacts.{lastOnes}
 use Rattle.text_recogniser.proofs.Chain.{Behind, lent, lent-last, lent-last-length, lent-rest-length, then-last}
-use Rattle.text_recogniser.proofs.Operands.{inner, start-there, operand-name, operand-0, operand-1, operand-inner, inner-deepest, inner-other, inner-expression}
+use Rattle.text_recogniser.proofs.Operands.{inner, start-there, operand-name, operand-0, operand-1}
+use Rattle.text_recogniser.proofs.Operands.{operand-inner, inner-deepest, inner-other, inner-expression}
 use Rattle.text_recogniser.proofs.OperandLists.{expression-kind, expression-none}
 use Rattle.text_recogniser.proofs.OperandSteps.{OperandsLeft, operands-start, operands-end, left-there, left-closed, left-needed, left-other}
 use Rattle.text_recogniser.proofs.OperandSteps.{space-there, left-bad, left-next}
@@ -406,7 +407,8 @@ module _ (t : ℕ) where
       let g = start a .args in
       let l = turn a .loop in
       left-next (termReader (g .depth)) (text a) (g .most) (g .needed) (l .i) (l .left) (l .inv) (rest a) (lent-here a)
-      (a .before .before .loop-test .taken) (a .byte-at .ensures) (b .before .if1 .left) (b .if3 .left) (told m) (shortens-term (g .depth)) (c .before .found .given .1)
+      (a .before .before .loop-test .taken) (a .byte-at .ensures) (b .before .if1 .left) (b .if3 .left) (told m)
+      (shortens-term (g .depth)) (c .before .found .given .1)
 
   operands-sub-word : operands-lts.Need-sub-word (operands-claims t) (operands-at t) operands.Post Inv μ
   operands-sub-word c = c .before .loop .inv .within
