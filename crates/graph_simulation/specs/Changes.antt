@@ -64,8 +64,8 @@ pub record ListReady (m : ℕ) (fanout : List ℕ) (from : ℕ) : Type 0 where
   pub starts : from ≤ slots * m
 
 -- gate j was evaluated, and queued if it changed
-pub record UpdatedOne (m : ℕ) (graph values found queue : List ℕ) (end j : ℕ) (found′ queue′ : List ℕ) (end′ : ℕ) : Type
-    0 where
+pub record UpdatedOne (m : ℕ) (graph values found queue : List ℕ) (end j : ℕ) (found′ queue′ : List ℕ)
+    (end′ : ℕ) : Type 0 where
   pub updated : Updated m graph values found queue end found′ queue′ end′
   pub done : Done graph values found′ j
 

@@ -1,5 +1,5 @@
 -- What settling asks of what is prepared, and what it leaves in the array of values. Cited by the contracts of this
--- crate and of those that settle: Settle, Pass, Sheet and the bench. Assumes nothing.
+-- crate and of those that go by it: Settle, Pass and the bench. Assumes nothing.
 --   PreparedFor   the graph and the fan-out of a block's gates
 --   Bytes, Blank  a setting's bytes, and an array in which nothing has a value
 --   Starting      an array with the inputs' values, in which no gate has a value

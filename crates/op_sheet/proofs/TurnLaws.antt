@@ -9,7 +9,7 @@ use lib.ListN.{length, set, length-set}
 use Rattle.netlist.specs.declared.Record.{Record}
 use Rattle.op_sheet.specs.declared.turns.Batch.{Batch}
 use Rattle.op_sheet.specs.Side.{SettledLanes, Room}
-use Rattle.op_sheet.specs.Order.{sizeAt, Advanced}
+use Rattle.op_sheet.specs.Order.{sizeAt, BatchAdvanced}
 
 -- the batch with the masks of one record more
 abbrev more : Batch → ℕ → Record → List ℕ → Batch
@@ -24,7 +24,7 @@ more-room {b} s z shown room e =
     }
 
 module _ {ws : List ℕ} {count t : ℕ} {z : Record} {b : Batch} (room : Room b) where
-  pub advanced-kept : sizeAt count t ≤ t % 128 → Advanced ws count t z b b
+  pub advanced-kept : sizeAt count t ≤ t % 128 → BatchAdvanced ws count t z b b
   advanced-kept h =
       record {
         room = room;
@@ -34,7 +34,7 @@ module _ {ws : List ℕ} {count t : ℕ} {z : Record} {b : Batch} (room : Room b
         kept = λ l. refl;
       }
 
-  pub advanced-read : t % 128 + 1 < sizeAt count t → Advanced ws count t z b (more b (t % 128) z (b .shown))
+  pub advanced-read : t % 128 + 1 < sizeAt count t → BatchAdvanced ws count t z b (more b (t % 128) z (b .shown))
   advanced-read h =
       record {
         room = more-room (t % 128) z (b .shown) room (room .shownRoom);
@@ -46,7 +46,7 @@ module _ {ws : List ℕ} {count t : ℕ} {z : Record} {b : Batch} (room : Room b
 
   pub advanced-full : {shown : List ℕ} → t % 128 < sizeAt count t
       → SettledLanes ws (sizeAt count t) (set (b .fixed) (t % 128) (z .fixed)) (set (b .ones) (t % 128) (z .ones)) shown
-      → Advanced ws count t z b (more b (t % 128) z shown)
+      → BatchAdvanced ws count t z b (more b (t % 128) z shown)
   advanced-full {shown} h s =
       record {
         room = more-room (t % 128) z shown room (s .long);

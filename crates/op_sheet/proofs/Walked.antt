@@ -23,7 +23,7 @@ use Rattle.netlist.specs.Answers.{countOf, answerOf, Shows}
 use Rattle.netlist.specs.Sheet.{answeredRecord, sheetRecords, sheet}
 use Rattle.op_sheet.specs.declared.turns.Batch.{Batch}
 use Rattle.op_sheet.specs.Side.{SettledLanes, Room}
-use Rattle.op_sheet.specs.Order.{sizeAt, readsAt, placeAt, Advanced, Answerable, turned}
+use Rattle.op_sheet.specs.Order.{sizeAt, readsAt, recordAt, BatchAdvanced, Answerable, turned}
 use Rattle.op_sheet.proofs.RecordLaws.{sheet-malformed, sheet-done}
 
 module _ (f : Record → Record) where
@@ -106,20 +106,20 @@ answered-next count t small h = ⊎-elim within last (lt-or-le (t % 128) 127)
         none-left a k = omega arith
 
 -- the place of a turn that reads, and of one that answers
-place-reads : (count t : ℕ) → t % 128 < sizeAt count t → placeAt count t ≡ 64 * (t / 128) + t % 128
-unfolding placeAt readsAt
+place-reads : (count t : ℕ) → t % 128 < sizeAt count t → recordAt count t ≡ 64 * (t / 128) + t % 128
+unfolding recordAt readsAt
 place-reads count t l = rw (lt-ltb (t % 128) (sizeAt count t) l)
 
-place-answers : (count t : ℕ) → sizeAt count t ≤ t % 128 → placeAt count t ≡ answered count t
-unfolding placeAt readsAt
+place-answers : (count t : ℕ) → sizeAt count t ≤ t % 128 → recordAt count t ≡ answered count t
+unfolding recordAt readsAt
 place-answers count t l = rw (le-ltb (t % 128) (sizeAt count t) l)
 
 -- the place of a turn is one that is not answered yet
-place-before : (count t : ℕ) → answered count t ≤ placeAt count t
+place-before : (count t : ℕ) → answered count t ≤ recordAt count t
 place-before count t =
     ⊎-elim (λ l. rw (place-reads count t l) (omega arith)) (λ h. rw (place-answers count t h) (omega arith)) (lt-or-le (t % 128) (sizeAt count t))
 
-place-fits : (count t : ℕ) → t < 2 * count → placeAt count t < count
+place-fits : (count t : ℕ) → t < 2 * count → recordAt count t < count
 place-fits count t small =
     ⊎-elim (λ l. rw (place-reads count t l) (omega arith)) (λ h. rw (place-answers count t h) (omega arith)) (lt-or-le (t % 128) (sizeAt count t))
 
@@ -135,7 +135,7 @@ before-none ws rs = rw (answered-none (length rs))
 
 module _ (ws : List ℕ) (rs : List Record) (d : Record) (t : ℕ) where
   abbrev place : ℕ
-  place = placeAt (length rs) t
+  place = recordAt (length rs) t
 
   -- the record that the turn finds
   turn-finds : getD (before ws rs t) place d ≡ getD rs place d
@@ -186,8 +186,8 @@ batch-begins ws rs d t e room =
 pub batch-first : (ws : List ℕ) (rs : List Record) (d : Record) {b : Batch} → Room b → BatchAt ws rs d 0 b
 batch-first ws rs d room = batch-begins ws rs d 0 refl room
 
-module _ (ws : List ℕ) (rs : List Record) (d : Record) (t : ℕ) (small : t < 2 * length rs) {z : Record} (is : z ≡ getD rs (placeAt (length rs) t) d)
-    {b after : Batch} (state : BatchAt ws rs d t b) (turn : Advanced ws (length rs) t z b after) where
+module _ (ws : List ℕ) (rs : List Record) (d : Record) (t : ℕ) (small : t < 2 * length rs) {z : Record} (is : z ≡ getD rs (recordAt (length rs) t) d)
+    {b after : Batch} (state : BatchAt ws rs d t b) (turn : BatchAdvanced ws (length rs) t z b after) where
   -- what an answer asks
   batch-answers : isMalformed ws ≡ false → readsAt (length rs) t ≡ false
       → Answerable ws (t % 128 - sizeAt (length rs) t) (z .fixed) (z .ones) (after .shown)
@@ -202,7 +202,7 @@ module _ (ws : List ℕ) (rs : List Record) (d : Record) (t : ℕ) (small : t < 
       answers h =
           let s : ℕ = t % 128 - sizeAt (length rs) t in
           let l : s < sizeAt (length rs) t = omega arith in
-          let p : 64 * (t / 128) + s ≡ placeAt (length rs) t = sym (place-answers (length rs) t h) in
+          let p : 64 * (t / 128) + s ≡ recordAt (length rs) t = sym (place-answers (length rs) t h) in
           let ef : getD (b .fixed) s 0 ≡ z .fixed =
           state .fixed s (omega arith) l ∙ ap (λ (k : ℕ). getD rs k d .fixed) p ∙ ap (λ (y : Record). y .fixed) (sym is) in
           let eo : getD (b .ones) s 0 ≡ z .ones =
@@ -286,24 +286,24 @@ module _ (ws : List ℕ) (rs : List Record) (r : Reply) (said : Shows (answerOf 
   -- one of the turns, where the records before turn k are `before k`
   module _ (d : Record) (t : ℕ) (small : t < 2 * r .count) where
     abbrev found : Record
-    found = getD (before ws rs t) (placeAt (r .count) t) d
+    found = getD (before ws rs t) (recordAt (r .count) t) d
 
     own : t < 2 * length rs
     own = rw (turn-count t small) at small
 
-    pub turn-place : placeAt (r .count) t < length rs
+    pub turn-place : recordAt (r .count) t < length rs
     turn-place = rw (turn-count t small) (place-fits (length rs) t own)
 
-    pub turn-record : set (before ws rs t) (placeAt (r .count) t) (turned ws (r .count) t found) ≡ before ws rs (suc t)
+    pub turn-record : set (before ws rs t) (recordAt (r .count) t) (turned ws (r .count) t found) ≡ before ws rs (suc t)
     turn-record = rw (turn-count t small) (turn-leaves ws rs d t own)
 
     module _ {b after : Batch} (state : BatchAt ws rs d t b) where
-      pub turn-answers : Advanced ws (r .count) t found b after → readsAt (r .count) t ≡ false
+      pub turn-answers : BatchAdvanced ws (r .count) t found b after → readsAt (r .count) t ≡ false
           → Answerable ws (t % 128 - sizeAt (r .count) t) (found .fixed) (found .ones) (after .shown)
       turn-answers =
           rw (turn-count t small) (λ turn e. batch-answers ws rs d t own (turn-finds ws rs d t) state turn (turn-whole t small) e)
 
-      pub turn-batch : Advanced ws (r .count) t found b after → BatchAt ws rs d (suc t) after
+      pub turn-batch : BatchAdvanced ws (r .count) t found b after → BatchAt ws rs d (suc t) after
       turn-batch = rw (turn-count t small) (λ turn. batch-next ws rs d t own (turn-finds ws rs d t) state turn)
 
   -- and after all turns the records are the sheet's

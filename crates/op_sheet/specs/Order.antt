@@ -1,7 +1,7 @@
 -- The turns of a call, two for each record: turn t belongs to batch t / 128, of 64 records or what is left of them; it
 -- reads one of them, or once all are read answers one.
---   sizeAt, readsAt, placeAt   the size of a turn's batch, whether the turn reads, and its place
---   Advanced                   the batch after a turn
+--   sizeAt, readsAt, recordAt  the size of a turn's batch, whether the turn reads, and its place
+--   BatchAdvanced                   the batch after a turn
 --   Answerable, turned         what a turn that answers asks, and the record that a turn leaves
 -- Assumes nothing.
 use mathlib.Core.Path.{_≡_}
@@ -23,11 +23,11 @@ sizeAt count t = 64 - (64 - (count - 64 * (t / 128)))
 unfoldable pub readsAt : ℕ → ℕ → Bool
 readsAt count t = ltb (t % 128) (sizeAt count t)
 
-unfoldable pub placeAt : ℕ → ℕ → ℕ
-placeAt count t = 64 * (t / 128) + cond (readsAt count t) (t % 128) (t % 128 - sizeAt count t)
+unfoldable pub recordAt : ℕ → ℕ → ℕ
+recordAt count t = 64 * (t / 128) + cond (readsAt count t) (t % 128) (t % 128 - sizeAt count t)
 
 -- a turn that reads adds the record's masks, the last of them settles the batch, and one that answers leaves it
-pub record Advanced (ws : List ℕ) (count t : ℕ) (z : Record) (b after : Batch) : Type 0 where
+pub record BatchAdvanced (ws : List ℕ) (count t : ℕ) (z : Record) (b after : Batch) : Type 0 where
   pub room : Room after
   pub fixed : t % 128 < sizeAt count t → after .fixed ≡ set (b .fixed) (t % 128) (z .fixed)
   pub ones : t % 128 < sizeAt count t → after .ones ≡ set (b .ones) (t % 128) (z .ones)

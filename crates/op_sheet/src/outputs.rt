@@ -2,6 +2,7 @@
 use lanes_dual_rail::LANE_WORDS;
 use lanes_masks::outputs::output_pair;
 use netlist::Record;
+use words_layout::limits::MAX_OUTPUTS;
 use words_layout::offsets::inputs_of;
 use words_layout::offsets::outputs_at;
 use words_layout::offsets::outputs_of;
@@ -18,7 +19,7 @@ ghost use Rattle.lanes_dual_rail.specs.LaneWords.{pairAt};
 ghost use Rattle.op_sheet.specs.Side.{OutputsPut, shownAt};
 
 // Two words for each output: word 2 × output + v marks the lanes at which it shows v.
-pub const SHOWN_WORDS: usize = 32;
+pub const SHOWN_WORDS: usize = 2 * MAX_OUTPUTS;
 
 // Stores the pair of each output.
 pub fn put_outputs(words: &[u16], lanes: &[u64; LANE_WORDS], shown: &mut [u64; SHOWN_WORDS])

@@ -15,7 +15,7 @@ ghost use Prim.Native.Nat.{_*_, _-_, _%_, _<_};
 ghost use Rattle.netlist.specs.StoredBlock.{decode, isMalformed};
 ghost use Rattle.netlist.specs.Sheet.{refusedRecord, recordOf};
 ghost use Rattle.op_sheet.specs.Side.{Room};
-ghost use Rattle.op_sheet.specs.Order.{sizeAt, placeAt, readsAt, Advanced, Answerable, turned};
+ghost use Rattle.op_sheet.specs.Order.{sizeAt, recordAt, readsAt, BatchAdvanced, Answerable, turned};
 
 // The turns of a batch of LANES records.
 const TURNS: usize = 2 * LANES;
@@ -53,7 +53,7 @@ fn size_at(count: usize, t: usize) -> usize
 // The place of the record that turn t reads or answers.
 pub fn place_at(count: usize, t: usize) -> usize
     requires { ⌜ t < 2 * count ⌝ }
-    ensures { λ r. ⌜ r ≡ placeAt count t ⌝ }
+    ensures { λ r. ⌜ r ≡ recordAt count t ⌝ }
 {
     let size = size_at(count, t);
     let first = LANES * (t / TURNS);
@@ -66,7 +66,7 @@ pub fn place_at(count: usize, t: usize) -> usize
 // The batch after turn t, which finds this record at its place.
 pub fn advance(words: &[u16], count: usize, t: usize, asked: Record, batch: Batch) -> Batch
     requires { ⌜ (isMalformed (now words) ≡ false) × (t < 2 * count) × Room batch ⌝ }
-    ensures { λ r. ⌜ Advanced (now (words .entry)) count t asked batch r ⌝ }
+    ensures { λ r. ⌜ BatchAdvanced (now (words .entry)) count t asked batch r ⌝ }
 {
     let size = size_at(count, t);
     let s = t % TURNS;

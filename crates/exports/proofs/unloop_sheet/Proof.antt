@@ -58,7 +58,7 @@ use Rattle.netlist.specs.Answers.{answerOf, Shows}
 use Rattle.netlist.specs.Sheet.{sheet}
 use Rattle.op_sheet.specs.declared.turns.Batch.{Batch}
 use Rattle.op_sheet.specs.Side.{Room as BatchRoom}
-use Rattle.op_sheet.specs.Order.{sizeAt, readsAt, placeAt, Advanced, Answerable, turned}
+use Rattle.op_sheet.specs.Order.{sizeAt, readsAt, recordAt, BatchAdvanced, Answerable, turned}
 use Rattle.op_sheet.proofs.Walked.{before, length-before, before-none, BatchAt, batch-first, turn-whole, turns-fit, turn-place, turn-record, turn-answers}
 use Rattle.op_sheet.proofs.Walked.{turn-batch, turns-all}
 use Rattle.netlist.proofs.Record as R
@@ -244,8 +244,8 @@ module _ {M : Type 1} (𝓤 : URA M) (H : Heap 𝓤) (A : Atoms 𝓤) (W : Given
     handed-placed small =
         qed W (‵ ftrue ∷ ‵ (owns (usize ∷ usize ∷ []) (c, (t, tt)) (vint w64 c ∷ [], (vint w64 t ∷ [], tt))) ∷ []) ∵ says ! small $ join ! $ done !
 
-    said-placed : (i : ℕ) → ent 𝓤 (ensured 𝓤 H A placed.ended (placed.clauses 𝓤 H A at-mem run) tt (c, (t, tt)) tt i) (fact 𝓤 (i ≡ placeAt c t))
-    said-placed i = exE 𝓤 _ (λ ls. snd∗ 𝓤 (sem 𝓤 H A (lasts placed.ended tt (c, (t, tt)) ls)) (fact 𝓤 (i ≡ placeAt c t)))
+    said-placed : (i : ℕ) → ent 𝓤 (ensured 𝓤 H A placed.ended (placed.clauses 𝓤 H A at-mem run) tt (c, (t, tt)) tt i) (fact 𝓤 (i ≡ recordAt c t))
+    said-placed i = exE 𝓤 _ (λ ls. snd∗ 𝓤 (sem 𝓤 H A (lasts placed.ended tt (c, (t, tt)) ls)) (fact 𝓤 (i ≡ recordAt c t)))
 
     -- the two calls with the record and the batch
     module _ (c-fits : c < 2 ^ 64) (t-fits : t < 2 ^ 64) (z : Record) (was : Is Row z (R′.lowered z ∷ [])) (x : Batch)
@@ -277,8 +277,8 @@ module _ {M : Type 1} (𝓤 : URA M) (H : Heap 𝓤) (A : Atoms 𝓤) (W : Given
           gathers (Advances 𝓤 H A at-mem run .pre to-advances) (qed W (Alive ∷ ‵ Owned ∷ []) ∵ says ! (whole-block, small, room) $ join ! $ done !)
 
       said-advances : (y : Batch) → ent 𝓤 (ensured 𝓤 H A advanced.ended (advanced.clauses 𝓤 H A at-mem run) (κ, tt) args tt y)
-          (fact 𝓤 (Advanced ws c t z x y))
-      said-advances y = exE 𝓤 _ (λ ls. snd∗ 𝓤 (sem 𝓤 H A (lasts advanced.ended (κ, tt) args ls)) (fact 𝓤 (Advanced ws c t z x y)))
+          (fact 𝓤 (BatchAdvanced ws c t z x y))
+      said-advances y = exE 𝓤 _ (λ ls. snd∗ 𝓤 (sem 𝓤 H A (lasts advanced.ended (κ, tt) args ls)) (fact 𝓤 (BatchAdvanced ws c t z x y)))
 
       abbrev to-answered : Answered 𝓤 H A at-mem run .Ghost
       to-answered = (((κ, tt), (q, tt), tt, args, vals), tt)
@@ -328,7 +328,7 @@ module _ {M : Type 1} (𝓤 : URA M) (H : Heap 𝓤) (A : Atoms 𝓤) (W : Given
     -- ---- one turn's numbers
     module _ (t : ℕ) (small : t < last) where
       abbrev at-place : ℕ
-      at-place = placeAt (r .count) t
+      at-place = recordAt (r .count) t
 
       place-in : at-place < n
       place-in = turn-place ws rs r said zeros t small
@@ -456,9 +456,9 @@ module _ {M : Type 1} (𝓤 : URA M) (H : Heap 𝓤) (A : Atoms 𝓤) (W : Given
             use1 W (later (some (λ (y : Batch). (Alive ⊛ ‵ (B.the-row .own y (u ∷ []))) ⊛ raw
             (ensured 𝓤 H A advanced.ended (advanced.clauses 𝓤 H A at-mem run) (κ, tt) (s, (r .count, (t, (z t small, (x, tt))))) tt y)))) (id⊢ 𝓤 _) $
             await ! tt $ pick ! (λ y.
-            split ! $ move ! (1 ∷ []) $ use1 W (raw (fact 𝓤 (Advanced ws (r .count) t (z t small) x y)))
+            split ! $ move ! (1 ∷ []) $ use1 W (raw (fact 𝓤 (BatchAdvanced ws (r .count) t (z t small) x y)))
             (said-advances (r .count) t count-fits (turn-fits t small) (z t small) was x (held .had) y) $
-            heard ! (Advanced ws (r .count) t (z t small) x y) (λ turn. split ! $ move ! (1 ∷ []) $
+            heard ! (BatchAdvanced ws (r .count) t (z t small) x y) (λ turn. split ! $ move ! (1 ∷ []) $
             peeks ! B.the-row (Is B.the-row) (shows 𝓤 H A B.the-row) y (u ∷ []) (λ new.
             land ! (from ! (stop !)) (store ! 7 refl (LL.lawful B.the-type B′.the-laws 𝓤 H A W .typed y _ new .0)) $
             rewrite ! 7 (λ (w : Val). ‵ (fat fullShare B′.mir l₆ 0 w)) (ap only (B′.lowers .val-is y (u ∷ []) new)) refl $ drop ! $
