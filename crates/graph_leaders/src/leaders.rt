@@ -73,7 +73,8 @@ fn is_certified(
 ) -> bool
     requires { ⌜ Graph m (now graph) ⌝ }
     ensures { λ r. ⌜
-        (r ≡ true → Certified m (now (graph .entry)) (now (order .entry)) (now (ends .entry)) (now (positions .entry)) (now (notes .entry)))
+        (r ≡ true → Certified m (now (graph .entry)) (now (order .entry)) (now (ends .entry)) (now (positions .entry))
+        (now (notes .entry)))
         ⌝ }
 {
     if !are_layers(graph, m, order, ends, positions) {

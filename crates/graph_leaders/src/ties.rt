@@ -124,7 +124,9 @@ fn is_leaving(
     notes: &[u16; NOTES],
 ) -> bool
     requires { ⌜ Layered m (now graph) (now order) (now ends) (now positions) × (i < m) ⌝ }
-    ensures { λ r. ⌜ (r ≡ true → Leaving m (now (graph .entry)) (now (order .entry)) (now (ends .entry)) (now (notes .entry)) i) ⌝ }
+    ensures { λ r.
+        ⌜ (r ≡ true
+        → Leaving m (now (graph .entry)) (now (order .entry)) (now (ends .entry)) (now (notes .entry)) i) ⌝ }
 {
     let k = word_of(order, i) as usize;
     let slot = note_of(notes, NOTE_SIZE * k + LOWEST) as usize % CURSORS;
@@ -149,7 +151,8 @@ fn is_tied(
     notes: &[u16; NOTES],
 ) -> bool
     requires { ⌜ Layered m (now graph) (now order) (now ends) (now positions) × (i < m) ⌝ }
-    ensures { λ r. ⌜ (r ≡ true → Tied m (now (graph .entry)) (now (order .entry)) (now (ends .entry)) (now (notes .entry)) i) ⌝ }
+    ensures { λ r.
+        ⌜ (r ≡ true → Tied m (now (graph .entry)) (now (order .entry)) (now (ends .entry)) (now (notes .entry)) i) ⌝ }
 {
     if last_of(ends, i) == i {
         return true;
@@ -171,7 +174,8 @@ pub fn are_tied(
 ) -> bool
     requires { ⌜ Layered m (now graph) (now order) (now ends) (now positions) ⌝ }
     ensures { λ r. ⌜
-        (r ≡ true → Certified m (now (graph .entry)) (now (order .entry)) (now (ends .entry)) (now (positions .entry)) (now (notes .entry)))
+        (r ≡ true → Certified m (now (graph .entry)) (now (order .entry)) (now (ends .entry)) (now (positions .entry))
+        (now (notes .entry)))
         ⌝ }
 {
     let mut i = 0;

@@ -119,7 +119,9 @@ fn passes(
     positions: &[u16; MAX_GATES],
 ) -> bool
     requires { ⌜ Graph m (now graph) × (i < m) ⌝ }
-    ensures { λ r. ⌜ (r ≡ true → LayerStep m (now (graph .entry)) (now (order .entry)) (now (ends .entry)) (now (positions .entry)) i) ⌝ }
+    ensures { λ r.
+        ⌜ (r ≡ true
+        → LayerStep m (now (graph .entry)) (now (order .entry)) (now (ends .entry)) (now (positions .entry)) i) ⌝ }
 {
     if !is_listed(m, i, order, positions) {
         return false;
@@ -145,7 +147,9 @@ pub fn are_layers(
     positions: &[u16; MAX_GATES],
 ) -> bool
     requires { ⌜ Graph m (now graph) ⌝ }
-    ensures { λ r. ⌜ (r ≡ true → Layered m (now (graph .entry)) (now (order .entry)) (now (ends .entry)) (now (positions .entry))) ⌝ }
+    ensures { λ r.
+        ⌜ (r ≡ true
+        → Layered m (now (graph .entry)) (now (order .entry)) (now (ends .entry)) (now (positions .entry))) ⌝ }
 {
     let mut i = 0;
     while i < m {

@@ -127,7 +127,8 @@ fn write_group(
     order: &mut [u16; MAX_GATES],
     ends: &mut [u16; MAX_GATES],
 )
-    requires { ⌜ (start ≤ standing .top) × (standing .top ≤ maxGates) × (standing .count ≤ clockEnd) × (end ≤ maxWord) ⌝ }
+    requires { ⌜ (start ≤ standing .top) × (standing .top ≤ maxGates) × (standing .count ≤ clockEnd)
+        × (end ≤ maxWord) ⌝ }
     ensures { λ r. ⌜ SameRooms (now (order .entry)) (now (ends .entry)) (now (order .exit)) (now (ends .exit)) ⌝ }
 {
     let mut i = start;
@@ -263,7 +264,8 @@ fn turn(
     order: &mut [u16; MAX_GATES],
     ends: &mut [u16; MAX_GATES],
 ) -> Standing
-    requires { ⌜ StandingReady (standing .time) (standing .top) (standing .count) × (standing .cursor < 8 * maxGates) × (standing .time < clockEnd) ⌝ }
+    requires { ⌜ StandingReady (standing .time) (standing .top) (standing .count) × (standing .cursor < 8 * maxGates)
+        × (standing .time < clockEnd) ⌝ }
     ensures { λ r. ⌜ StandingReady (r .time) (r .top) (r .count) × (r .time ≡ standing .time + 1) ⌝ }
     ensures { λ r. ⌜ SameRooms (now (order .entry)) (now (ends .entry)) (now (order .exit)) (now (ends .exit)) ⌝ }
 {

@@ -16,7 +16,8 @@ ghost use mathlib.Core.Path.{_≡_};
 ghost use Prim.Native.Nat.{_≤_, _<_};
 ghost use Rattle.netlist.specs.GateTable.{gateTable};
 ghost use Rattle.graph_simulation.specs.Rounded.{Prepared};
-ghost use Rattle.graph_simulation.specs.Changes.{Awake, UpdateReady, UpdatedOne, UpdatedList, UpdatedAll, Copied, CopyReady, Round, Turned, ListReady};
+ghost use Rattle.graph_simulation.specs.Changes.{Awake, UpdateReady, UpdatedOne, UpdatedList, UpdatedAll, Copied};
+ghost use Rattle.graph_simulation.specs.Changes.{CopyReady, Round, Turned, ListReady};
 
 // Where the gates that one round changed stand in the queue: from `head` on, before `tail`.
 pub struct Stretch {
@@ -41,9 +42,11 @@ fn update(
     queue: &mut [u16; MAX_GATES],
     end: usize,
 ) -> usize
-    requires { ⌜ (now table ≡ gateTable) × UpdateReady m (now graph) (now values) (now found) (now queue) end × (j < m) ⌝ }
+    requires { ⌜ (now table ≡ gateTable) × UpdateReady m (now graph) (now values) (now found) (now queue) end
+        × (j < m) ⌝ }
     ensures { λ r. ⌜
-        UpdatedOne m (now (graph .entry)) (now (values .entry)) (now (found .entry)) (now (queue .entry)) end j (now (found .exit)) (now (queue .exit)) r
+        UpdatedOne m (now (graph .entry)) (now (values .entry)) (now (found .entry)) (now (queue .entry)) end j
+        (now (found .exit)) (now (queue .exit)) r
         ⌝ }
 {
     if found[j] != UNDEFINED {
@@ -69,7 +72,8 @@ pub fn update_all(
 ) -> usize
     requires { ⌜ (now table ≡ gateTable) × UpdateReady m (now graph) (now values) (now found) (now queue) 0 ⌝ }
     ensures { λ r. ⌜
-        UpdatedAll m (now (graph .entry)) (now (values .entry)) (now (found .entry)) (now (queue .entry)) 0 (now (found .exit)) (now (queue .exit)) r
+        UpdatedAll m (now (graph .entry)) (now (values .entry)) (now (found .entry)) (now (queue .entry)) 0
+        (now (found .exit)) (now (queue .exit)) r
         ⌝ }
 {
     let mut end = 0;
@@ -92,10 +96,12 @@ fn update_readers(
     queue: &mut [u16; MAX_GATES],
     tail: usize,
 ) -> usize
-    requires { ⌜ (now table ≡ gateTable) × UpdateReady (readers .gates) (now graph) (now values) (now found) (now queue) tail ⌝ }
+    requires { ⌜ (now table ≡ gateTable)
+        × UpdateReady (readers .gates) (now graph) (now values) (now found) (now queue) tail ⌝ }
     requires { ⌜ ListReady (readers .gates) (now fanout) (readers .from) ⌝ }
     ensures { λ r. ⌜
-        UpdatedList (readers .gates) (now (graph .entry)) (now (fanout .entry)) (now (values .entry)) (now (found .entry)) (now (queue .entry)) tail
+        UpdatedList (readers .gates) (now (graph .entry)) (now (fanout .entry)) (now (values .entry))
+        (now (found .entry)) (now (queue .entry)) tail
         (readers .from) (now (found .exit)) (now (queue .exit)) r
         ⌝ }
 {
@@ -131,11 +137,13 @@ fn update_changed(
     changed: Stretch,
 ) -> usize
     requires { ⌜ Prepared m (now table) (now graph) (now fanout) ⌝ }
-    requires { ⌜ UpdateReady m (now graph) (now values) (now found) (now queue) (changed .tail) × (changed .head ≤ changed .tail) ⌝ }
+    requires { ⌜ UpdateReady m (now graph) (now values) (now found) (now queue) (changed .tail)
+        × (changed .head ≤ changed .tail) ⌝ }
     requires { ⌜ CopyReady (now queue) (changed .tail) (now values) ⌝ }
     requires { ⌜ Awake m (now graph) (now values) (now found) (now queue) (changed .head) (changed .tail) ⌝ }
     ensures { λ r. ⌜
-        UpdatedAll m (now (graph .entry)) (now (values .entry)) (now (found .entry)) (now (queue .entry)) (changed .tail) (now (found .exit))
+        UpdatedAll m (now (graph .entry)) (now (values .entry)) (now (found .entry)) (now (queue .entry))
+        (changed .tail) (now (found .exit))
         (now (queue .exit)) r
         ⌝ }
 {
@@ -161,7 +169,8 @@ fn copy_changed(
     values: &mut [u8; PLACES],
 )
     requires { ⌜ CopyReady (now queue) (changed .tail) (now values) × (changed .head ≤ changed .tail) ⌝ }
-    ensures { λ r. ⌜ Copied (now (found .entry)) (now (queue .entry)) (changed .head) (changed .tail) (now (values .entry)) (now (values .exit)) ⌝ }
+    ensures { λ r. ⌜ Copied (now (found .entry)) (now (queue .entry)) (changed .head) (changed .tail)
+        (now (values .entry)) (now (values .exit)) ⌝ }
 {
     let mut q = changed.head;
     while q < changed.tail {
@@ -186,7 +195,8 @@ pub fn next_round(
     requires { ⌜ Prepared m (now table) (now graph) (now fanout) ⌝ }
     requires { ⌜ Round m (now graph) (now values) (now found) (now queue) (changed .head) (changed .tail) ⌝ }
     ensures { λ r. ⌜
-        Turned m (now (graph .entry)) (now (values .entry)) (now (values .exit)) (now (found .exit)) (now (queue .exit)) (changed .tail) r
+        Turned m (now (graph .entry)) (now (values .entry)) (now (values .exit)) (now (found .exit)) (now (queue .exit))
+        (changed .tail) r
         ⌝ }
 {
     copy_changed(found, queue, changed, values);

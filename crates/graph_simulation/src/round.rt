@@ -43,7 +43,8 @@ fn settle_with(
     found: &mut [u8; MAX_GATES],
     queue: &mut [u16; MAX_GATES],
 ) -> usize
-    requires { ⌜ Prepared m (now table) (now graph) (now fanout) × Unsettled (now values) × ScratchReady (now found) (now queue) ⌝ }
+    requires { ⌜ Prepared m (now table) (now graph) (now fanout) × Unsettled (now values)
+        × ScratchReady (now found) (now queue) ⌝ }
     ensures { λ r. ⌜ SettledIn m (now (graph .entry)) (now (values .entry)) (now (values .exit)) r ⌝ }
 {
     let mut head = 0;

@@ -21,7 +21,8 @@ fn operand_code(
     values: &[u8; PLACES],
 ) -> usize
     requires { ⌜ LegalGate (now graph) j × Coded (now values) × (i < slots) ⌝ }
-    ensures { λ r. ⌜ (r ≡ operandCode (tab (slotValue (now (graph .entry)) (now (values .entry)) j) count) i) × (r ≤ 3) ⌝ }
+    ensures { λ r.
+        ⌜ (r ≡ operandCode (tab (slotValue (now (graph .entry)) (now (values .entry)) j) count) i) × (r ≤ 3) ⌝ }
 {
     if i < count {
         let place = graph[NODE_SIZE * j + 1 + i] as usize;

@@ -17,7 +17,8 @@ ghost use lib.ListN.{getD};
 ghost use Rattle.netlist.specs.Limits.{maxGates};
 ghost use Rattle.graph_gates.specs.Graph.{slots};
 ghost use Rattle.graph_gates.specs.Fanout.{fanoutSize};
-ghost use Rattle.op_groups.specs.Waiting.{isOpen, allOpen, Waiting, Counting, ReadyBelow, WakeReady, WakeAllReady};
+ghost use Rattle.op_groups.specs.Waiting.{isOpen, allOpen, Waiting, Counting, ReadyBelow, WakeReady};
+ghost use Rattle.op_groups.specs.Waiting.{WakeAllReady};
 
 // Word i of the fan-out.
 fn fanout_word(fanout: &[u16; FANOUT_WORDS], i: usize) -> u16
@@ -116,7 +117,8 @@ fn wake_slot(
     requires { ⌜ WakeReady m (now graph) e k (now leaders) (now numbers) (now counts) (now ready) ⌝ }
     ensures { λ r. ⌜
         Waiting m (now (leaders .entry)) (now (numbers .entry)) (getD (now (leaders .entry)) k 0)
-        (isOpen (now (graph .entry)) (now (leaders .entry)) (now (numbers .entry)) k e) (now (counts .exit)) (now (ready .exit))
+        (isOpen (now (graph .entry)) (now (leaders .entry)) (now (numbers .entry)) k e) (now (counts .exit))
+        (now (ready .exit))
         ⌝ }
 {
     let leader = word_of(leaders, e / SLOTS) as usize;
@@ -144,7 +146,8 @@ pub fn wake(
     requires { ⌜ WakeAllReady m (now graph) k (now leaders) (now numbers) (now fanout) (now counts) (now ready) ⌝ }
     ensures { λ r. ⌜
         Waiting m (now (leaders .entry)) (now (numbers .entry)) (getD (now (leaders .entry)) k 0)
-        (allOpen (now (graph .entry)) (now (leaders .entry)) (now (numbers .entry))) (now (counts .exit)) (now (ready .exit))
+        (allOpen (now (graph .entry)) (now (leaders .entry)) (now (numbers .entry))) (now (counts .exit))
+        (now (ready .exit))
         ⌝ }
 {
     let mut at = fanout_word(fanout, k) as usize;

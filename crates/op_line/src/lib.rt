@@ -38,7 +38,8 @@ fn has_lf(text: &[u8], at: usize) -> bool
 // Goes back over whole parts without an LF.
 fn skip_before(text: &[u8], at: usize) -> usize
     requires { ⌜ at ≤ length (now text) ⌝ }
-    ensures { λ r. ⌜ (r ≤ length (now (text .entry))) × (startBefore (now (text .entry)) at ≡ startBefore (now (text .entry)) r) ⌝ }
+    ensures { λ r. ⌜ (r ≤ length (now (text .entry)))
+        × (startBefore (now (text .entry)) at ≡ startBefore (now (text .entry)) r) ⌝ }
 {
     let mut start = at;
     while PART <= start {
@@ -53,7 +54,8 @@ fn skip_before(text: &[u8], at: usize) -> usize
 // Goes on over whole parts without an LF.
 fn skip_behind(text: &[u8], at: usize) -> usize
     requires { ⌜ at ≤ length (now text) ⌝ }
-    ensures { λ r. ⌜ (r ≤ length (now (text .entry))) × (at + untilLf (drop at (now (text .entry))) ≡ r + untilLf (drop r (now (text .entry)))) ⌝ }
+    ensures { λ r. ⌜ (r ≤ length (now (text .entry)))
+        × (at + untilLf (drop at (now (text .entry))) ≡ r + untilLf (drop r (now (text .entry)))) ⌝ }
 {
     let mut end = at;
     while PART <= text.len() - end {
@@ -105,7 +107,8 @@ pub fn line_length(text: &[u8], place: usize, start: usize) -> usize
 // start on.
 pub fn line(text: &[u8], place: usize) -> &[u8]
     ensures holds { λ r. ⌜ now r ≡ lineAt (now (text .entry)) place ⌝ }
-    ensures stands { λ r. ⌜ (r .ptr .0 ≡ text .entry .ptr .0) × (r .ptr .1 ≡ text .entry .ptr .1 + lineStart (now (text .entry)) place) ⌝ }
+    ensures stands { λ r. ⌜ (r .ptr .0 ≡ text .entry .ptr .0)
+        × (r .ptr .1 ≡ text .entry .ptr .1 + lineStart (now (text .entry)) place) ⌝ }
 {
     let start = line_start(text, place);
     let end = line_end(text, place);

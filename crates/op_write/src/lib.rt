@@ -36,7 +36,8 @@ fn check_room(words: &[u16], room: usize) -> Test
 
 // Write (6, 11): the text of a block; count: bytes.
 pub fn write(words: &[u16], text: &mut [u8]) -> Answer
-    ensures { λ r. ⌜ Promise (write (now (words .entry)) (length (now (text .entry)))) (now (text .entry)) r (now (text .exit)) ⌝ }
+    ensures { λ r.
+        ⌜ Promise (write (now (words .entry)) (length (now (text .entry)))) (now (text .entry)) r (now (text .exit)) ⌝ }
 {
     let tested = check_words(words);
     let Test::Passed = tested else {

@@ -31,13 +31,16 @@ module _ {A : Type 0} where
   drop-placed xs entry n e = drop-at xs (drop (length xs) entry) n e ∙ ap (λ (k : ℕ). drop k entry) e
 
   -- element by element
-  pub getD-past : (xs entry : List A) (n k : ℕ) (d : A) → length xs ≡ n → n ≤ k → getD (xs ++ drop n entry) k d ≡ getD entry k d
+  pub getD-past : (xs entry : List A) (n k : ℕ) (d : A) → length xs ≡ n → n ≤ k
+      → getD (xs ++ drop n entry) k d ≡ getD entry k d
   getD-past xs entry n k d e h =
       let place : n + (k - n) ≡ k = omega arith in
-      (rw (e, place) at (getD-append-add xs (drop n entry) (k - n) d)) ∙ getD-drop n entry (k - n) d ∙ ap (λ (i : ℕ). getD entry i d) place
+      (rw (e, place) at (getD-append-add xs (drop n entry) (k - n) d)) ∙ getD-drop n entry (k - n) d
+      ∙ ap (λ (i : ℕ). getD entry i d) place
 
   -- one element more
-  pub set-placed : (xs entry : List A) (n : ℕ) (a : A) → length xs ≡ n → n < length entry → set (placed xs entry) n a ≡ placed (xs ++ (a ∷ [])) entry
+  pub set-placed : (xs entry : List A) (n : ℕ) (a : A) → length xs ≡ n → n < length entry
+      → set (placed xs entry) n a ≡ placed (xs ++ (a ∷ [])) entry
   set-placed xs entry n a e h =
       rw (e, drop-cons entry n a h, length-append, e)
       (set-at xs (getD entry n a) (drop (suc n) entry) a n e ∙ rw (append-assoc, add-one))

@@ -1,6 +1,7 @@
--- Document 01 copies a group of g gates g times; since Paper 13 a group is copied as often as it needs. So a block has at most as many copies as it
--- had, and only an answer 8 of Render may have become another one. Bring's blocks are answered by today's rules: all else as before, and so is Render
--- but where it answered 8, and but for how many lines it writes.
+-- Document 01 copies a group of g gates g times; since Paper 13 a group is copied as often as it needs. So a block has
+-- at most as many copies as it had, and only an answer 8 of Render may have become another one. Bring's blocks are
+-- answered by today's rules: all else as before, and so is Render but where it answered 8, and but for how many lines
+-- it writes.
 --   copiesBefore    SPECIFICATION 6.1 as document 01 has it: the sum of g × g
 --   FewerCopies     Render's answers on one block, before Paper 13 and since
 --   BroughtAnswers  every answer on a block that Bring brings over
@@ -49,6 +50,7 @@ pub record BroughtAnswers (ws : List ℕ) : Type 0 where
       (least (λ s. not (isSettled (decode (brought ws)) s)) (settingCount (decode (brought ws))))
   -- an assignment of Cover is sound when every setting that agrees with it is settled
   pub soundIs : (a : Assignment) → isSoundUnder (decode (brought ws)) a
-      ≡ all (λ s. not (agrees (inputCount (decode (brought ws))) a s) || isSettled (decode (brought ws)) s) (upTo (settingCount (decode (brought ws))))
+      ≡ all (λ s. not (agrees (inputCount (decode (brought ws))) a s) || isSettled (decode (brought ws)) s)
+      (upTo (settingCount (decode (brought ws))))
   -- Render may need fewer passes
   pub renders : FewerCopies (decode (brought ws))

@@ -1,5 +1,5 @@
--- A gate evaluated from a state: it grows with the gates that it reads, and depends on them alone. Cited by the laws on rounds, steps
--- and sweeps.
+-- A gate evaluated from a state: it grows with the gates that it reads, and depends on them alone. Cited by the laws on
+-- rounds, steps and sweeps.
 --   evaluated-mono*     grows with what the gate reads
 --   evaluated-agree     depends on that alone
 --   evaluated-defined   0 or 1 where that is
@@ -33,13 +33,15 @@ module _ (x u w : List Value) where
 
   -- A gate's value grows with the values of the gates among its operands.
   pub evaluated-mono-of : (g : Gate)
-      → ((k : ℕ) → member k (joined (map gateOperand (g .operands))) ≡ true → Below (getD u k undefined) (getD w k undefined))
+      → ((k : ℕ) → member k (joined (map gateOperand (g .operands))) ≡ true
+      → Below (getD u k undefined) (getD w k undefined))
       → Below (evaluated x u g) (evaluated x w g)
   unfolding evaluated
   evaluated-mono-of g h = gateValue-mono (g .kind) (operands-below (g .operands) h)
 
   -- Gate j's value grows with the values of the gates that it reads.
-  pub evaluated-mono : (b : Block) (j : ℕ) → ((k : ℕ) → reads b j k ≡ true → Below (getD u k undefined) (getD w k undefined))
+  pub evaluated-mono : (b : Block) (j : ℕ)
+      → ((k : ℕ) → reads b j k ≡ true → Below (getD u k undefined) (getD w k undefined))
       → Below (evaluated x u (gateOf b j)) (evaluated x w (gateOf b j))
   unfolding reads readBy
   evaluated-mono b j h = evaluated-mono-of (gateOf b j) h

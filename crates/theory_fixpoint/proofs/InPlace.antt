@@ -1,5 +1,5 @@
--- Settling in place: steps from all undefined only add to the state, and a run over all gates that changes nothing shows it settled.
--- Cited by Verdict's code.
+-- Settling in place: steps from all undefined only add to the state, and a run over all gates that changes nothing
+-- shows it settled. Cited by Verdict's code.
 --   start-rising, step-rising, run-rising   every step only adds
 --   run-grows, run-same-by-count            a run that adds nothing changes nothing
 --   in-place-settled                        and then the state is settled
@@ -31,12 +31,14 @@ use Rattle.theory_fixpoint.proofs.AnyOrder.{length-step, length-run, fi
 module _ (b : Block) (x : List Value) where
   -- All undefined is rising.
   pub start-rising : (n : ℕ) → Rising b x (replicate n undefined)
-  start-rising n j = below-of-undefined (evaluated x (replicate n undefined) (gateOf b j)) (getD-replicate-default n j undefined)
+  start-rising n j =
+      below-of-undefined (evaluated x (replicate n undefined) (gateOf b j)) (getD-replicate-default n j undefined)
 
   -- A step adds to a rising state,
   pub step-grows : (j : ℕ) (v : List Value) → Rising b x v → BelowAll v (stepAt b x j v)
   unfolding stepAt
-  step-grows j v h k = below-set (λ _. Unit) v v j (evaluated x v (gateOf b j)) (λ i s. below-refl (getD v i undefined)) (λ s. h j) k tt
+  step-grows j v h k =
+      below-set (λ _. Unit) v v j (evaluated x v (gateOf b j)) (λ i s. below-refl (getD v i undefined)) (λ s. h j) k tt
 
   -- and leaves it rising.
   pub step-rising : (j : ℕ) (v : List Value) → Rising b x v → Rising b x (stepAt b x j v)
@@ -73,14 +75,16 @@ module _ (b : Block) (x : List Value) where
   unfolding run stepAt
   run-fixed [] v h l j s m = absurd (false≢true s)
   run-fixed (i ∷ js) v h l j s m =
-      let back : BelowAll (stepAt b x i v) v = λ k. below-trans (run-grows js (stepAt b x i v) (step-rising i v h) k) (l k) in
+      let back : BelowAll (stepAt b x i v) v =
+      λ k. below-trans (run-grows js (stepAt b x i v) (step-rising i v h) k) (l k) in
       let e : stepAt b x i v ≡ v = states-antisym (stepAt b x i v) v (length-step b x i v) back (step-grows i v h) in
       let now : j ≡ i → evaluated x v (gateOf b j) ≡ getD v j undefined =
       λ q. sym (getD-set-same v j (evaluated x v (gateOf b j)) undefined m)
       ∙ rw q (ap (λ (u : List Value). getD u i undefined) e) in
       let later : Listed js j → evaluated x v (gateOf b j) ≡ getD v j undefined =
       λ t. subst (λ (u : List Value). evaluated x u (gateOf b j) ≡ getD u j undefined) e
-      (run-fixed js (stepAt b x i v) (step-rising i v h) (λ k. below-trans (l k) (step-grows i v h k)) j t (rw (length-step b x i v) m)) in
+      (run-fixed js (stepAt b x i v) (step-rising i v h) (λ k. below-trans (l k) (step-grows i v h k)) j t
+      (rw (length-step b x i v) m)) in
       ⊎-elim now later (member-first j i js s)
 
   -- A rising state below the settled values that a run over all gates does not change is the settled one.

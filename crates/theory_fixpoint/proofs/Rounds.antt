@@ -1,5 +1,5 @@
--- Rounds: the states grow, within m rounds a round changes nothing, and from then on none does. Cited by Settle's code and by the laws
--- on steps and sweeps.
+-- Rounds: the states grow, within m rounds a round changes nothing, and from then on none does. Cited by Settle's code
+-- and by the laws on steps and sweeps.
 --   getD-round, round-mono                   a round gate by gate; it grows with the state
 --   afterRounds-grow, stable-by-count, stable-all   states grow; no more defined means stable; m rounds are enough
 --   rounds-le, rounds-stable, rounds-least   how many rounds are needed
@@ -96,11 +96,13 @@ module _ (b : Block) (x : List Value) where
 
   -- A round that defines no gate more changes nothing.
   pub stable-by-count : (r : ℕ)
-      → definedAmong (upTo (gateCount b)) (afterRounds b x (suc r)) ≤ definedAmong (upTo (gateCount b)) (afterRounds b x r)
+      → definedAmong (upTo (gateCount b)) (afterRounds b x (suc r))
+      ≤ definedAmong (upTo (gateCount b)) (afterRounds b x r)
       → isStable b x r ≡ true
   stable-by-count r h =
       eq-stable r
-      (sym (same-by-count (afterRounds b x r) (afterRounds b x (suc r)) (gateCount b) (length-afterRounds r) (length-afterRounds (suc r))
+      (sym (same-by-count (afterRounds b x r) (afterRounds b x (suc r)) (gateCount b) (length-afterRounds r)
+      (length-afterRounds (suc r))
       (afterRounds-grow r) h))
 
   defined-or-stable : (r : ℕ) → (r ≤ definedAmong (upTo (gateCount b)) (afterRounds b x r)) ⊎ (isStable b x r ≡ true)
@@ -113,7 +115,8 @@ module _ (b : Block) (x : List Value) where
       after : ℕ
       after = definedAmong (upTo (gateCount b)) (afterRounds b x (suc r))
 
-      go : (r ≤ before) ⊎ (isStable b x r ≡ true) → (before < after) ⊎ (after ≤ before) → (suc r ≤ after) ⊎ (isStable b x (suc r) ≡ true)
+      go : (r ≤ before) ⊎ (isStable b x r ≡ true) → (before < after) ⊎ (after ≤ before)
+          → (suc r ≤ after) ⊎ (isStable b x (suc r) ≡ true)
       go (inl h) (inl l) = inl (omega arith)
       go (inl h) (inr l) = inr (stable-next r (stable-by-count r l))
       go (inr h) l = inr (stable-next r h)
@@ -122,10 +125,15 @@ module _ (b : Block) (x : List Value) where
   pub stable-all : isStable b x (gateCount b) ≡ true
   stable-all = ⊎-elim full (λ h. h) (defined-or-stable (gateCount b))
     where
-      full : gateCount b ≤ definedAmong (upTo (gateCount b)) (afterRounds b x (gateCount b)) → isStable b x (gateCount b) ≡ true
+      full : gateCount b ≤ definedAmong (upTo (gateCount b)) (afterRounds b x (gateCount b))
+          → isStable b x (gateCount b) ≡ true
       full h =
           stable-by-count (gateCount b)
-          (omega (arith, definedAmong-le (upTo (gateCount b)) (afterRounds b x (suc (gateCount b))), length-tab (λ k. k) (gateCount b)))
+          (omega (
+            arith,
+            definedAmong-le (upTo (gateCount b)) (afterRounds b x (suc (gateCount b))),
+            length-tab (λ k. k) (gateCount b),
+          ))
 
   -- The rounds reported are at most m.
   pub rounds-le : rounds b x ≤ gateCount b
@@ -148,7 +156,8 @@ module _ (b : Block) (x : List Value) where
 
   -- Counting up to them: a round that changes something is one of them.
   pub rounds-more : (r : ℕ) → r ≤ rounds b x → isStable b x r ≡ false → suc r ≤ rounds b x
-  rounds-more r l h = ⊎-elim (λ m. m) (λ m. not-both {b = isStable b x r} (rw (le-antisymm l m) rounds-stable) h) (lt-or-le r (rounds b x))
+  rounds-more r l h = ⊎-elim (λ m. m) (λ m. not-both {b = isStable b x r} (rw (le-antisymm l m) rounds-stable) h)
+      (lt-or-le r (rounds b x))
 
   -- The first that changes nothing ends them.
   pub rounds-end : (r : ℕ) → r ≤ rounds b x → isStable b x r ≡ true → rounds b x ≡ r
@@ -169,7 +178,8 @@ module _ (b : Block) (x : List Value) where
   round-settled = stable-eq (rounds b x) rounds-stable
 
   -- A state from which a round changes nothing is settled.
-  pub settled-when-stable : (r : ℕ) → round b x (afterRounds b x r) ≡ afterRounds b x r → afterRounds b x r ≡ settled b x
+  pub settled-when-stable : (r : ℕ) → round b x (afterRounds b x r) ≡ afterRounds b x r
+      → afterRounds b x r ≡ settled b x
   unfolding afterRounds
   settled-when-stable r e = afterRounds-settled r (rounds-least r (eq-stable r e))
 

@@ -1,4 +1,5 @@
--- What the ways to make a reader answer, by the next byte. Cited by completeness and by the code that reads. Assumes nothing.
+-- What the ways to make a reader answer, by the next byte. Cited by completeness and by the code that reads.
+-- Assumes nothing.
 --   ifNext-end, ifNext-true, ifNext-false: a reader chosen by the next byte
 --   expect-end, expect-hit, expect-miss, expect-back: bytes that must stand there
 --   bind-got, bind-stuck: one reader after another

@@ -1,5 +1,5 @@
--- Rules for what a reader answers, one for each way to make a reader: `Gives P r s` says that whatever r reads from s has the property P of
--- value and rest. Cited by the proof that what is parsed is printed back. Assumes nothing.
+-- Rules for what a reader answers, one for each way to make a reader: `Gives P r s` says that whatever r reads from s
+-- has the property P of value and rest. Cited by the proof that what is parsed is printed back. Assumes nothing.
 --   Gives: what a reader reads has a property
 --   gives-pure, gives-stop, gives-ifNext, gives-is, gives-expect, gives-bind: one law for each way to make a reader
 use Prim.Native.Nat.{ℕ}

@@ -12,7 +12,8 @@ use mathlib.Core.List.{List, map}
 use lib.ListN.{length, getD}
 use lib.Dec.{leb, ltb}
 use Rattle.prelude.specs.Lists.{same, all, distinct, sum}
-use Rattle.netlist.specs.declared.Refusal.the-variants.{TextTooLong, SyntaxError, OverLimit, DuplicateDeclaration, UndeclaredName}
+use Rattle.netlist.specs.declared.Refusal.the-variants.{TextTooLong, SyntaxError, OverLimit, DuplicateDeclaration}
+use Rattle.netlist.specs.declared.Refusal.the-variants.{UndeclaredName}
 use Rattle.netlist.specs.Limits.{maxText, maxInputs, maxNevers, maxGates, maxOutputs}
 use Rattle.netlist.specs.Names.{isPlainName}
 use Rattle.netlist.specs.Netlist.{Output, Block, inputCount, gateCount, outputCount, neverCount}
@@ -27,7 +28,8 @@ use Rattle.netlist.specs.Operations.{counted, read}
 
 unfoldable pub isWellFormedUpTo : ℕ → Block → Bool
 isWellFormedUpTo limit b =
-    leb (inputCount b) limit && leb (gateCount b) maxGates && leb (outputCount b) maxOutputs && leb (neverCount b) maxNevers
+    leb (inputCount b) limit && leb (gateCount b) maxGates && leb (outputCount b) maxOutputs && leb (neverCount b)
+    maxNevers
     && all isPlainName (b .inputs) && distinct (b .inputs)
     && all (neverFits b) (b .nevers)
     && all (gateFits b) (b .gates)
@@ -71,7 +73,8 @@ pub record LimitKept (limit : ℕ) : Type 0 where
   -- a block with more inputs was malformed to the earlier program
   pub blocksTorn : (ws : List ℕ) → limit < getD ws 0 0 → isMalformedUpTo limit ws ≡ true
   -- a text of up to so many inputs keeps every answer of Read
-  pub textsKept : (text : List ℕ) → inputsOf (parse text) ≤ limit → (room : ℕ) → readUpTo limit text room ≡ read text room
+  pub textsKept : (text : List ℕ) → inputsOf (parse text) ≤ limit → (room : ℕ)
+      → readUpTo limit text room ≡ read text room
   -- a text with more inputs, of the grammar and not overlong, was refused with 3 by the earlier program
   pub textsCrowded : (text : List ℕ) → limit < inputsOf (parse text) → length text ≤ maxText → (room : ℕ)
       → readUpTo limit text room ≡ refused OverLimit

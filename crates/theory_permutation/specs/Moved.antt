@@ -19,4 +19,5 @@ inListOrder order (refused r) = refused r
 -- legal or not, and every slice
 abbrev pub SettleMoves : List ℕ → Type 0
 SettleMoves ws =
-    (setting : List ℕ) (room : ℕ) → settle (gatheredWords (decode ws)) setting room ≡ inListOrder (gatheredOrder (decode ws)) (settle ws setting room)
+    (setting : List ℕ) (room : ℕ) → settle (gatheredWords (decode ws)) setting room
+    ≡ inListOrder (gatheredOrder (decode ws)) (settle ws setting room)

@@ -54,10 +54,12 @@ module _ (b : Block) where
       sym (groupNumber-is j (groupNumber b i) (rw e (groupOf-member b i j h)))
 
   -- and only they
-  pub same-groupNumber : Inside b → (i j : ℕ) → i < gateCount b → j < gateCount b → groupNumber b i ≡ groupNumber b j → sameGroup b i j ≡ true
+  pub same-groupNumber : Inside b → (i j : ℕ) → i < gateCount b → j < gateCount b → groupNumber b i ≡ groupNumber b j
+      → sameGroup b i j ≡ true
   same-groupNumber inside i j hi hj e =
       groupOf-same b i j
-      (rw (ap (λ (g : ℕ). getD (groups b) g []) (sym e) ∙ groupNumber-group inside i hi) at (groupNumber-member inside j hj))
+      (rw (ap (λ (g : ℕ). getD (groups b) g []) (sym e)
+      ∙ groupNumber-group inside i hi) at (groupNumber-member inside j hj))
 
   -- a gate reads gates of its own and of earlier groups
   pub groupNumber-reads : Inside b → (i k : ℕ) → reads b i k ≡ true → groupNumber b k ≤ groupNumber b i

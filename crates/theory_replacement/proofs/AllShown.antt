@@ -21,9 +21,9 @@ use Rattle.theory_reach.proofs.GroupNumber.{groupNumber-same, same-groupNumber,
 use Rattle.theory_replacement.specs.Placing.{isComplete}
 use Rattle.theory_replacement.specs.Group.{boundary, isReadOutside, isShown, ports, cutOf}
 use Rattle.theory_replacement.specs.Claim.{StandsAt}
-use Rattle.theory_replacement.specs.Several.{Piece, GroupPiece, pieceOf, areDifferent, AgreesWithGroup, GroupAllowed}
-use Rattle.theory_replacement.specs.Several.{Each, replacedAll, numberAll}
-use Rattle.theory_replacement.specs.Several.{ReplacedGroups, NoLoopLeft}
+use Rattle.theory_replacement.specs.Several.{Piece, GroupPiece, pieceOf, areDifferent, AgreesWithGroup}
+use Rattle.theory_replacement.specs.Several.{GroupAllowed, Each, replacedAll, numberAll, ReplacedGroups}
+use Rattle.theory_replacement.specs.Several.{NoLoopLeft}
 use Rattle.theory_replacement.proofs.Rewired.{complete-operand}
 use Rattle.theory_replacement.proofs.Seen.{gate-there}
 use Rattle.theory_replacement.proofs.Cases.{reads-among}

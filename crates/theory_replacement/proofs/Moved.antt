@@ -29,23 +29,22 @@ use Rattle.netlist.specs.Rounds.{operandValue, settled}
 use Rattle.netlist.specs.Groups.{OperandPath, stay, step, reads}
 use Rattle.netlist.specs.Gather.{numberAt, placeIn, renumbered}
 use Rattle.theory_permutation.proofs.Groups.{member-map, map-member}
-use Rattle.theory_replacement.specs.Placing.{isComplete, nodes, rewired, inPlace, Cut, netValues, shownUnder, usesInput}
+use Rattle.theory_replacement.specs.Placing.{isComplete, nodes, rewired, inPlace, Cut, netValues, shownUnder}
+use Rattle.theory_replacement.specs.Placing.{usesInput}
 use Rattle.theory_replacement.specs.Group.{isShown}
 use Rattle.theory_replacement.specs.Replaced.{outside, newNumber, behindOutside, newOperand, standIn, replaced}
 use Rattle.theory_replacement.specs.Claim.{StandsAt, FitsAt}
 use Rattle.theory_replacement.specs.Several.{Piece, movedCut, movedPiece}
 use Rattle.theory_replacement.proofs.Rewired.{Among, among-reads, length-nodes, complete-operand, complete-node}
 use Rattle.theory_replacement.proofs.Rewired.{complete-from}
-use Rattle.theory_replacement.proofs.Numbers.{place-found, newNumber-below, newNumber-back, newNet-at, length-replaced}
-use Rattle.theory_replacement.proofs.Numbers.{gate-outside, outputs-replaced}
-use Rattle.theory_replacement.proofs.Numbers.{node-replaced}
+use Rattle.theory_replacement.proofs.Numbers.{place-found, newNumber-below, newNumber-back, newNet-at}
+use Rattle.theory_replacement.proofs.Numbers.{length-replaced, gate-outside, outputs-replaced, node-replaced}
 use Rattle.theory_replacement.proofs.Seen.{gate-there, input-there, NewOperand, new-operand, new-node, FreeNet}
 use Rattle.theory_replacement.proofs.Seen.{free-net, free-outside, Seen, seen-operand}
 use Rattle.theory_replacement.proofs.Seen.{seen-node, shown-node}
-use Rattle.theory_replacement.proofs.Cases.{number-injective, number-not-new, FromNew, newGate, net, FromStand, itself}
-use Rattle.theory_replacement.proofs.Cases.{shown, ReadAfter, byOutside, byNew}
-use Rattle.theory_replacement.proofs.Cases.{OperandAfter, ofOutside, ofNew, after-operand, stand-cases, read-cases}
-use Rattle.theory_replacement.proofs.Cases.{shown-cases}
+use Rattle.theory_replacement.proofs.Cases.{number-injective, number-not-new, FromNew, newGate, net, FromStand}
+use Rattle.theory_replacement.proofs.Cases.{itself, shown, ReadAfter, byOutside, byNew, OperandAfter, ofOutside}
+use Rattle.theory_replacement.proofs.Cases.{ofNew, after-operand, stand-cases, read-cases, shown-cases}
 use Rattle.theory_replacement.proofs.Values.{operand-kept}
 use Rattle.theory_replacement.proofs.Connected.{net-there}
 

@@ -22,7 +22,8 @@ use Rattle.theory_encoding.proofs.ListFacts.{getD-map}
 use Rattle.netlist.specs.Netlist.{constant, Gate, Output, Block, gateCount, outputCount, gateOf}
 use Rattle.netlist.specs.Gather.{numberAt, placeIn, renumbered}
 use Rattle.theory_replacement.specs.Placing.{Cut, nodes, rewired}
-use Rattle.theory_replacement.specs.Replaced.{outside, newNumber, behindOutside, newNets, newOperand, standIn, replaced}
+use Rattle.theory_replacement.specs.Replaced.{outside, newNumber, behindOutside, newNets, newOperand, standIn}
+use Rattle.theory_replacement.specs.Replaced.{replaced}
 
 -- a number that is in the list has a place there, and stands at it
 pub place-found : (order : List ℕ) (j : ℕ) → member j order ≡ true

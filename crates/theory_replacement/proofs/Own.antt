@@ -28,9 +28,8 @@ use Rattle.netlist.specs.StoredBlock.{isNode, isOperand}
 use Rattle.netlist.specs.Groups.{reads}
 use Rattle.netlist.specs.Gather.{numberAt, placeIn}
 use Rattle.theory_replacement.specs.Placing.{isComplete, nodes, rewired, inPlace}
-use Rattle.theory_replacement.specs.Group.{sameNet, isOutsideNet, firstOnes, operandsOf, NoNetTwice, boundary, isShown}
-use Rattle.theory_replacement.specs.Group.{isReadOutside, ports, cutOf, netPlace, ownOperand}
-use Rattle.theory_replacement.specs.Group.{ownBlock}
+use Rattle.theory_replacement.specs.Group.{sameNet, isOutsideNet, firstOnes, operandsOf, NoNetTwice, boundary}
+use Rattle.theory_replacement.specs.Group.{isShown, isReadOutside, ports, cutOf, netPlace, ownOperand, ownBlock}
 use Rattle.theory_replacement.specs.Claim.{StandsAt}
 use Rattle.theory_replacement.proofs.Rewired.{Among, complete-operand}
 use Rattle.theory_replacement.proofs.Numbers.{place-found}

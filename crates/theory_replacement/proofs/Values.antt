@@ -31,8 +31,8 @@ use Rattle.theory_fixpoint.proofs.Values.{below-of-undefined, below-of-eq, belo
 use Rattle.theory_fixpoint.proofs.ListFacts.{getD-replicate-default}
 use Rattle.theory_fixpoint.proofs.Rounds.{getD-round, evaluated-settled}
 use Rattle.theory_fixpoint.proofs.LeastState.{afterRounds-below-settled}
-use Rattle.theory_replacement.specs.Placing.{isComplete, nodes, rewired, inPlace, Cut, netValues, shownUnder, usesInput}
-use Rattle.theory_replacement.specs.Placing.{DependsOnNone}
+use Rattle.theory_replacement.specs.Placing.{isComplete, nodes, rewired, inPlace, Cut, netValues, shownUnder}
+use Rattle.theory_replacement.specs.Placing.{usesInput, DependsOnNone}
 use Rattle.theory_replacement.specs.Replaced.{newNumber, behindOutside, newNets, newOperand, standIn, replaced}
 use Rattle.theory_replacement.specs.Claim.{SameValues, StandsAt, FitsAt}
 use Rattle.theory_replacement.proofs.Rewired.{evaluated-up, evaluated-down, among-reads, length-nodes}

@@ -55,7 +55,8 @@ module _ (b : Block) where
   pub copyCount-loopless : Inside b → Loopless b → copyCount b ≡ gateCount b
   unfolding copyCount
   copyCount-loopless inside f =
-      ap sum (map-same (copiesOf b) length (groups b) [] one) ∙ sym (length-joined (groups b)) ∙ length-joined-groups b inside
+      ap sum (map-same (copiesOf b) length (groups b) [] one) ∙ sym (length-joined (groups b))
+      ∙ length-joined-groups b inside
     where
       one : (t : ℕ) → t < length (groups b) → copiesOf b (getD (groups b) t []) ≡ length (getD (groups b) t [])
       one t l =

@@ -1,5 +1,5 @@
--- The order of copying: over the first groups and one more, its length, and the gates in it. Render's code, the number of copies and the
--- agreement cite it.
+-- The order of copying: over the first groups and one more, its length, and the gates in it. Render's code, the number
+-- of copies and the agreement cite it.
 --   length-passes, member-passes   the passes over one group; over a lone gate there is one (passes-lone)
 --   scheduleOf-*                   over the first groups, and one more
 --   schedule-is, length-schedule, member-schedule, schedule-below   the whole order
@@ -49,13 +49,16 @@ module _ (b : Block) where
   passes-member group j m = repeated-member j (passCount b group) group m
 
   -- One group more comes last.
-  pub scheduleOf-snoc : (gs : List (List ℕ)) (group : List ℕ) → scheduleOf b (gs ++ (group ∷ [])) ≡ scheduleOf b gs ++ passes b group
+  pub scheduleOf-snoc : (gs : List (List ℕ)) (group : List ℕ)
+      → scheduleOf b (gs ++ (group ∷ [])) ≡ scheduleOf b gs ++ passes b group
   unfolding scheduleOf
-  scheduleOf-snoc gs group = ap joined (map-append (passes b) gs (group ∷ [])) ∙ joined-snoc (map (passes b) gs) (passes b group)
+  scheduleOf-snoc gs group =
+      ap joined (map-append (passes b) gs (group ∷ [])) ∙ joined-snoc (map (passes b) gs) (passes b group)
 
   pub scheduleOf-append : (gs hs : List (List ℕ)) → scheduleOf b (gs ++ hs) ≡ scheduleOf b gs ++ scheduleOf b hs
   unfolding scheduleOf
-  scheduleOf-append gs hs = ap joined (map-append (passes b) gs hs) ∙ joined-append (map (passes b) gs) (map (passes b) hs)
+  scheduleOf-append gs hs =
+      ap joined (map-append (passes b) gs hs) ∙ joined-append (map (passes b) gs) (map (passes b) hs)
 
   -- The schedule is as long as there are copies of the groups' gates.
   pub length-scheduleOf : (gs : List (List ℕ)) → length (scheduleOf b gs) ≡ sum (map (copiesOf b) gs)
@@ -79,7 +82,8 @@ module _ (b : Block) where
   unfolding scheduleOf
   scheduleOf-member [] j m = absurd (false≢true m)
   scheduleOf-member (g ∷ gs) j m =
-      ⊎-elim (λ e. member-left j g (joined gs) (passes-member g j e)) (λ e. member-right j g (joined gs) (scheduleOf-member gs j e))
+      ⊎-elim (λ e. member-left j g (joined gs) (passes-member g j e))
+      (λ e. member-right j g (joined gs) (scheduleOf-member gs j e))
       (member-cases j (passes b g) (joined (map (passes b) gs)) m)
 
 -- groups of one gate one after the other
