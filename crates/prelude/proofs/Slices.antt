@@ -1,6 +1,6 @@
 -- A list placed over the front of a slice: what stands there and behind it, and one element more.
 --   length-placed, placed-room            its length
---   take-placed, drop-placed, getD-past   the front, and what is behind
+--   take-placed, getD-past                the front, and what is behind
 --   set-placed, sets-placed               one element more, and a list at once
 -- Assumes nothing.
 use mathlib.Core.Path.{_≡_, ap, _∙_}
@@ -10,7 +10,7 @@ use native.Mathlib.Nat.{zero-add}
 use native.Mathlib.Numerals.{add-one}
 use native.Mathlib.Omega.{arith}
 use lib.ListN.{length, getD, take, drop, set, length-append, length-drop}
-use lib.Seq.{take-at, drop-at, set-at, drop-cons, getD-append-add, getD-drop, sets, sets-eq}
+use lib.Seq.{take-at, set-at, drop-cons, getD-append-add, getD-drop, sets, sets-eq}
 use Rattle.prelude.specs.Lists.{placed}
 
 module _ {A : Type 0} where
@@ -25,10 +25,6 @@ module _ {A : Type 0} where
   -- the front is the list,
   pub take-placed : (xs entry : List A) (n : ℕ) → length xs ≡ n → take n (placed xs entry) ≡ xs
   take-placed xs entry n e = take-at xs (drop (length xs) entry) n e
-
-  -- and the rest is what it was,
-  pub drop-placed : (xs entry : List A) (n : ℕ) → length xs ≡ n → drop n (placed xs entry) ≡ drop n entry
-  drop-placed xs entry n e = drop-at xs (drop (length xs) entry) n e ∙ ap (λ (k : ℕ). drop k entry) e
 
   -- element by element
   pub getD-past : (xs entry : List A) (n k : ℕ) (d : A) → length xs ≡ n → n ≤ k

@@ -1,7 +1,6 @@
 -- The words of a block: their number, and where each part's words stand. Cited by RoundTrip and Readers.
 -- Assumes nothing.
 --   length-encode: the number of words
---   encode-inputCount, encode-gateCount, encode-outputCount, encode-neverCount: the four counts
 --   encode-input, encode-never, encode-gate, encode-output: where each part's words stand
 use mathlib.Core.Path.{_≡_, refl, sym, ap, _∙_}
 use mathlib.Core.List.{List, [], _∷_, _++_, map, append-assoc, append-nil}
@@ -57,23 +56,6 @@ module _ (b : Block) where
   unfolding outputPart
   length-outputPart =
       length-joined (outputWords (inputCount b)) outputSize (length-outputWords (inputCount b)) (b .outputs)
-
-  -- the four counts come first
-  pub encode-inputCount : getD (encode b) 0 0 ≡ inputCount b
-  unfolding encode
-  encode-inputCount = refl
-
-  pub encode-gateCount : getD (encode b) 1 0 ≡ gateCount b
-  unfolding encode
-  encode-gateCount = refl
-
-  pub encode-outputCount : getD (encode b) 2 0 ≡ outputCount b
-  unfolding encode
-  encode-outputCount = refl
-
-  pub encode-neverCount : getD (encode b) 3 0 ≡ neverCount b
-  unfolding encode
-  encode-neverCount = refl
 
   length-before-nevers : length (header b ++ inputPart b) ≡ neversAt (inputCount b)
   unfolding neversAt header

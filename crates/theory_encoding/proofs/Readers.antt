@@ -1,30 +1,30 @@
--- What holds of a block that is not torn: of its words at a gate and at an output, and of the gates that its gates
+-- What holds of a block that is not malformed: of its words at a gate and at an output, and of the gates that its gates
 -- read. The parts themselves, for every list of words, are in Decoded. Cited by the crates that work on stored blocks.
 -- Assumes nothing.
 --   GateWhole, OperandWord: what is known of a gate's and an operand's words
 --   whole-parts: the limits, the length and the rules of words that are not torn
 --   whole-gate, whole-node: a gate's and an output's words
---   wellFormed-gate, wellFormed-operand, wellFormed-output: the same of the block
+--   wellFormed-gate, wellFormed-output: the rules of a gate and an output of a well-formed block
 --   whole-reads: a gate that is read is there
 use mathlib.Core.Path.{_≡_, sym, _∙_}
 use mathlib.Core.Logic.{_⊎_, inl, inr, ⊎-elim}
 use mathlib.Core.Bool.{true, false, _||_}
 use mathlib.Core.List.{List}
 use Prim.Native.Nat.{ℕ, _+_, _*_, _/_, _%_, _≤_, _<_}
-use lib.ListN.{length, getD}
+use lib.ListN.{getD}
 use lib.Dec.{ltb, eqb}
 use borrow.Author.Tests.{ltb-true, eqb-true, not-false}
 use Rattle.prelude.proofs.Tests.{or-cases}
 use Rattle.prelude.proofs.Quantifiers.{all-at}
 use Rattle.theory_reach.proofs.Inside.{wellFormed-inside}
 use Rattle.netlist.specs.Kinds.{isKind, arityFits}
-use Rattle.netlist.specs.Netlist.{Operand, Output, Block, gateCount, outputCount, gateOf}
+use Rattle.netlist.specs.Netlist.{Output, Block, gateCount, outputCount, gateOf}
 use Rattle.netlist.specs.Groups.{reads}
 use Rattle.netlist.specs.StoredBlock.{nameSize, gateSize, outputSize, operandWords, gatesAt, outputsAt, isNode}
-use Rattle.netlist.specs.StoredBlock.{isOperand, gateFits, decode, isWellFormed, isMalformed}
+use Rattle.netlist.specs.StoredBlock.{gateFits, decode, isWellFormed, isMalformed}
 use Rattle.theory_encoding.specs.Rules.{nodeRule, operandRule, gateRule, intact}
 use Rattle.theory_encoding.proofs.Gates.{Unused, kind-small, arity-four, arity-not, arity-others, gateRule-kind}
-use Rattle.theory_encoding.proofs.Gates.{gateRule-arity, gateRule-operand, gateRule-unused, fits-operands}
+use Rattle.theory_encoding.proofs.Gates.{gateRule-arity, gateRule-operand, gateRule-unused}
 use Rattle.theory_encoding.proofs.WellFormed.{noGate, wellFormed-parts}
 use Rattle.theory_encoding.proofs.Intact.{Intact, intact-parts, intact-torn}
 use Rattle.theory_encoding.proofs.RoundTrip.{whole-wellFormed}
@@ -101,12 +101,6 @@ module _ (b : Block) (h : isWellFormed b ≡ true) where
   -- gate j fits
   pub wellFormed-gate : (j : ℕ) → j < gateCount b → gateFits b (gateOf b j) ≡ true
   wellFormed-gate j l = all-at (gateFits b) (b .gates) j noGate (wellFormed-parts b h .gatesFit) l
-
-  -- and each of its operands is there
-  pub wellFormed-operand : (j i : ℕ) (d : Operand) → j < gateCount b → i < length (gateOf b j .operands)
-      → isOperand b (getD (gateOf b j .operands) i d) ≡ true
-  wellFormed-operand j i d l k =
-      all-at (isOperand b) (gateOf b j .operands) i d (fits-operands b (gateOf b j) (wellFormed-gate j l)) k
 
   -- output o shows an input or a gate that is there
   pub wellFormed-output : (o : ℕ) (d : Output) → o < outputCount b → isNode b (getD (b .outputs) o d .node) ≡ true

@@ -1,7 +1,7 @@
 -- One gate at a time, in any order: from a state below the settled values every step stays below them, and where it
 -- comes to rest it is settled. Cited for in-place evaluation and for the run of a rendering.
 --   length-run, run-append, run-elsewhere   a run of steps: its length, in two parts, and gates that are not stepped
---   step-mono-on, run-mono-on, run-mono     it grows with the state, on a set that its gates read, or everywhere
+--   step-mono-on, run-mono-on               it grows with the state, on a set that its gates read
 --   run-below-settled, any-order-below      it stays below the settled values
 --   any-order-settled                       at rest it is settled
 -- Assumes nothing.
@@ -73,11 +73,6 @@ module _ (b : Block) (x : List Value) where
     run-mono-on (j ∷ js) inside u w e h =
         run-mono-on js (λ i k m. inside i k (member-rest i j js m)) (stepAt b x j u) (stepAt b x j w)
         (length-step j u ∙ e ∙ sym (length-step j w)) (step-mono-on j (λ k. inside j k (member-head j js)) u w e h)
-
-  -- Along one list of steps two states keep their order.
-  pub run-mono : (js : List ℕ) (u w : List Value) → length u ≡ length w → BelowAll u w
-      → BelowAll (run b x js u) (run b x js w)
-  run-mono js u w e h k = run-mono-on (λ _. Unit) js (λ i j m r. tt) u w e (λ i s. h i) k tt
 
   -- The state in which every gate is undefined is below the settled values.
   pub start-below-settled : BelowAll (replicate (gateCount b) undefined) (settled b x)

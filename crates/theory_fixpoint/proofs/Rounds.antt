@@ -3,7 +3,7 @@
 --   getD-round, round-mono                   a round gate by gate; it grows with the state
 --   afterRounds-grow, stable-by-count, stable-all   states grow; no more defined means stable; m rounds are enough
 --   rounds-le, rounds-stable, rounds-least   how many rounds are needed
---   afterRounds-settled, afterRounds-all, settled-when-stable   from then on the state is settled
+--   afterRounds-settled                      from then on the state is settled
 --   round-settled, evaluated-settled         a round changes no settled value
 -- Assumes nothing.
 use Prim.Native.Nat.{ℕ, zero, suc, _+_, _-_, _≤_, _<_}
@@ -64,10 +64,6 @@ module _ (b : Block) (x : List Value) where
   grow-plus : (n r : ℕ) → BelowAll (afterRounds b x r) (afterRounds b x (n + r))
   grow-plus zero r j = rw zero-add (below-refl (getD (afterRounds b x r) j undefined))
   grow-plus (suc n) r j = rw suc-add (below-trans (grow-plus n r j) (afterRounds-grow (n + r) j))
-
-  -- Each round's state is below every later one.
-  pub afterRounds-mono : (r s : ℕ) → r ≤ s → BelowAll (afterRounds b x r) (afterRounds b x s)
-  afterRounds-mono r s l j = let e : s - r + r ≡ s = omega arith in rw e at (grow-plus (s - r) r j)
 
   -- `stable` says that a further round changes nothing.
   pub stable-eq : (r : ℕ) → isStable b x r ≡ true → afterRounds b x (suc r) ≡ afterRounds b x r
@@ -168,20 +164,10 @@ module _ (b : Block) (x : List Value) where
   unfolding settled
   afterRounds-settled r l = stable-later (rounds b x) r l rounds-stable
 
-  -- in particular after m rounds
-  pub afterRounds-all : afterRounds b x (gateCount b) ≡ settled b x
-  afterRounds-all = afterRounds-settled (gateCount b) rounds-le
-
   -- A round changes no settled value.
   pub round-settled : round b x (settled b x) ≡ settled b x
   unfolding settled afterRounds
   round-settled = stable-eq (rounds b x) rounds-stable
-
-  -- A state from which a round changes nothing is settled.
-  pub settled-when-stable : (r : ℕ) → round b x (afterRounds b x r) ≡ afterRounds b x r
-      → afterRounds b x r ≡ settled b x
-  unfolding afterRounds
-  settled-when-stable r e = afterRounds-settled r (rounds-least r (eq-stable r e))
 
   pub length-settled : length (settled b x) ≡ gateCount b
   unfolding settled

@@ -4,7 +4,7 @@
 --     by groups
 --   gathered-permutation                                 which is each gate number once
 --   gathered-back, scattered-out                         each undoes the other, every part of the block
---   gathered-wellFormed, scattered-wellFormed            what is made is a block
+--   gathered-wellFormed                                  what is made is a block
 --   gathered-settled, gathered-rounds, scattered-settled the settled values move with their gates
 --   gathered-outputs                                     the outputs show the same under every setting
 --   gathered-sameGroup                                   the groups are the same sets
@@ -75,10 +75,6 @@ module _ (b : Block) (fits : isWellFormed b ≡ true) where
     scattered-out =
         arranged-back b fits (inverse order) (numberAt order) back order (placeIn order) (out .lengthIs) (λ j l. refl)
         (out .newOfOld)
-
-    pub scattered-wellFormed : isWellFormed (scattered order b) ≡ true
-    unfolding scattered
-    scattered-wellFormed = arranged-wellFormed b fits (inverse order) (numberAt order) back
 
     -- gate t's settled value moves to number t of the list
     pub scattered-settled : (x : List Value) (t : ℕ) → t < gateCount b

@@ -2,7 +2,7 @@
 --   groupNumber-is, groupNumber-member       a gate's number is the place of the group that holds it
 --   groupNumber-same, same-groupNumber       two gates have one number exactly when they share a group
 --   groupNumber-reads, groupNumber-path      a gate reads, and reaches, no higher number
---   length-groupNumbers, getD-groupNumbers   the list of all numbers
+--   getD-groupNumbers                        the list of all numbers
 -- Assumes nothing.
 use Prim.Native.Nat.{ℕ, _≤_, _<_}
 use mathlib.Core.Path.{_≡_, sym, ap, _∙_}
@@ -12,7 +12,7 @@ use native.Mathlib.Omega.{arith}
 use lib.ListN.{length, getD}
 use Rattle.prelude.specs.Lists.{member, least}
 use Rattle.prelude.proofs.Least.{least-at}
-use Rattle.prelude.proofs.Tab.{length-tab, getD-tab}
+use Rattle.prelude.proofs.Tab.{getD-tab}
 use Rattle.netlist.specs.Netlist.{Block, gateCount}
 use Rattle.netlist.specs.Groups.{reads, OperandPath, stay, step, sameGroup, groupOf, groups, groupNumber, groupNumbers}
 use Rattle.theory_reach.specs.Inside.{Inside}
@@ -76,11 +76,6 @@ module _ (b : Block) where
       let u = groupNumber-reads inside i j r in
       let v = groupNumber-path inside p in
       omega arith
-
-  -- a number for each gate
-  pub length-groupNumbers : length (groupNumbers b) ≡ gateCount b
-  unfolding groupNumbers
-  length-groupNumbers = length-tab _ (gateCount b)
 
   -- the j-th is gate j's
   pub getD-groupNumbers : (j d : ℕ) → j < gateCount b → getD (groupNumbers b) j d ≡ groupNumber b j

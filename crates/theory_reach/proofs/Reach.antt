@@ -3,7 +3,6 @@
 --   grown-*, grownTimes-*         a step, and many: nothing is lost, and what is read is added
 --   path-reaches, reaches-path    `reaches` tells whether there is a path
 --   reaches-refl, reaches-trans   it is reflexive and transitive
---   reach-least, reach-is         the reach is the least closed set with the gate
 -- Assumes nothing.
 use Prim.Native.Nat.{ℕ, zero, suc, _≤_, _<_}
 use mathlib.Core.Path.{_≡_, refl, sym, _∙_}
@@ -11,13 +10,12 @@ use mathlib.Core.Logic.{_⊎_, inl, inr, ⊎-elim}
 use mathlib.Core.Bool.{Bool, true, false, _&&_, _||_, true≢false}
 use mathlib.Core.List.{List, []}
 use native.Mathlib.Omega.{arith}
-use lib.ListN.{length, getD, List·getD-eq-default}
-use lib.Seq.{ext-getD}
+use lib.ListN.{length, List·getD-eq-default}
 use lib.Dec.{eqb}
 use borrow.Author.Tests.{eqb-true, eq-eqb}
 use Rattle.prelude.specs.Lists.{any, tab, upTo, countBelow}
 use Rattle.prelude.proofs.Tests.{bool-cases, not-both, and-intro, and-left, and-right, or-left, or-right, or-cases}
-use Rattle.prelude.proofs.Tests.{same-test, lt-or-le}
+use Rattle.prelude.proofs.Tests.{lt-or-le}
 use Rattle.prelude.proofs.Tab.{length-tab, getD-tab}
 use Rattle.prelude.proofs.Quantifiers.{any-below, below-any}
 use Rattle.prelude.proofs.Counting.{countBelow-less, countBelow-full}
@@ -211,11 +209,6 @@ module _ (b : Block) where
   unfolding reaches reach
   reaches-path i j h = grown-path i (gateCount b) j h .0
 
-  -- only gates that are there reach
-  pub reaches-from : (i j : ℕ) → reaches b i j ≡ true → i < gateCount b
-  unfolding reaches reach
-  reaches-from i j h = grown-path i (gateCount b) j h .1
-
   -- what a reached gate reaches is reached
   pub reaches-trans : (i j k : ℕ) → reaches b i j ≡ true → reaches b j k ≡ true → reaches b i k ≡ true
   reaches-trans i j k h g =
@@ -227,16 +220,3 @@ module _ (b : Block) where
       → has set j ≡ true
   closed-path set c e stay h = e
   closed-path set c e (step {i} {j} r p) h = closed-path set c (c i j (reads-below b i j r) (path-below p h) e r) p h
-
-  -- a closed set that has gate i has all that it reaches
-  pub reach-least : (set : List Bool) (i j : ℕ) → Closed b set → has set i ≡ true → reaches b i j ≡ true
-      → has set j ≡ true
-  reach-least set i j c e h = closed-path set c e (reaches-path i j h) (reaches-below i j h)
-
-  -- a closed set that has gate i, and only what it reaches, is its reach
-  pub reach-is : (set : List Bool) (i : ℕ) → length set ≡ gateCount b → Closed b set → has set i ≡ true
-      → ((j : ℕ) → has set j ≡ true → reaches b i j ≡ true) → set ≡ reach b i
-  unfolding reaches has
-  reach-is set i l c e f =
-      ext-getD false set (reach b i) (l ∙ sym (length-reach i))
-      (λ j h. same-test (getD set j false) (getD (reach b i) j false) (f j) (reach-least set i j c e))

@@ -116,10 +116,6 @@ module _ (b : Block) (rank : ℕ → ℕ) (whole : isComplete b ≡ true) (ranks
 
   -- ---- what stands for operands is there
 
-  inputs-same : inputCount after ≡ inputCount b
-  unfolding replaced
-  inputs-same = refl
-
   after-gate : (n : ℕ) → n < length (outside b cut) + gateCount new → isOperand after (gate n) ≡ true
   unfolding isOperand isNode
   after-gate n l = lt-ltb n (gateCount after) (rw (length-replaced b cut new) l)

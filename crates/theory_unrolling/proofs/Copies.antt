@@ -7,7 +7,7 @@
 -- Assumes nothing.
 use Prim.Native.Nat.{ℕ, zero, suc, _+_, _≤_, _<_}
 use mathlib.Core.Path.{_≡_, refl, ap, _∙_}
-use mathlib.Core.Logic.{_⊎_, inl, inr, ⊎-elim}
+use mathlib.Core.Logic.{⊎-elim}
 use mathlib.Core.Bool.{Bool, true, false, false≢true}
 use mathlib.Core.List.{List, [], _∷_, _++_, map}
 use native.Mathlib.Omega.{arith}
@@ -28,12 +28,6 @@ constant-not-gate : {v : Bool} {j : ℕ} → constant v ≡ gate j → ⊥
 constant-not-gate e = let z : _≡_ {A = ℕ} 0 1 = cc in omega arith
 
 -- ---- what stands for the gates
-
--- It is constant 0 or one of the copies made.
-pub isCopy-cases : (t : ℕ) (o : Operand) → IsCopy t o → (o ≡ constant false) ⊎ ((c : ℕ) × (c < t) × (o ≡ gate c))
-isCopy-cases t (input i) h = absurd h
-isCopy-cases t (gate c) h = inr (c, h, refl)
-isCopy-cases t (constant c) h = inl (ap constant h)
 
 -- more copies may be made
 pub isCopy-more : (t u : ℕ) (o : Operand) → t ≤ u → IsCopy t o → IsCopy u o

@@ -1,6 +1,5 @@
 -- A straight block renders to itself: the record itself, so its words and its text too.
---   rendering-itself         a straight block
---   rendering-itself-words   its words
+--   rendering-itself   the law
 -- Assumes nothing.
 use Prim.Native.Nat.{ℕ, zero, suc, _≤_, _<_}
 use mathlib.Core.Path.{_≡_, refl, sym, ap, _∙_}
@@ -17,7 +16,7 @@ use Rattle.prelude.proofs.Tests.{and-left, and-right, eq-or-ne}
 use Rattle.prelude.proofs.Tab.{length-tab}
 use Rattle.prelude.proofs.Lists.{member-head, member-rest}
 use Rattle.netlist.specs.Netlist.{Operand, input, gate, constant, Gate, Output, Block, gateCount, gateOf}
-use Rattle.netlist.specs.StoredBlock.{isNode, isWellFormed, encode}
+use Rattle.netlist.specs.StoredBlock.{isNode, isWellFormed}
 use Rattle.netlist.specs.Groups.{gateOperand, readBy, reads}
 use Rattle.netlist.specs.Rendering.{isStraight, noCopies, copiedOperand, copied, copies, newestAfter, lastCopies}
 use Rattle.netlist.specs.Rendering.{rendering}
@@ -123,7 +122,3 @@ module _ (b : Block) where
   -- A straight block renders to itself,
   pub rendering-itself : isWellFormed b ≡ true → isStraight b ≡ true → rendering b ≡ b
   rendering-itself w s = rendering-itself-of s (wellFormed-parts b w .nodesThere)
-
-  -- word for word.
-  pub rendering-itself-words : isWellFormed b ≡ true → isStraight b ≡ true → encode (rendering b) ≡ encode b
-  rendering-itself-words w s = ap encode (rendering-itself w s)

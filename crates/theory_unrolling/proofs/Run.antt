@@ -8,8 +8,8 @@ use mathlib.Core.Path.{_≡_, refl, sym, ap, _∙_}
 use mathlib.Core.Bool.{true, false}
 use mathlib.Core.List.{List, [], _∷_, _++_, map}
 use native.Mathlib.Omega.{arith}
-use lib.ListN.{length, getD, set, replicate, length-append, length-set, length-replicate, List·getD-append}
-use lib.Seq.{ext-getD, getD-at}
+use lib.ListN.{length, getD, set, replicate, length-append, length-set, List·getD-append}
+use lib.Seq.{getD-at}
 use Rattle.prelude.specs.Lists.{member, joined}
 use Rattle.prelude.proofs.Lists.{member-head, member-rest, map-set, map-replicate}
 use Rattle.netlist.specs.Values.{Value, undefined, val}
@@ -21,7 +21,6 @@ use Rattle.netlist.specs.Rendering.{schedule, noCopies, copiedOperand, copied, 
 use Rattle.netlist.specs.Rendering.{rendering, sweepFrom, sweep}
 use Rattle.theory_encoding.proofs.ListFacts.{getD-map}
 use Rattle.netlist.specs.Steps.{stepAt, run}
-use Rattle.theory_fixpoint.proofs.AnyOrder.{length-run}
 use Rattle.theory_reach.specs.Inside.{Inside}
 use Rattle.theory_reach.proofs.ListFacts.{map-same}
 use Rattle.theory_unrolling.specs.Copies.{IsCopy, AreCopies, valuesOf}
@@ -113,14 +112,3 @@ module _ (b : Block) (x : List Value) (inside : Inside b) where
       sym (getD-map (operandValue x (sweep (rendering b) x)) (lastCopies b) j (constant false) undefined
       (rw (length-lastCopies b) l))
       ∙ ap (λ (v : List Value). getD v j undefined) sweep-is-run
-
-  -- The same of any state that holds these values.
-  pub sweep-is-run-of : (v : List Value) → length v ≡ gateCount b
-      → ((j : ℕ) → j < gateCount b
-      → getD v j undefined ≡ operandValue x (sweep (rendering b) x) (getD (lastCopies b) j (constant false)))
-      → v ≡ run b x (schedule b) (replicate (gateCount b) (val false))
-  sweep-is-run-of v e h =
-      ext-getD undefined v (run b x (schedule b) (replicate (gateCount b) (val false)))
-      (e ∙ sym (length-run b x (schedule b) (replicate (gateCount b) (val false))
-      ∙ length-replicate (gateCount b) (val false)))
-      (λ j l. let m : j < gateCount b = rw e at l in h j m ∙ lastCopy-value j m)
