@@ -9,7 +9,7 @@ use mathlib.Core.List.{List, [], _∷_, _++_, map}
 use lib.ListN.{length, replicate}
 use Rattle.prelude.specs.Lists.{ascii, same, all, repeated, tab, joined}
 use Rattle.netlist.specs.declared.Record.{Record}
-use Rattle.netlist.specs.Limits.{maxText, maxInputs}
+use Rattle.netlist.specs.Limits.{maxInputs}
 use Rattle.netlist.specs.Values.{undefined, code, valueOf, invert, isDefined}
 use Rattle.netlist.specs.Netlist.{gateCount}
 use Rattle.netlist.specs.Kinds.{row, rows, rowOf, isNot, isXor, isXnor, isKind, signatureOf, fewestOperands}
@@ -287,9 +287,7 @@ specimens =
     ∷ (toRead (ascii "(out _y a)\n") 99 ⇒ with 2 5)
     ∷ (toRead (ascii "(out y 0)\n") 99 ⇒ with 2 7)
     ∷ (toRead (ascii "(gate p (not 0))\n(in a)\n") 99 ⇒ with 2 18)
-    -- 9.2: the order of Read's conditions
-    ∷ (toRead (replicate (suc maxText) 0) 0 ⇒ with 1 0)
-    ∷ (toRead (replicate maxText 0) 0 ⇒ with 2 0)
+    -- 9.2: the order of Read's conditions; the texts at the limit of 61,440 bytes are executed (tests/tests/specimens.rs)
     ∷ (toRead (tooManyInputs ++ ascii "(in") 0 ⇒ with 2 94)
     ∷ (toRead tooManyInputs 0 ⇒ with 3 0)
     ∷ (toRead (inputLines maxInputs) 0 ⇒ with 11 0)
