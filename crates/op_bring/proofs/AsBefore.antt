@@ -26,7 +26,7 @@ use Rattle.netlist.specs.Syntax.{Tree}
 use Rattle.netlist.specs.Bring.{maxInputsBefore, encodeBefore, brought, isMalformedBefore}
 use Rattle.theory_encoding.proofs.Decoded.{decode-inputCount}
 use Rattle.op_bring.proofs.Words.{brought-nevers, encode-brought, whole-before, whole-long, word-before}
-use Rattle.op_bring.proofs.Words.{torn-brought, torn-inputs}
+use Rattle.op_bring.proofs.Words.{malformed-brought, malformed-inputs}
 
 pub record AsBefore (ws : List ℕ) : Type 0 where
   pub whole : isMalformed (brought ws) ≡ false
@@ -40,7 +40,7 @@ brought-back ws h =
     let (few, words) = whole-before ws h in
     record {
       whole =
-          sym (torn-brought ws long (rw (decode-inputCount (brought ws)
+          sym (malformed-brought ws long (rw (decode-inputCount (brought ws)
           ∙ sym (word-before ws 0 long (omega arith))) at few)) ∙ h;
       noLines = brought-nevers ws long;
       words = words;
@@ -85,7 +85,7 @@ module _ (b : Block) (e : b .nevers ≡ []) where
 -- the old words of such a block are torn to the old rules
 pub torn-before : (b : Block) → maxInputsBefore < inputCount b → isMalformedBefore (encodeBefore b) ≡ true
 unfolding encodeBefore
-torn-before b many = torn-inputs (encodeBefore b) (omega arith) many
+torn-before b many = malformed-inputs (encodeBefore b) (omega arith) many
 
 -- and the limit of before refuses its text: this is the first test of 3 with that limit
 pub crowded-before : (t : Tree) → maxInputsBefore < length (t .inputs)

@@ -4,8 +4,8 @@ use crate::ready::READY_WORDS;
 use crate::ready::lowest;
 use crate::ready::remove;
 use crate::waiting::add_all_ready;
+use crate::waiting::count_down;
 use crate::waiting::count_slots;
-use crate::waiting::wake;
 use graph_gates::GRAPH_WORDS;
 use graph_gates::fanout::FANOUT_WORDS;
 use graph_gates::fanout::link_slots;
@@ -55,7 +55,7 @@ fn number_group(
     let mut k = turn.leader;
     while k < turn.gates {
         numbers[k] = turn.number as u16;
-        wake(
+        count_down(
             graph,
             turn.gates,
             k,

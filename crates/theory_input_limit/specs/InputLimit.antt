@@ -71,10 +71,10 @@ pub record LimitKept (limit : ℕ) : Type 0 where
   -- a block of up to so many inputs keeps its words: it is whole now exactly if it was
   pub blocksKept : (ws : List ℕ) → getD ws 0 0 ≤ limit → isMalformedUpTo limit ws ≡ isMalformed ws
   -- a block with more inputs was malformed to the earlier program
-  pub blocksTorn : (ws : List ℕ) → limit < getD ws 0 0 → isMalformedUpTo limit ws ≡ true
+  pub blocksMalformed : (ws : List ℕ) → limit < getD ws 0 0 → isMalformedUpTo limit ws ≡ true
   -- a text of up to so many inputs keeps every answer of Read
   pub textsKept : (text : List ℕ) → inputsOf (parse text) ≤ limit → (room : ℕ)
       → readUpTo limit text room ≡ read text room
   -- a text with more inputs, of the grammar and not overlong, was refused with 3 by the earlier program
-  pub textsCrowded : (text : List ℕ) → limit < inputsOf (parse text) → length text ≤ maxText → (room : ℕ)
+  pub textsOverLimit : (text : List ℕ) → limit < inputsOf (parse text) → length text ≤ maxText → (room : ℕ)
       → readUpTo limit text room ≡ refused OverLimit

@@ -1,18 +1,20 @@
--- `op_groups::waiting::wake` meets its contract: the list goes down over all slots that read the gate. Assumes nothing.
+-- `op_groups::waiting::count_down` meets its contract: the list goes down over all slots that read the gate.
+-- Assumes nothing.
 use Prim.Native.Nat.{suc, _+_, _-_}
 use mathlib.Core.Path.{_≡_}
 use native.Mathlib.Omega.{arith}
 use borrow.Author.Needs.{needs}
 use lib.ListN.{getD}
 use Rattle.op_groups.specs.Waiting.{isOpen, Waiting}
-use Rattle.op_groups.proofs.Counted.{waiting-as, held-end, Waking, waking-first, waking-reads, waking-next}
-use Rattle.op_groups.proofs.Counted.{waking-down}
-use Rattle.op_groups.proofs.waiting.wake.Statement.{statement}
-use Rattle.op_groups.proofs.waiting.wake.Tie as tie
+use Rattle.op_groups.proofs.Counted.{waiting-as, open-end, CountingDown, counting-down-first}
+use Rattle.op_groups.proofs.Counted.{counting-down-reads, counting-down-next, counting-down-down}
+use Rattle.op_groups.proofs.waiting.count_down.Statement.{statement}
+use Rattle.op_groups.proofs.waiting.count_down.Tie as tie
 
 abbrev Inv-loop : tie.InvT-loop
 Inv-loop graph m k leaders numbers fanout counts₀ ready₀ at₀ counts ready at =
-    Waking m graph k fanout at × Waiting m leaders numbers (getD leaders k 0) (isOpen graph leaders numbers k at) counts
+    CountingDown m graph k fanout at × Waiting m leaders numbers (getD leaders k 0)
+    (isOpen graph leaders numbers k at) counts
     ready
 
 abbrev μ-loop : tie.MeasureT-loop
@@ -25,12 +27,12 @@ loop-holds : tie.Need-loop-holds Inv-loop μ-loop
 loop-holds c =
     let s = c .before in
     rw (c .fanout-word .ensures) (
-      waking-first (s .pre .linked) (s .pre .below) (s .pre .prepared .legal .few),
+      counting-down-first (s .pre .linked) (s .pre .below) (s .pre .prepared .legal .few),
       s .pre .waiting,
     )
 
-wake-slot-requires : tie.Need-wake-slot-requires Inv-loop μ-loop
-wake-slot-requires c κs =
+count-down-slot-requires : tie.Need-count-down-slot-requires Inv-loop μ-loop
+count-down-slot-requires c κs =
     let turn = c .before .before .before in
     let s = turn .before .before in
     let l = turn .loop in
@@ -39,7 +41,8 @@ wake-slot-requires c κs =
     record {
       prepared = s .pre .prepared;
       slot = omega (arith, l .inv .0 .within, up);
-      reads = waking-reads (s .pre .linked) (s .pre .below) (s .pre .prepared .legal .few) (rw up at (l .inv .0));
+      reads =
+          counting-down-reads (s .pre .linked) (s .pre .below) (s .pre .prepared .legal .few) (rw up at (l .inv .0));
       below = s .pre .below;
       numbered = s .pre .numbered;
       waiting = rw (← next) (l .inv .1);
@@ -72,9 +75,9 @@ loop-again c =
     let up : l .at ≡ suc (l .at - 1) = omega (arith, turn .loop-test .taken) in
     let few = s .pre .prepared .legal .few in
     rw (c .fanout-word2 .ensures) (
-      waking-next (s .pre .linked) (s .pre .below) few (rw up at (l .inv .0)),
-      waking-down (s .pre .linked) (s .pre .below) few (rw up at (l .inv .0)) (s .pre .numbered)
-          (c .before .wake-slot .ensures),
+      counting-down-next (s .pre .linked) (s .pre .below) few (rw up at (l .inv .0)),
+      counting-down-down (s .pre .linked) (s .pre .below) few (rw up at (l .inv .0)) (s .pre .numbered)
+          (c .before .count-down-slot .ensures),
     )
 
 returns : tie.Need-returns Inv-loop μ-loop
@@ -84,11 +87,11 @@ returns c =
     let a = s .args in
     let end : turn .loop .at ≡ 0 = omega (arith, c .loop-test .left) in
     waiting-as (turn .loop .inv .1)
-    (λ e el. rw end (held-end (a .graph .now) (a .leaders .now) (a .numbers .now) (a .k) (s .pre .numbered) e))
+    (λ e el. rw end (open-end (a .graph .now) (a .leaders .now) (a .numbers .now) (a .k) (s .pre .numbered) e))
 
-pub wake-spec : {M : Type 1} → statement M
-wake-spec =
+pub count-down-spec : {M : Type 1} → statement M
+count-down-spec =
     tie.close
     (tie.spec
-    Inv-loop μ-loop fanout-word-requires (λ c. search needs) loop-holds (λ c. search needs) wake-slot-requires
+    Inv-loop μ-loop fanout-word-requires (λ c. search needs) loop-holds (λ c. search needs) count-down-slot-requires
     add-fanout-word fanout-word-requires-2 (λ c. search needs) loop-less loop-again returns)

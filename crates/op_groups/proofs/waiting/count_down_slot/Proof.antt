@@ -1,16 +1,16 @@
--- `op_groups::waiting::wake_slot` meets its contract: the group of another gate counts one slot less, and is ready when
--- none is left. Assumes nothing.
+-- `op_groups::waiting::count_down_slot` meets its contract: the group of another gate counts one slot less, and is
+-- ready when none is left. Assumes nothing.
 use mathlib.Core.Path.{sym, _∙_}
 use native.Mathlib.Omega.{arith}
 use borrow.Author.Needs.{needs}
-use Rattle.op_groups.proofs.Counted.{leader-below, wake-skip, slot-some, slot-stays, slot-ready}
-use Rattle.op_groups.proofs.waiting.wake_slot.Statement.{statement}
-use Rattle.op_groups.proofs.waiting.wake_slot.Tie as tie
+use Rattle.op_groups.proofs.Counted.{leader-below, count-down-skip, slot-some, slot-stays, slot-ready}
+use Rattle.op_groups.proofs.waiting.count_down_slot.Statement.{statement}
+use Rattle.op_groups.proofs.waiting.count_down_slot.Tie as tie
 
 returns : tie.Need-returns
 returns c =
     let led = c .before .before in
-    wake-skip (led .before .pre) (led .word-of .ensures) (sym (c .before .word-of2 .ensures) ∙ c .if1 .taken)
+    count-down-skip (led .before .pre) (led .word-of .ensures) (sym (c .before .word-of2 .ensures) ∙ c .if1 .taken)
 
 word-of-requires-3 : tie.Need-word-of-requires-3
 word-of-requires-3 c κs =
@@ -67,8 +67,8 @@ returns-3 c =
     rw read (slot-stays (s .pre) (led .word-of .ensures) (λ q. apart .if1 .left (apart .before .word-of2 .ensures ∙ q))
     (rw (← read) (c .if2 .left)))
 
-pub wake-slot-spec : {M : Type 1} → statement M
-wake-slot-spec =
+pub count-down-slot-spec : {M : Type 1} → statement M
+count-down-slot-spec =
     tie.close
     (tie.spec
     (λ c κs. search needs) (λ c. search needs) (λ c κs. search needs) (λ c. search needs) returns word-of-requires-3
