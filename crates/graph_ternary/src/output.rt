@@ -1,4 +1,4 @@
-// What an output shows.
+// The value that an output shows.
 use graph_gates::PLACES;
 use graph_gates::place_of;
 use words_layout::offsets::NAME_SIZE;

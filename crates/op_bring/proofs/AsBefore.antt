@@ -5,7 +5,8 @@
 --   verdict-before, lowest-before   Verdict's count and detail: over all settings, as before
 --   sound-before            an assignment is sound when every setting that agrees with it is settled, as before
 --   rendered-before         the rendering's words of today are its old ones with a fourth count
---   torn-before, crowded-before   a block of more inputs than there were is torn to the old rules, and its text crowded
+--   torn-before, crowded-before   a block of more inputs than there were is malformed to the old rules, and its text
+--     over a limit
 use mathlib.Core.Path.{_≡_, refl, sym, ap, fun-ext, _∙_}
 use mathlib.Core.Bool.{Bool, true, false, not, _||_}
 use mathlib.Core.List.{List, []}
@@ -82,7 +83,7 @@ module _ (b : Block) (e : b .nevers ≡ []) where
 
 -- ---- more inputs than there were
 
--- the old words of such a block are torn to the old rules
+-- the old words of such a block are malformed to the old rules
 pub torn-before : (b : Block) → maxInputsBefore < inputCount b → isMalformedBefore (encodeBefore b) ≡ true
 unfolding encodeBefore
 torn-before b many = malformed-inputs (encodeBefore b) (omega arith) many

@@ -1,4 +1,4 @@
-// Writing a block with its gates in another order, when nothing can refuse any more. Gather and Scatter both call it.
+// A block's words written with its gates permuted, after all tests have passed. Gather and Scatter both call it.
 use unroll_emission::entry::copy_words;
 use unroll_emission::entry::write_gate;
 use unroll_emission::rendered::copy_outputs;

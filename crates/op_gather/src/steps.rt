@@ -1,4 +1,4 @@
-// The steps of Gather and Scatter on a block that is not torn, with arrays lent.
+// Gather and Scatter of a block that is not malformed, with the scratch arrays lent by the caller.
 use crate::arranged::write_arranged;
 use crate::places::find_places;
 use netlist::Answer;

@@ -1,5 +1,5 @@
--- Groups that wait (Kahn's algorithm on strongly connected groups): each counts the slots of its gates that read a gate
--- of another group without a number. A group whose count is 0 may be next.
+-- The counts of Kahn's algorithm on strongly connected groups: each group counts the slots of its gates that read a
+-- gate of another group without a number. A group whose count is 0 may be next.
 --   crosses       a slot reads a gate of another group
 --   isOpen        a slot that its group waits for: the gate has no number, or has it and the slot was not counted down
 --     yet

@@ -1,4 +1,4 @@
-// A set of gates as words of bits, 64 gates to a word; Kahn's ready set is one.
+// A bit set of gates, 64 to a word: Kahn's algorithm keeps the leaders of the ready groups in one.
 use lanes_dual_rail::words::lowest_lane;
 use words_layout::limits::MAX_GATES;
 ghost use mathlib.Core.Path.{_≡_};

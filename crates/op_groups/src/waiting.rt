@@ -1,6 +1,6 @@
-// The counts of Kahn's algorithm: each group counts the slots of its gates that read a gate of another group without a
-// number, and is ready where there is none. When a gate gets its number, the group of each slot in its fan-out counts
-// one less.
+// The counts of Kahn's algorithm (in-degrees): each group counts the slots of its gates that read a gate of another
+// group without a number, and is ready where there is none. When a gate gets its number, the group of each slot in its
+// fan-out counts one less.
 use crate::ready::READY_WORDS;
 use crate::ready::add;
 use graph_gates::FIRST_GATE;

@@ -7,7 +7,7 @@ ghost use Prim.Native.Nat.{ℕ, _+_, _<_, _≤_};
 ghost use lib.ListN.{length, getD, drop};
 ghost use Rattle.netlist.specs.Line.{lf, clamped, startBefore, untilLf, lineStart, lineEnd, lineLength, lineAt};
 
-// The bytes that are looked at together, so that a processor compares many at a time.
+// How many bytes are compared together, in vector instructions.
 const PART: usize = 64;
 
 // The place, or the text's end where the place is past it.
@@ -21,7 +21,7 @@ fn clamp(text: &[u8], place: usize) -> usize
     }
 }
 
-// Does an LF stand in the part from `at` on? Every byte of the part is looked at, so that no byte ends the loop early.
+// Does an LF stand in the part from `at` on? The loop has no early end, so that it is compiled to vector instructions.
 fn has_lf(text: &[u8], at: usize) -> bool
     requires { ⌜ at + 64 ≤ length (now text) ⌝ }
     ensures { λ r. ⌜ (r ≡ false → (k : ℕ) → k < 64 → getD (now (text .entry)) (at + k) 0 ≡ lf → ⊥) ⌝ }

@@ -21,8 +21,8 @@ ghost use Rattle.op_write.specs.Lines.{blockText};
 mod lines;
 mod nevers;
 
-// Refusal 11, of a block that is not malformed. Where there is room for the longest text nothing is measured; else a
-// pass over a text of one byte does.
+// Refusal 11, of a block that is not malformed. Where there is room for the longest text of all blocks, nothing is
+// measured; else the text is written once into a slice of one byte, which counts its bytes.
 fn check_room(words: &[u16], room: usize) -> Test
     requires { ⌜ isMalformed (now words) ≡ false ⌝ }
     ensures { λ r. ⌜ r ≡ testOf (ltb room (length (blockText (now (words .entry))))) NoRoom ⌝ }

@@ -1,10 +1,10 @@
--- The rules of the stored block, word by word, together say "not torn". Cited by the proof of the code that tests the
--- rules. Assumes nothing.
+-- The rules of the stored block, word by word, together say "not malformed". Cited by the proof of the code that tests
+-- the rules. Assumes nothing.
 --   Intact: the rules on the words, each as a fact
 --   intact-parts, intact-from: the test and the facts
 --   intact-wellFormed, intact-encode: words that meet the rules hold a well-formed block and are its words
 --   encoded-intact: the other way round
---   intact-torn: the main law: the rules are "not torn"
+--   intact-torn: the main law: the rules are "not malformed"
 use mathlib.Core.Path.{_≡_, refl, sym, ap, _∙_}
 use mathlib.Core.Bool.{Bool, true, not, _&&_}
 use mathlib.Core.List.{List}
@@ -258,7 +258,7 @@ module _ (ws : List ℕ) where
       long : inputsAt ≤ outputsAt (getD ws 0 0) (getD ws 3 0) (getD ws 1 0) + outputSize * getD ws 2 0
       long = omega arith
 
--- The rules, word by word, together are "not torn".
+-- The rules, word by word, together are "not malformed".
 pub intact-torn : (ws : List ℕ) → isMalformed ws ≡ not (intact ws)
 unfolding isMalformed
 intact-torn ws =

@@ -2,7 +2,7 @@
 -- read. The parts themselves, for every list of words, are in Decoded. Cited by the crates that work on stored blocks.
 -- Assumes nothing.
 --   GateWhole, OperandWord: what is known of a gate's and an operand's words
---   whole-parts: the limits, the length and the rules of words that are not torn
+--   whole-parts: the limits, the length and the rules of words that are not malformed
 --   whole-gate, whole-node: a gate's and an output's words
 --   wellFormed-gate, wellFormed-output: the rules of a gate and an output of a well-formed block
 --   whole-reads: a gate that is read is there
@@ -69,7 +69,7 @@ gateRule-parts ws nodes at h =
       unused = gateRule-unused ws nodes at h;
     }
 
--- ---- words that are not torn
+-- ---- words that are not malformed
 
 module _ (ws : List ℕ) (whole : isMalformed ws ≡ false) where
   pub whole-intact : intact ws ≡ true

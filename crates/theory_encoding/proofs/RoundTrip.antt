@@ -2,8 +2,8 @@
 -- blocks. Cited by Intact and by whoever writes or reads blocks. Assumes nothing.
 --   part-words, neverWords-neverAt: parts read from words at a fixed distance, and a never line, have those words
 --   encode-decode: on words of the right length whose unused operand words are 0
---   decode-encode, encode-whole: on well-formed blocks, whose words are not torn
---   whole-encode, whole-wellFormed: on words that are not torn, whose block is well-formed
+--   decode-encode, encode-whole: on well-formed blocks, whose words are not malformed
+--   whole-encode, whole-wellFormed: on words that are not malformed, whose block is well-formed
 use mathlib.Core.Path.{_≡_, refl, sym, ap, _∙_}
 use mathlib.Core.Bool.{true, false, _&&_}
 use mathlib.Core.List.{List, [], _∷_, _++_, map}
@@ -185,9 +185,9 @@ decode-encode b h = λ i. record {
         (all-at (λ o. isNode b (o .node)) (b .outputs) o noOutput (w .nodesThere) l)
         (encode-output b o noOutput l))
 
--- ---- torn
+-- ---- malformed
 
--- words that are not torn are the words of the block that they hold
+-- words that are not malformed are the words of the block that they hold
 pub whole-encode : (ws : List ℕ) → isMalformed ws ≡ false → encode (decode ws) ≡ ws
 unfolding isMalformed
 whole-encode ws h =
@@ -202,7 +202,7 @@ whole-wellFormed ws h =
     and-left (isWellFormed (decode ws)) (same (encode (decode ws)) ws)
     (not-false (isWellFormed (decode ws) && same (encode (decode ws)) ws) h)
 
--- the words of a well-formed block are not torn
+-- the words of a well-formed block are not malformed
 pub encode-whole : (b : Block) → isWellFormed b ≡ true → isMalformed (encode b) ≡ false
 unfolding isMalformed
 encode-whole b h = rw (decode-encode b h, h, eq-same (encode b) (encode b) refl)

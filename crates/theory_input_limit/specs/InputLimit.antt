@@ -75,6 +75,6 @@ pub record LimitKept (limit : ℕ) : Type 0 where
   -- a text of up to so many inputs keeps every answer of Read
   pub textsKept : (text : List ℕ) → inputsOf (parse text) ≤ limit → (room : ℕ)
       → readUpTo limit text room ≡ read text room
-  -- a text with more inputs, of the grammar and not overlong, was refused with 3 by the earlier program
+  -- a text with more inputs, of the grammar and not too long, was refused with 3 by the earlier program
   pub textsOverLimit : (text : List ℕ) → limit < inputsOf (parse text) → length text ≤ maxText → (room : ℕ)
       → readUpTo limit text room ≡ refused OverLimit

@@ -1,6 +1,6 @@
 -- Gather and Scatter on stored words: what is written is a block, back after out gives every word, and Verdict and
 -- Cover answer the same. The operations are those of netlist/specs.
---   gathered-whole, scattered-whole         what is made is not torn
+--   gathered-whole, scattered-whole         what is made is not malformed
 --   gathered-length, scattered-length       it has as many words; gathered-listed: the list has a word for each gate
 --   gathered-verdict, scattered-verdict     Verdict of it is that of the words
 --   gathered-coverOf, scattered-coverOf     and so is Cover

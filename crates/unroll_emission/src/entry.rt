@@ -20,7 +20,8 @@ pub struct Entry {
     pub last: usize,
 }
 
-// The word of what stands now for what `w` names: a gate's newest copy, or the same input or constant.
+// The word of what stands for the node that `w` names while copies are made: the newest copy of a gate; an input or a
+// constant stands for itself.
 fn mapped(w: u16, nodes: Nodes, newest: &[u16]) -> u16
     requires { ⌜ (nodes .inputs + nodes .gates ≤ nodeRoom) × (nodes .gates ≤ length (now newest)) ⌝ }
     ensures { λ r. ⌜ r ≡ mappedWord nodes (now (newest .entry)) w ⌝ }

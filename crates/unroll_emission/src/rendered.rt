@@ -73,7 +73,7 @@ fn copy_gates(
     }
 }
 
-// Writes the `k` outputs, each at what stands for its node in the end.
+// Writes the `k` outputs, each showing the last copy of the gate that it showed.
 pub fn copy_outputs(
     words: &[u16],
     nodes: Nodes,

@@ -1,4 +1,5 @@
-// The gates of a block: kinds, operand counts and operands; and whether each gate reads only lower ones.
+// The rules of a block's gates (SPECIFICATION 2.4): legal kinds, operand counts and operands; and whether the gates are
+// in topological order, each reading only lower ones.
 use words_layout::nodes::CONSTANT_0;
 use words_layout::nodes::CONSTANT_1;
 use words_layout::offsets::GATE_SIZE;
@@ -49,8 +50,8 @@ pub fn is_operand(nodes: usize, word: usize) -> bool
     word == CONSTANT_0 || word == CONSTANT_1
 }
 
-// Is the word an operand, by one comparison: the constants are the two highest words, so that two further on they are 0
-// and 1 again.
+// Is the word an operand? One comparison tells: the constants are the two highest words, and with 2 added, modulo the
+// number of words, they become 0 and 1, below every node.
 fn is_operand_word(nodes: usize, word: u16) -> bool
     requires { ⌜ nodes ≤ nodeRoom ⌝ }
     ensures { λ r. ⌜ r ≡ operandRule nodes word ⌝ }
@@ -58,8 +59,8 @@ fn is_operand_word(nodes: usize, word: u16) -> bool
     (word as usize + 2) % 65536 < nodes + 2
 }
 
-// Do the four operand words of the gate at `at` fit: operands below the count, 0 from there on? All four are tested
-// before the one branch.
+// Do the four operand words of the gate at `at` fit: operands below the count, 0 from there on? Their tests are joined
+// without branches.
 fn slots_fit(words: &[u16], nodes: usize, at: usize, count: usize) -> bool
     requires { ⌜ (at + operandWords < length (now words)) × (nodes ≤ nodeRoom) × (1 ≤ count) ⌝ }
     ensures { λ r. ⌜ r ≡ all (slotRule (now (words .entry)) nodes at count) (upTo operandWords) ⌝ }
