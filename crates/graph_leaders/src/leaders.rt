@@ -1,9 +1,9 @@
-// The lowest gate of each gate's strongly connected group, its leader. Tarjan's search writes layers; where the check
-// shows that they are the groups, the first gate of each is found in one walk over the gates. Else `closure` finds the
-// leaders.
+// The leader of each gate, the lowest gate of its strongly connected component. Tarjan's search writes layers; where
+// they are certified to be the components, the first gate of each is found in one walk over the gates. Else `closure`
+// finds the leaders.
+use crate::certified::are_certified;
+use crate::certified::last_of;
 use crate::closure::lead_slowly;
-use crate::ties::are_tied;
-use crate::ties::last_of;
 use graph_gates::GRAPH_WORDS;
 use graph_scc::check::are_layers;
 use graph_scc::check::find_positions;
@@ -62,7 +62,7 @@ fn lead_layers(
     }
 }
 
-// Does the certificate hold: are the layers the strongly connected groups?
+// Are the layers certified to be the strongly connected components?
 fn is_certified(
     graph: &[u16; GRAPH_WORDS],
     m: usize,
@@ -80,7 +80,7 @@ fn is_certified(
     if !are_layers(graph, m, order, ends, positions) {
         return false;
     }
-    are_tied(graph, m, order, ends, positions, notes)
+    are_certified(graph, m, order, ends, positions, notes)
 }
 
 // Finds the leaders, with room lent for the search.

@@ -1,5 +1,5 @@
-// The check of layers, position by position and in linear time: the order is one of all gates, each gate reads only
-// gates before the end of its layer, and the positions of a loop have the same end.
+// The check of what the search wrote, position by position and in linear time: the order is a permutation of the gates,
+// each gate reads only gates before the end of its layer, and the positions of a loop have the same end.
 use crate::words::graph_word;
 use crate::words::word_of;
 use graph_gates::FIRST_GATE;

@@ -1,8 +1,7 @@
 // Tarjan's depth-first search along operands ("Depth-first search and linear graph algorithms", 1972), without
-// recursion: each turn takes one slot or leaves one gate. It writes the gates group after group, a group behind the
-// groups that it reads, and the gates of a group as the search left them. Nothing is promised of what it writes but
-// that it ends in bounds: `check` tells whether it is right.
-use crate::notes::CALLER;
+// recursion: each turn takes one slot or leaves one gate. It writes the gates component after component, each behind
+// the components that it reads, and the gates of a component in the order in which the search left them. Nothing is
+// promised of what it writes but that it ends in bounds: `check` tells whether it is right.
 use crate::notes::CLOSED;
 use crate::notes::CURSORS;
 use crate::notes::ENTERED;
@@ -10,6 +9,7 @@ use crate::notes::LOWEST;
 use crate::notes::NOTE_SIZE;
 use crate::notes::NOTES;
 use crate::notes::NOWHERE;
+use crate::notes::PARENT;
 use crate::words::graph_word;
 use crate::words::note_of;
 use crate::words::word_of;
@@ -47,7 +47,7 @@ fn enter(k: usize, caller: usize, time: usize, notes: &mut [u16; NOTES])
     let at = NOTE_SIZE * k;
     notes[at + ENTERED] = time as u16;
     notes[at + LOWEST] = (CURSORS * time) as u16;
-    notes[at + CALLER] = caller as u16;
+    notes[at + PARENT] = caller as u16;
 }
 
 // Notes that the cursor's gate reaches a time through the cursor's slot.
@@ -117,7 +117,7 @@ fn write_gate(
     }
 }
 
-// Writes the gates of the stack from `start` on; their group ends at `end`.
+// Writes the gates of the stack from `start` on; their component ends at `end`.
 fn write_group(
     start: usize,
     end: usize,
@@ -152,8 +152,8 @@ fn layer_end(graph: &[u16; GRAPH_WORDS], k: usize, alone: bool, last: usize) -> 
     last + 1
 }
 
-// Gate k reaches no gate that was entered before it: its group is what was entered after it and waits on the stack, and
-// then gate k itself.
+// Gate k reaches no gate that was entered before it, so that it is the root of a component: the gates that were entered
+// after it and wait on the stack, and gate k itself.
 fn close_group(
     graph: &[u16; GRAPH_WORDS],
     k: usize,
@@ -187,7 +187,7 @@ fn close_group(
     }
 }
 
-// Puts gate k on the stack, where it waits until its group is whole.
+// Puts gate k on the stack, where it waits until its component is complete.
 fn push(k: usize, standing: Standing, stack: &mut [u16; MAX_GATES]) -> Standing
     requires { ⌜ (k < maxGates) × (standing .top ≤ maxGates) ⌝ }
     ensures { λ r. ⌜ LeftOne (standing .top) (standing .count) (r .top) (r .count) ⌝ }
@@ -205,7 +205,7 @@ fn push(k: usize, standing: Standing, stack: &mut [u16; MAX_GATES]) -> Standing
     }
 }
 
-// Leaves gate k: its group is whole, or its caller reaches what gate k reaches.
+// Leaves gate k: its component is complete, or its parent reaches what gate k reaches.
 fn leave(
     graph: &[u16; GRAPH_WORDS],
     k: usize,
@@ -224,7 +224,7 @@ fn leave(
     if lowest == note_of(notes, at + ENTERED) as usize {
         return close_group(graph, k, standing, stack, notes, order, ends);
     }
-    lower(note_of(notes, at + CALLER) as usize, lowest, notes);
+    lower(note_of(notes, at + PARENT) as usize, lowest, notes);
     push(k, standing, stack)
 }
 
@@ -280,7 +280,7 @@ fn turn(
         };
     }
     let k = cursor / CURSORS;
-    let caller = note_of(notes, NOTE_SIZE * k + CALLER) as usize;
+    let caller = note_of(notes, NOTE_SIZE * k + PARENT) as usize;
     let left = leave(graph, k, standing, stack, notes, order, ends);
     Standing {
         time,

@@ -1,7 +1,7 @@
 // Event-driven simulation (Ulrich, "Exclusive simulation of activity in digital networks", 1969): one round from the
-// gates that changed in the round before, as only gates that read these can change. `values` has the codes before the
-// round, by place, `found` gets those of the gates behind it, and every gate that changes is put in the queue. A gate
-// that is 0 or 1 stays so, and is not evaluated again.
+// gates that changed in the round before, as only their fan-out can change. `values` has the codes before the round, by
+// place, `found` gets the codes of the gates after it, and every gate that changes is put in the queue. A gate that is
+// 0 or 1 keeps its value, as gates are monotone, and is not evaluated again.
 use crate::round::UNDEFINED;
 use graph_gates::FIRST_GATE;
 use graph_gates::GRAPH_WORDS;
@@ -16,8 +16,8 @@ ghost use mathlib.Core.Path.{_≡_};
 ghost use Prim.Native.Nat.{_≤_, _<_};
 ghost use Rattle.netlist.specs.GateTable.{gateTable};
 ghost use Rattle.graph_simulation.specs.Rounded.{Prepared};
-ghost use Rattle.graph_simulation.specs.Changes.{Awake, UpdateReady, UpdatedOne, UpdatedList, UpdatedAll, Copied};
-ghost use Rattle.graph_simulation.specs.Changes.{CopyReady, Round, Turned, ListReady};
+ghost use Rattle.graph_simulation.specs.Changes.{Pending, UpdateReady, UpdatedOne, UpdatedList, UpdatedAll};
+ghost use Rattle.graph_simulation.specs.Changes.{Copied, CopyReady, Round, Turned, ListReady};
 
 // Where the gates that one round changed stand in the queue: from `head` on, before `tail`.
 pub struct Stretch {
@@ -25,8 +25,8 @@ pub struct Stretch {
     pub tail: usize,
 }
 
-// The gates that read a gate: where its list starts in the fan-out of so many gates.
-struct Readers {
+// One gate's list in the fan-out of `gates` gates: it starts at `from`.
+struct FanoutList {
     gates: usize,
     from: usize,
 }
@@ -85,34 +85,34 @@ pub fn update_all(
     end
 }
 
-// Evaluates the gates that read a gate, and queues those that get a value; gives the queue's new end.
-fn update_readers(
+// Evaluates the fan-out of one gate, and queues those that get a value; gives the queue's new end.
+fn update_fanout(
     table: &[u8; GATE_ENTRIES],
     graph: &[u16; GRAPH_WORDS],
     fanout: &[u16; FANOUT_WORDS],
-    readers: Readers,
+    list: FanoutList,
     values: &[u8; PLACES],
     found: &mut [u8; MAX_GATES],
     queue: &mut [u16; MAX_GATES],
     tail: usize,
 ) -> usize
     requires { ⌜ (now table ≡ gateTable)
-        × UpdateReady (readers .gates) (now graph) (now values) (now found) (now queue) tail ⌝ }
-    requires { ⌜ ListReady (readers .gates) (now fanout) (readers .from) ⌝ }
+        × UpdateReady (list .gates) (now graph) (now values) (now found) (now queue) tail ⌝ }
+    requires { ⌜ ListReady (list .gates) (now fanout) (list .from) ⌝ }
     ensures { λ r. ⌜
-        UpdatedList (readers .gates) (now (graph .entry)) (now (fanout .entry)) (now (values .entry))
+        UpdatedList (list .gates) (now (graph .entry)) (now (fanout .entry)) (now (values .entry))
         (now (found .entry)) (now (queue .entry)) tail
-        (readers .from) (now (found .exit)) (now (queue .exit)) r
+        (list .from) (now (found .exit)) (now (queue .exit)) r
         ⌝ }
 {
     let mut end = tail;
-    let mut p = readers.from;
+    let mut p = list.from;
     while 0 < p {
         let e = p - 1;
         end = update(
             table,
             graph,
-            readers.gates,
+            list.gates,
             e / SLOTS,
             values,
             found,
@@ -124,8 +124,8 @@ fn update_readers(
     end
 }
 
-// Evaluates the gates that read what the round before changed, and queues those that get a value; gives the queue's new
-// end.
+// Evaluates the fan-out of the gates that the round before changed, and queues those that get a value; gives the
+// queue's new end.
 fn update_changed(
     table: &[u8; GATE_ENTRIES],
     graph: &[u16; GRAPH_WORDS],
@@ -140,7 +140,7 @@ fn update_changed(
     requires { ⌜ UpdateReady m (now graph) (now values) (now found) (now queue) (changed .tail)
         × (changed .head ≤ changed .tail) ⌝ }
     requires { ⌜ CopyReady (now queue) (changed .tail) (now values) ⌝ }
-    requires { ⌜ Awake m (now graph) (now values) (now found) (now queue) (changed .head) (changed .tail) ⌝ }
+    requires { ⌜ Pending m (now graph) (now values) (now found) (now queue) (changed .head) (changed .tail) ⌝ }
     ensures { λ r. ⌜
         UpdatedAll m (now (graph .entry)) (now (values .entry)) (now (found .entry)) (now (queue .entry))
         (changed .tail) (now (found .exit))
@@ -151,11 +151,11 @@ fn update_changed(
     let mut q = changed.head;
     while q < changed.tail {
         let k = queue[q] as usize;
-        let readers = Readers {
+        let list = FanoutList {
             gates: m,
             from: fanout[k] as usize,
         };
-        end = update_readers(table, graph, fanout, readers, values, found, queue, end);
+        end = update_fanout(table, graph, fanout, list, values, found, queue, end);
         q += 1;
     }
     end

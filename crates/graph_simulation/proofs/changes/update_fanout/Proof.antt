@@ -1,4 +1,4 @@
--- `graph_simulation::changes::update_readers` meets its contract: whoever is in the list has its value, or is in the
+-- `graph_simulation::changes::update_fanout` meets its contract: whoever is in the list has its value, or is in the
 -- rest of it. Assumes nothing.
 use mathlib.Core.Path.{refl}
 use mathlib.Core.Logic.{inr}
@@ -10,16 +10,16 @@ use Rattle.netlist.specs.Limits.{maxGates}
 use Rattle.graph_simulation.specs.Changes.{Updated}
 use Rattle.graph_simulation.proofs.Updates.{Awaiting, updated-none, updated-then, updated-ready, awaiting-next}
 use Rattle.graph_simulation.proofs.Updates.{awaiting-end}
-use Rattle.graph_simulation.proofs.changes.update_readers.Statement.{statement}
-use Rattle.graph_simulation.proofs.changes.update_readers.Tie as tie
+use Rattle.graph_simulation.proofs.changes.update_fanout.Statement.{statement}
+use Rattle.graph_simulation.proofs.changes.update_fanout.Tie as tie
 
 abbrev Inv-loop : tie.InvT-loop
-Inv-loop table graph fanout readers values found₀ queue₀ tail end₀ p₀ found queue end p =
-    (p ≤ readers .from) × Updated (readers .gates) graph values found₀ queue₀ tail found queue end
-    × Awaiting graph fanout values found (readers .from) p
+Inv-loop table graph fanout list values found₀ queue₀ tail end₀ p₀ found queue end p =
+    (p ≤ list .from) × Updated (list .gates) graph values found₀ queue₀ tail found queue end
+    × Awaiting graph fanout values found (list .from) p
 
 abbrev μ-loop : tie.MeasureT-loop
-μ-loop table graph fanout readers values found₀ queue₀ tail end₀ p₀ found queue end p = p
+μ-loop table graph fanout list values found₀ queue₀ tail end₀ p₀ found queue end p = p
 
 loop-holds : tie.Need-loop-holds Inv-loop μ-loop
 loop-holds c = (omega arith, updated-none _ _ _, λ e r. inr r)
@@ -84,8 +84,8 @@ returns c =
           (c .loop-test .left);
     }
 
-pub update-readers-spec : {M : Type 1} → statement M
-update-readers-spec =
+pub update-fanout-spec : {M : Type 1} → statement M
+update-fanout-spec =
     tie.close
     (tie.spec
     Inv-loop μ-loop loop-holds (λ c. omega arith) update-requires add-p mul-p element-copy-out-p cast-p loop-less

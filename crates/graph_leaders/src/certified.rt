@@ -1,15 +1,16 @@
-// The certificate that layers are strongly connected groups, checked in linear time: of every position but a layer's
-// last, a gate behind it in its layer reads its gate, and its gate reads one of its layer that is nearer to the layer's
-// last. So the last gate reaches every gate of its layer, and is reached by it.
+// The certificate that layers are strongly connected components, checked in linear time. Of every position but a
+// layer's last, the search noted a parent behind it in its layer, which reads its gate, and a low link, by which its
+// gate reads one of the layer that is nearer to the last. So the last gate reaches every gate of its layer, and is
+// reached by it.
 use graph_gates::FIRST_GATE;
 use graph_gates::GRAPH_WORDS;
 use graph_gates::NODE_SIZE;
 use graph_gates::SLOTS;
-use graph_scc::notes::CALLER;
 use graph_scc::notes::CURSORS;
 use graph_scc::notes::LOWEST;
 use graph_scc::notes::NOTE_SIZE;
 use graph_scc::notes::NOTES;
+use graph_scc::notes::PARENT;
 use graph_scc::words::graph_word;
 use graph_scc::words::note_of;
 use graph_scc::words::word_of;
@@ -23,7 +24,8 @@ ghost use Rattle.netlist.specs.Groups.{reads};
 ghost use Rattle.words_layout.specs.Bounds.{maxWord};
 ghost use Rattle.graph_gates.specs.Graph.{network, Graph};
 ghost use Rattle.graph_scc.specs.Search.{Layered};
-ghost use Rattle.graph_leaders.specs.Leaders.{lastOf, distanceAt, Called, SlotPosition, Leaving, Tied, Certified};
+ghost use Rattle.graph_leaders.specs.Leaders.{lastOf, distanceAt, HasParent, SlotPosition, HasLowLink};
+ghost use Rattle.graph_leaders.specs.Leaders.{CertifiedAt, Certified};
 
 // The number of values that a word has.
 const WORD_VALUES: usize = 65536;
@@ -63,8 +65,8 @@ fn has_slot(graph: &[u16; GRAPH_WORDS], m: usize, from: usize, slot: usize, to: 
     graph_word(graph, NODE_SIZE * from + 1 + slot) as usize == FIRST_GATE + to
 }
 
-// Does a gate behind position i, in the same layer, read the gate at position i?
-fn is_called(
+// Does the gate from which the search entered the gate at position i read it, and stand behind it in its layer?
+fn has_parent(
     graph: &[u16; GRAPH_WORDS],
     m: usize,
     i: usize,
@@ -74,11 +76,11 @@ fn is_called(
     notes: &[u16; NOTES],
 ) -> bool
     requires { ⌜ Layered m (now graph) (now order) (now ends) (now positions) × (i < m) ⌝ }
-    ensures { λ r. ⌜ (r ≡ true → Called m (now (graph .entry)) (now (order .entry)) (now (ends .entry)) i) ⌝ }
+    ensures { λ r. ⌜ (r ≡ true → HasParent m (now (graph .entry)) (now (order .entry)) (now (ends .entry)) i) ⌝ }
 {
     let k = word_of(order, i) as usize;
-    let caller = note_of(notes, NOTE_SIZE * k + CALLER) as usize;
-    let from = caller / CURSORS;
+    let parent = note_of(notes, NOTE_SIZE * k + PARENT) as usize;
+    let from = parent / CURSORS;
     if m <= from {
         return false;
     }
@@ -89,7 +91,7 @@ fn is_called(
     if last_of(ends, i) < at {
         return false;
     }
-    has_slot(graph, m, from, caller % CURSORS, k)
+    has_slot(graph, m, from, parent % CURSORS, k)
 }
 
 // The position of the gate at a slot of gate k, or m where none is.
@@ -113,8 +115,8 @@ fn slot_position(
     word_of(positions, place - FIRST_GATE) as usize
 }
 
-// Does the gate at position i read a gate of its layer that is nearer to the layer's last?
-fn is_leaving(
+// Does the operand that the low link names lead from position i to one of its layer that is nearer to the layer's last?
+fn has_low_link(
     graph: &[u16; GRAPH_WORDS],
     m: usize,
     i: usize,
@@ -126,7 +128,7 @@ fn is_leaving(
     requires { ⌜ Layered m (now graph) (now order) (now ends) (now positions) × (i < m) ⌝ }
     ensures { λ r.
         ⌜ (r ≡ true
-        → Leaving m (now (graph .entry)) (now (order .entry)) (now (ends .entry)) (now (notes .entry)) i) ⌝ }
+        → HasLowLink m (now (graph .entry)) (now (order .entry)) (now (ends .entry)) (now (notes .entry)) i) ⌝ }
 {
     let k = word_of(order, i) as usize;
     let slot = note_of(notes, NOTE_SIZE * k + LOWEST) as usize % CURSORS;
@@ -140,8 +142,8 @@ fn is_leaving(
     distance_at(m, to, order, notes) < distance_at(m, i, order, notes)
 }
 
-// Is position i tied to its layer: the layer's last, or both called from behind and leaving towards the last?
-fn is_tied(
+// Does the certificate hold at position i: is it its layer's last, or has it a parent and a low link in its layer?
+fn is_certified_at(
     graph: &[u16; GRAPH_WORDS],
     m: usize,
     i: usize,
@@ -152,19 +154,20 @@ fn is_tied(
 ) -> bool
     requires { ⌜ Layered m (now graph) (now order) (now ends) (now positions) × (i < m) ⌝ }
     ensures { λ r.
-        ⌜ (r ≡ true → Tied m (now (graph .entry)) (now (order .entry)) (now (ends .entry)) (now (notes .entry)) i) ⌝ }
+        ⌜ (r ≡ true
+        → CertifiedAt m (now (graph .entry)) (now (order .entry)) (now (ends .entry)) (now (notes .entry)) i) ⌝ }
 {
     if last_of(ends, i) == i {
         return true;
     }
-    if !is_called(graph, m, i, order, ends, positions, notes) {
+    if !has_parent(graph, m, i, order, ends, positions, notes) {
         return false;
     }
-    is_leaving(graph, m, i, order, ends, positions, notes)
+    has_low_link(graph, m, i, order, ends, positions, notes)
 }
 
-// Is every position tied to its layer, so that the layers are the groups?
-pub fn are_tied(
+// Does the certificate hold at every position, so that the layers are the strongly connected components?
+pub fn are_certified(
     graph: &[u16; GRAPH_WORDS],
     m: usize,
     order: &[u16; MAX_GATES],
@@ -180,7 +183,7 @@ pub fn are_tied(
 {
     let mut i = 0;
     while i < m {
-        if !is_tied(graph, m, i, order, ends, positions, notes) {
+        if !is_certified_at(graph, m, i, order, ends, positions, notes) {
             return false;
         }
         i += 1;

@@ -1,11 +1,11 @@
--- `graph_leaders::ties::last_of` meets its contract: a position that ends its layer itself is its last, else the one
--- before the end is. Assumes nothing.
+-- `graph_leaders::certified::last_of` meets its contract: a position that ends its layer itself is its last, else the
+-- one before the end is. Assumes nothing.
 use mathlib.Core.Path.{sym, _∙_}
 use native.Mathlib.Omega.{arith}
 use borrow.Author.Needs.{needs}
 use Rattle.graph_leaders.proofs.Certificate.{last-same, last-other}
-use Rattle.graph_leaders.proofs.ties.last_of.Statement.{statement}
-use Rattle.graph_leaders.proofs.ties.last_of.Tie as tie
+use Rattle.graph_leaders.proofs.certified.last_of.Statement.{statement}
+use Rattle.graph_leaders.proofs.certified.last_of.Tie as tie
 
 returns : tie.Need-returns
 returns c =

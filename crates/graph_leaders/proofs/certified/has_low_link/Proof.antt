@@ -1,10 +1,11 @@
--- `graph_leaders::ties::is_leaving` meets its contract: each of its tests is one part of `Leaving`. Assumes nothing.
+-- `graph_leaders::certified::has_low_link` meets its contract: each of its tests is one part of `HasLowLink`.
+-- Assumes nothing.
 use mathlib.Core.Bool.{false≢true}
 use native.Mathlib.Omega.{arith}
 use borrow.Author.Tests.{ltb-true}
 use borrow.Author.Needs.{needs}
-use Rattle.graph_leaders.proofs.ties.is_leaving.Statement.{statement}
-use Rattle.graph_leaders.proofs.ties.is_leaving.Tie as tie
+use Rattle.graph_leaders.proofs.certified.has_low_link.Statement.{statement}
+use Rattle.graph_leaders.proofs.certified.has_low_link.Tie as tie
 
 note-of-requires : tie.Need-note-of-requires
 note-of-requires c κs =
@@ -56,8 +57,8 @@ returns-3 c =
       reading = rw (← slot .2, stands, ← kept .word-of .ensures) (slot .3);
     }
 
-pub is-leaving-spec : {M : Type 1} → statement M
-is-leaving-spec =
+pub has-low-link-spec : {M : Type 1} → statement M
+has-low-link-spec =
     tie.close
     (tie.spec
     (λ c κs. search needs) (λ c. search needs) (λ c. search needs) (λ c. search needs) note-of-requires

@@ -1,4 +1,4 @@
--- `graph_leaders::ties::has_slot` meets its contract: a slot with the gate's place reads it. Assumes nothing.
+-- `graph_leaders::certified::has_slot` meets its contract: a slot with the gate's place reads it. Assumes nothing.
 use Prim.Native.Nat.{_+_}
 use mathlib.Core.Path.{sym, _∙_}
 use mathlib.Core.Bool.{false≢true}
@@ -6,8 +6,8 @@ use borrow.Author.Tests.{eqb-true}
 use borrow.Author.Needs.{needs}
 use Rattle.graph_gates.specs.Graph.{placeAt}
 use Rattle.graph_scc.proofs.Slots.{slot-read}
-use Rattle.graph_leaders.proofs.ties.has_slot.Statement.{statement}
-use Rattle.graph_leaders.proofs.ties.has_slot.Tie as tie
+use Rattle.graph_leaders.proofs.certified.has_slot.Statement.{statement}
+use Rattle.graph_leaders.proofs.certified.has_slot.Tie as tie
 
 returns : tie.Need-returns
 returns c = λ e. absurd (false≢true e)

@@ -1,4 +1,4 @@
--- `graph_leaders::ties::slot_position` meets its contract: the slot reads the gate at its place. Assumes nothing.
+-- `graph_leaders::certified::slot_position` meets its contract: the slot reads the gate at its place. Assumes nothing.
 use Prim.Native.Nat.{_+_, _-_}
 use mathlib.Core.Path.{_≡_, sym}
 use native.Mathlib.Omega.{arith}
@@ -6,8 +6,8 @@ use borrow.Author.Needs.{needs}
 use Rattle.graph_gates.specs.Places.{firstGate}
 use Rattle.graph_gates.specs.Graph.{placeAt}
 use Rattle.graph_scc.proofs.Slots.{slot-read}
-use Rattle.graph_leaders.proofs.ties.slot_position.Statement.{statement}
-use Rattle.graph_leaders.proofs.ties.slot_position.Tie as tie
+use Rattle.graph_leaders.proofs.certified.slot_position.Statement.{statement}
+use Rattle.graph_leaders.proofs.certified.slot_position.Tie as tie
 
 returns : tie.Need-returns
 returns c = record { read = λ l. absurd (omega arith) }

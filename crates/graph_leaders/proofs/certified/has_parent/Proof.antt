@@ -1,10 +1,11 @@
--- `graph_leaders::ties::is_called` meets its contract: each of its tests is one part of `Called`. Assumes nothing.
+-- `graph_leaders::certified::has_parent` meets its contract: each of its tests is one part of `HasParent`.
+-- Assumes nothing.
 use Prim.Native.Nat.{_/_}
 use mathlib.Core.Bool.{false≢true}
 use native.Mathlib.Omega.{arith}
 use borrow.Author.Needs.{needs}
-use Rattle.graph_leaders.proofs.ties.is_called.Statement.{statement}
-use Rattle.graph_leaders.proofs.ties.is_called.Tie as tie
+use Rattle.graph_leaders.proofs.certified.has_parent.Statement.{statement}
+use Rattle.graph_leaders.proofs.certified.has_parent.Tie as tie
 
 note-of-requires : tie.Need-note-of-requires
 note-of-requires c κs =
@@ -22,11 +23,11 @@ returns-3 c = λ e. absurd (false≢true e)
 
 has-slot-requires : tie.Need-has-slot-requires
 has-slot-requires c κs =
-    let called : tie.Else1 = search in
-    let kept = called .before .before in
+    let noted : tie.Else1 = search in
+    let kept = noted .before .before in
     let s = kept .before in (
       s .pre .0 .legal,
-      called .if1 .left,
+      noted .if1 .left,
       rw (kept .word-of .ensures) (s .pre .0 .steps (s .args .i) (s .pre .1) .listed .inside),
     )
 
@@ -34,10 +35,10 @@ returns-4 : tie.Need-returns-4
 returns-4 c =
     λ e. let last = c .before .before in
     let at = last .before .before in
-    let called = at .before in
-    let kept = called .before .before in
+    let noted = at .before in
+    let kept = noted .before .before in
     let s = kept .before in
-    let stands = s .pre .0 .steps (called .before .note-of .result / 8) (called .if1 .left) .listed .stands in
+    let stands = s .pre .0 .steps (noted .before .note-of .result / 8) (noted .if1 .left) .listed .stands in
     record {
       from = at .word-of2 .result;
       behind = last .before .if2 .left;
@@ -45,8 +46,8 @@ returns-4 c =
       reading = rw (at .word-of2 .ensures, stands, ← kept .word-of .ensures) (c .has-slot .ensures e);
     }
 
-pub is-called-spec : {M : Type 1} → statement M
-is-called-spec =
+pub has-parent-spec : {M : Type 1} → statement M
+has-parent-spec =
     tie.close
     (tie.spec
     (λ c κs. search needs) (λ c. search needs) (λ c. search needs) (λ c. search needs) note-of-requires

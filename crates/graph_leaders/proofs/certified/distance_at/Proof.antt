@@ -1,9 +1,9 @@
--- `graph_leaders::ties::distance_at` meets its contract: it reads what the definition reads. Assumes nothing.
+-- `graph_leaders::certified::distance_at` meets its contract: it reads what the definition reads. Assumes nothing.
 use mathlib.Core.Path.{refl}
 use borrow.Author.Needs.{needs}
 use Rattle.graph_leaders.specs.Leaders.{distanceAt}
-use Rattle.graph_leaders.proofs.ties.distance_at.Statement.{statement}
-use Rattle.graph_leaders.proofs.ties.distance_at.Tie as tie
+use Rattle.graph_leaders.proofs.certified.distance_at.Statement.{statement}
+use Rattle.graph_leaders.proofs.certified.distance_at.Tie as tie
 
 returns : tie.Need-returns
 unfolding distanceAt
