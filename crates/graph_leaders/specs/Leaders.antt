@@ -40,10 +40,14 @@ pub record HasParent (m : ℕ) (graph order ends : List ℕ) (i : ℕ) : Type 0 
   pub within : from ≤ lastOf ends i
   pub reading : reads (network m graph) (getD order from 0) (getD order i 0) ≡ true
 
+-- the code's certified::WORD_VALUES, above every position
+abbrev pub wordValues : ℕ
+wordValues = 65536
+
 -- how far position i is from its layer's last gate, as the search noted it: how early a gate its gate was found to
 -- reach, and then when the search left it
 unfoldable pub distanceAt : List ℕ → List ℕ → ℕ → ℕ
-distanceAt order notes i = 65536 * (getD notes (4 * getD order i 0 + 1) 0 / 8) + i
+distanceAt order notes i = wordValues * (getD notes (4 * getD order i 0 + 1) 0 / 8) + i
 
 -- the gate at position i reads a gate of its layer that is nearer to the layer's last
 pub record HasLowLink (m : ℕ) (graph order ends notes : List ℕ) (i : ℕ) : Type 0 where

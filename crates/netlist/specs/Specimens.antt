@@ -287,7 +287,8 @@ specimens =
     ∷ (toRead (ascii "(out _y a)\n") 99 ⇒ with 2 5)
     ∷ (toRead (ascii "(out y 0)\n") 99 ⇒ with 2 7)
     ∷ (toRead (ascii "(gate p (not 0))\n(in a)\n") 99 ⇒ with 2 18)
-    -- 9.2: the order of Read's conditions; the texts at the limit of 61,440 bytes are executed (tests/tests/specimens.rs)
+    -- 9.2: the order of Read's conditions; the texts at the limit of 61,440 bytes are executed
+    -- (tests/tests/specimens.rs)
     ∷ (toRead (tooManyInputs ++ ascii "(in") 0 ⇒ with 2 94)
     ∷ (toRead tooManyInputs 0 ⇒ with 3 0)
     ∷ (toRead (inputLines maxInputs) 0 ⇒ with 11 0)

@@ -86,7 +86,7 @@ placed-over xs ys entry h =
     ∙ drop-drop k (length xs) entry
     ∙ ap (λ (n : ℕ). drop n entry) (sym e))
 
--- the same list once more
+-- a list placed over the slice that has it already changes nothing
 pub placed-again : (xs entry slice : List ℕ) → slice ≡ placed xs entry → slice ≡ placed xs slice
 placed-again xs entry slice e = e ∙ sym (placed-over xs xs entry (omega arith)) ∙ ap (placed xs) (sym e)
 

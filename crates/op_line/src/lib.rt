@@ -6,6 +6,7 @@ ghost use mathlib.Core.Bool.{false};
 ghost use Prim.Native.Nat.{ℕ, _+_, _<_, _≤_};
 ghost use lib.ListN.{length, getD, drop};
 ghost use Rattle.netlist.specs.Line.{lf, clamped, startBefore, untilLf, lineStart, lineEnd, lineLength, lineAt};
+ghost use Rattle.op_line.specs.Parts.{partSize};
 
 // How many bytes are compared together, in vector instructions.
 const PART: usize = 64;
@@ -23,8 +24,8 @@ fn clamp(text: &[u8], place: usize) -> usize
 
 // Does an LF stand in the part from `at` on? The loop has no early end, so that it is compiled to vector instructions.
 fn has_lf(text: &[u8], at: usize) -> bool
-    requires { ⌜ at + 64 ≤ length (now text) ⌝ }
-    ensures { λ r. ⌜ (r ≡ false → (k : ℕ) → k < 64 → getD (now (text .entry)) (at + k) 0 ≡ lf → ⊥) ⌝ }
+    requires { ⌜ at + partSize ≤ length (now text) ⌝ }
+    ensures { λ r. ⌜ (r ≡ false → (k : ℕ) → k < partSize → getD (now (text .entry)) (at + k) 0 ≡ lf → ⊥) ⌝ }
 {
     let mut found = false;
     let mut i = 0;

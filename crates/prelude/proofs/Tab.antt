@@ -58,7 +58,7 @@ module _ {A : Type 0} where
       → set (placed (tab f n) entry) n (f n) ≡ placed (tab f (suc n)) entry
   set-placed-tab f n entry h = set-placed (tab f n) entry n (f n) (length-tab f n) h
 
-  -- the same of a loop's slice, by its next number
+  -- a loop whose slice has the first j elements stores element j
   pub fill-next : (f : ℕ → A) (j : ℕ) (entry slice : List A) (v : A) → slice ≡ placed (tab f j) entry → j < length entry
       → v ≡ f j
       → set slice j v ≡ placed (tab f (j + 1)) entry

@@ -45,7 +45,7 @@ module _ (b : Block) where
   fewer-copies =
       record {
         fewer = copies-fewer;
-        swollenBefore = λ many. let l = copies-fewer in omega arith;
+        tooManyBefore = λ many. let l = copies-fewer in omega arith;
         answered = λ few. let l = copies-fewer in rw (le-ltb maxCopies (copyCount b) (omega arith)) refl;
       }
 

@@ -32,6 +32,5 @@ limits-within t h =
       inputs = leb-true _ _ (c .0);
       nevers = leb-true _ _ (c .1);
       gates = leb-true _ _ (d .1);
-      outputs =
-          leb-true _ _ (e .1);
+      outputs = leb-true _ _ (e .1);
     }

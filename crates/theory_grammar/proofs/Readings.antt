@@ -42,7 +42,7 @@ module _ {A : Type 0} {P : A → List ℕ → Type 0} where
       go true q = hit c t refl q
       go false q = miss
 
-  -- the same for one byte
+  -- a choice by whether the next byte is c
   pub gives-is : (c : ℕ) (first : ℕ → Reader A) (second : Reader A) (s : List ℕ)
       → ((t : List ℕ) → c ∷ t ≡ s → Gives P (first c t))
       → Gives P (second s)

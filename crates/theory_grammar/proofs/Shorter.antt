@@ -1,11 +1,12 @@
--- What a reader leaves of a text is shorter than the text, for names and expressions; and what a term prints before
--- other bytes. Assumes nothing.
-use Prim.Native.Nat.{ℕ, _<_}
+-- What a reader leaves of a text is shorter than the text, for names and expressions; what it is to be a text's end; and
+-- what a term prints before other bytes. Assumes nothing.
+use Prim.Native.Nat.{ℕ, _-_, _≤_, _<_}
 use mathlib.Core.Path.{_≡_, refl, sym, ap, _∙_}
 use mathlib.Core.Bool.{Bool, true, false, false≢true}
 use mathlib.Core.List.{List, [], _∷_, _++_, append-assoc}
 use native.Mathlib.Omega.{arith}
-use lib.ListN.{length, length-append}
+use lib.ListN.{length, drop, length-append}
+use lib.Seq.{drop-at}
 use Rattle.prelude.specs.Lists.{ascii}
 use Rattle.netlist.specs.Kinds.{keyword}
 use Rattle.netlist.specs.Netlist.{Name}
@@ -33,6 +34,18 @@ mutual
   printTerms-append nil a b = refl
   printTerms-append (cons t ts) a b =
       ap (λ s. ascii " " ++ s) (ap (printTerm t) (printTerms-append ts a b) ∙ printTerm-append t (printTerms ts a) b)
+
+-- ---- what is left is the text's end
+
+pub record Ending (rest s : List ℕ) : Type 0 where
+  pub within : length rest ≤ length s
+  pub dropped : drop (length s - length rest) s ≡ rest
+
+pub ending : (w rest s : List ℕ) → w ++ rest ≡ s → Ending rest s
+ending w rest s e =
+    let l = length-append w rest in
+    let m : length (w ++ rest) - length rest ≡ length w = omega arith in
+    rw (← e) (record { within = omega arith; dropped = drop-at w rest _ (sym m) })
 
 -- ---- what is left is shorter
 

@@ -134,8 +134,7 @@ module _ (term : Reader Term) (depth : ℕ) (reads : (s : List ℕ) → Gives (T
         printed = rw (g .printed, h .printed) e;
         legal = rw (h .legal) (g .legal);
         enough = omega arith;
-        fits =
-            omega arith;
+        fits = omega arith;
       })
 
   pub termsReader-sound : (most needed : ℕ) → needed ≤ most → (s : List ℕ)

@@ -1,8 +1,8 @@
--- Paper 8 raised the limit of inputs from 10 to 12. Here the limit is a parameter: with 12 the definitions are those of
--- `netlist`, with 10 those of the program just before. The words and the texts themselves never ask for the limit, so
--- only malformed blocks and refusal 3 do.
+-- What Paper 8 changed when it raised the limit of inputs from 10 to 12. Here the limit is a parameter: with 12 the
+-- definitions are those of `netlist`, with 10 those of the program just before. Encoding, decoding and parsing do not
+-- depend on the limit; only the test for malformed words and refusal 3 do.
 --   isWellFormedUpTo, isMalformedUpTo   SPECIFICATION 2.4, with the limit of inputs as a parameter
---   isOverLimitUpTo, readUpTo           SPECIFICATION 7.3, likewise
+--   isOverLimitUpTo, readUpTo           SPECIFICATION 7.3, with the limit of inputs as a parameter
 --   LimitKept                           the theorem of proofs/InputLimit.antt: what stayed, and what is refused by the
 --                                       earlier program
 use Prim.Native.Nat.{ℕ, _-_, _≤_, _<_}

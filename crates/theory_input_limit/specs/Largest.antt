@@ -25,6 +25,5 @@ largest = record {
   inputs = tab longName 12;
   nevers = replicate 8 longNever;
   gates = replicate 1024 longGate;
-  outputs =
-      tab longOutput 16;
+  outputs = tab longOutput 16;
 }

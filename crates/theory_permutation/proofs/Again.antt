@@ -263,7 +263,7 @@ module _ (b : Block) (fits : isWellFormed b ≡ true) where
       (map-member place (numberAt order t) (joined (groups b))
       (member-from (numberAt order t) (joined (groups b)) t (rw (r .lengthIs) (below t l)) refl)))
 
-  -- the same groups in the same order, renumbered
+  -- the groups of the gathered block are the block's groups in their order, renumbered
   pub gathered-groups : groups (gathered b) ≡ map (map (placeIn (gatheredOrder b))) (groups b)
   gathered-groups =
       sym (built-groups (gathered b)

@@ -10,7 +10,7 @@ use Rattle.netlist.specs.Answers.{Outcome, done, refused}
 use Rattle.netlist.specs.Operations.{settle}
 use Rattle.netlist.specs.Gather.{gatheredOrder, gatheredWords}
 
--- the same outcome with its result's elements in the order of a list of places
+-- an outcome whose result's elements are permuted by a list of places; a refusal stays as it is
 unfoldable pub inListOrder : List ℕ → Outcome → Outcome
 inListOrder order (done values count detail) = done (map (λ j. getD values j 2) order) count detail
 inListOrder order (refused r) = refused r

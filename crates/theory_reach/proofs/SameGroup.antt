@@ -46,7 +46,7 @@ module _ (b : Block) where
       (and-right (member k (upTo (gateCount b))) _)
       (λ e. and-intro _ _ (member-upTo k _ (sameGroup-below j k e)) e)
 
-  -- the same, one way and the other
+  -- gates in one group with j are in its group, and those in its group are in one group with it
   pub groupOf-member : (j k : ℕ) → sameGroup b j k ≡ true → member k (groupOf b j) ≡ true
   groupOf-member j k h = member-groupOf j k ∙ h
 

@@ -60,7 +60,8 @@ module _ (x u y w : List Value) (change : Operand → Operand) where
   unfolding evaluated rewired
   evaluated-up g h = gateValue-mono (g .kind) (values-up (g .operands) h)
 
-  -- The same the other way round.
+  -- Where the value of what stands for each operand is below the operand's, the rewired gate's value is below the
+  -- gate's.
   pub evaluated-down : (g : Gate)
       → ((o : Operand) → Among o (g .operands) → Below (operandValue y w (change o)) (operandValue x u o))
       → Below (evaluated y w (rewired change g)) (evaluated x u g)

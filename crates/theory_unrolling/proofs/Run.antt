@@ -103,7 +103,7 @@ module _ (b : Block) (x : List Value) (inside : Inside b) where
       start : valuesOf x [] (noCopies b) ≡ replicate (gateCount b) (val false)
       start = map-replicate (operandValue x []) (gateCount b) (constant false)
 
-  -- The same at each gate: its last copy's value is that of the gate at the end of the run.
+  -- The value of a gate's last copy in the sweep is the gate's value at the end of the run.
   pub lastCopy-value : (j : ℕ) → j < gateCount b
       → operandValue x (sweep (rendering b) x) (getD (lastCopies b) j (constant false))
       ≡ getD (run b x (schedule b) (replicate (gateCount b) (val false))) j undefined

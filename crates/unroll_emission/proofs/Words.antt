@@ -41,7 +41,7 @@ module _ (nodes : Nodes) (newest : List ℕ) (w : ℕ) {k : ℕ} (is : k ≡ gat
   unfolding mappedWord
   mapped-none l = rw (← is, le-ltb k (nodes .gates) l) refl
 
--- The same by the word.
+-- What a word is mapped to: an operand's word, of an input, a gate or a constant.
 module _ (nodes : Nodes) (newest : List ℕ) (w : ℕ) where
   abbrev n : ℕ
   n = nodes .inputs

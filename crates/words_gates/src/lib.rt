@@ -16,6 +16,9 @@ ghost use Rattle.words_layout.specs.Bounds.{nodeRoom, placeRoom};
 ghost use Rattle.theory_encoding.specs.Rules.{nodeRule, operandRule, gateRule};
 ghost use Rattle.words_gates.specs.GateSteps.{slotRule, gateRuleAt, gatesRule, lowerRule};
 
+// The number of values that a word has.
+const WORD_VALUES: usize = 65536;
+
 // Is `kind` a kind of gate, and may it have `count` operands?
 pub fn has_arity(kind: usize, count: usize) -> bool
     ensures { λ r. ⌜ r ≡ isKind kind && arityFits kind count ⌝ }
@@ -56,7 +59,7 @@ fn is_operand_word(nodes: usize, word: u16) -> bool
     requires { ⌜ nodes ≤ nodeRoom ⌝ }
     ensures { λ r. ⌜ r ≡ operandRule nodes word ⌝ }
 {
-    (word as usize + 2) % 65536 < nodes + 2
+    (word as usize + 2) % WORD_VALUES < nodes + 2
 }
 
 // Do the four operand words of the gate at `at` fit: operands below the count, 0 from there on? Their tests are joined
