@@ -5,8 +5,8 @@
 --   verdict-before, lowest-before   Verdict's count and detail: over all settings, as before
 --   sound-before            an assignment is sound when every setting that agrees with it is settled, as before
 --   rendered-before         the rendering's words of today are its old ones with a fourth count
---   torn-before, crowded-before   a block of more inputs than there were is malformed to the old rules, and its text
---     over a limit
+--   torn-before, crowded-before   a block of more inputs than there were is malformed by the old rules, and its text is
+--                                 over a limit
 use mathlib.Core.Path.{_≡_, refl, sym, ap, fun-ext, _∙_}
 use mathlib.Core.Bool.{Bool, true, false, not, _||_}
 use mathlib.Core.List.{List, []}

@@ -1,8 +1,8 @@
 -- The counts of Kahn's algorithm on strongly connected groups: each group counts the slots of its gates that read a
 -- gate of another group without a number. A group whose count is 0 may be next.
 --   crosses       a slot reads a gate of another group
---   isOpen        a slot that its group waits for: the gate has no number, or has it and the slot was not counted down
---     yet
+--   isOpen        a slot that its group waits for: the gate that it reads has no number, or the slot is still to be
+--                 counted down
 --   countOf       the slots that a group waits for
 --   Waiting       all counts are right, and the set holds the groups that are ready
 -- Assumes nothing.

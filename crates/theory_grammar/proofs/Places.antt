@@ -1,7 +1,7 @@
 -- Where the lines of a printed tree stand: a print is its own bytes and then what follows, and lengths add up. Cited
 -- for places of names. Assumes nothing.
---   printInput-split, printPair-split, printNever-split, printGate-split, printOutput-split, lines-split: a print is
---     its own bytes and then what follows
+--   printInput-split, printPair-split, printNever-split, printGate-split, printOutput-split, lines-split:
+--     a print is its own bytes and then what follows
 --   term-measure, lines-measure, print-measure: lengths add up
 --   nevers-at, gates-at, outputs-at, lines-drop: where the lines stand
 use Prim.Native.Nat.{ℕ, _+_}

@@ -1,8 +1,8 @@
 -- The reader of set lines is their grammar. Assumes nothing.
 --   setLine-sound, setLine-complete: what is read is a legal line's pairs, and the print of legal pairs is read back
 --   setLine-legal, legal-setLine: a line is legal exactly when it is read
---   setLine-refused: where it is not read, the place is that of the first bad byte; by setLine-bad the reader is
---     refused at no other
+--   setLine-refused: where it is not read, the place is that of the first bad byte
+--   setLine-bad: it is refused at no other place
 use Prim.Native.Nat.{ℕ, _-_}
 use mathlib.Core.Path.{_≡_, refl, ap, _∙_}
 use mathlib.Core.Bool.{true, and-eq-true-iff, false≢true}

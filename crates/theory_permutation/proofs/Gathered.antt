@@ -1,8 +1,7 @@
 -- Gather and Scatter (SPECIFICATION 7.17, 7.18): the laws of arranged gates, for the order by groups and for any list
 -- that is each number once.
---   out, back, by-group                                  a list that is each gate number once, both ways, and the list
---     by groups
---   gathered-permutation                                 which is each gate number once
+--   out, back, by-group                                  a permutation of the gates, both ways, and the list by groups
+--   gathered-permutation                                 the list by groups is a permutation
 --   gathered-back, scattered-out                         each undoes the other, every part of the block
 --   gathered-wellFormed                                  what is made is a block
 --   gathered-settled, gathered-rounds, scattered-settled the settled values move with their gates

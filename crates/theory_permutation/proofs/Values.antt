@@ -1,7 +1,7 @@
 -- Values in a block with its gates in another order: they move with their gates, round by round, so the same settings
 -- are settled, with the same outputs.
---   afterRounds-moved, rounds-kept, settled-moved, settled-at   the state after any number of rounds, their number, the
---     settled values
+--   afterRounds-moved, rounds-kept   the state after any number of rounds, and how many rounds change something
+--   settled-moved, settled-at        the settled values
 --   outputs-kept, settled-kept                                  what outputs show, and which settings are settled
 --   sound-kept, cover-kept, settledSettings-kept, lowest-kept   so Verdict and Cover answer the same
 -- Assumes nothing.

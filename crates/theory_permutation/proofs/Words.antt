@@ -4,8 +4,7 @@
 --   gathered-length, scattered-length       it has as many words; gathered-listed: the list has a word for each gate
 --   gathered-verdict, scattered-verdict     Verdict of it is that of the words
 --   gathered-coverOf, scattered-coverOf     and so is Cover
---   gather-scatter                          Scatter of what Gather leaves in its two slices gives the words that were
---     gathered
+--   gather-scatter                          Scatter of what Gather leaves in its slices gives the words back
 --   straight-words                          a straight block keeps its words
 -- Assumes nothing.
 use Prim.Native.Nat.{ℕ, _+_, _*_, _≤_}

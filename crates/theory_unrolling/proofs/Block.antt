@@ -1,7 +1,7 @@
 -- The rendering as a block: it is straight, has as many gates as there are copies, the original's inputs and ports, and
 -- is well-formed where the original is and there is room. Render's code cites it.
---   rendering-count, rendering-inputs, rendering-nevers, rendering-ports   gates are copies; names and never lines are
---     kept
+--   rendering-count                                        its gates are the copies
+--   rendering-inputs, rendering-nevers, rendering-ports    names and never lines are kept
 --   rendering-straight             it is straight
 --   lastCopies-*, rendering-node   what stands for each gate in the end, and what outputs show
 --   rendering-wellFormed           it is well-formed
