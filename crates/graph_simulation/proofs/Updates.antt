@@ -110,7 +110,7 @@ module _ {m : ℕ} {graph values : List ℕ} where
       pub one-room : end < m
       one-room = omega (arith, more, defined-le 0 (set found j v) m, r .counted)
 
-      -- which is queued
+      -- a gate that gets a value is queued
       pub one-new : v ≡ gateCode graph values j
           → UpdatedOne m graph values found queue end j (set found j v) (set queue end j) (end + 1)
       one-new is =
@@ -408,7 +408,7 @@ module _ {m : ℕ} {graph : List ℕ} (g : Graph m graph) where
         state-at m (n .coded) j below ∙ ap valueOf (n .none j (omega (arith, g .few)))
         ∙ sym (getD-replicate m j undefined undefined below))
 
-    -- and then a round is made
+    -- the first round is made
     pub round-first : {queue found′ queue′ : List ℕ} {end : ℕ} → length queue ≡ maxGates
         → UpdatedAll m graph values found queue 0 found′ queue′ end
         → Round m graph values found′ queue′ 0 end
@@ -562,7 +562,7 @@ module _ {m : ℕ} {graph : List ℕ} (g : Graph m graph) where
             counted = r .counted;
           }
 
-      -- and then a round more is made
+      -- one round more is made
       pub round-next : {found′ queue′ : List ℕ} {end : ℕ}
           → UpdatedAll m graph values′ found queue tail found′ queue′ end
           → Turned m graph values values′ found′ queue′ tail end

@@ -88,7 +88,7 @@ pub torn-before : (b : Block) → maxInputsBefore < inputCount b → isMalformed
 unfolding encodeBefore
 torn-before b many = malformed-inputs (encodeBefore b) (omega arith) many
 
--- and the limit of before refuses its text: this is the first test of 3 with that limit
+-- the limit of before refuses the text of a tree with more inputs: this is the first test of 3 with that limit
 pub crowded-before : (t : Tree) → maxInputsBefore < length (t .inputs)
     → leb (length (t .inputs)) maxInputsBefore ≡ false
 crowded-before t many = lt-leb (length (t .inputs)) maxInputsBefore many

@@ -285,7 +285,7 @@ module _ {m : ℕ} {leaders numbers : List ℕ} {h : ℕ} {held held′ : ℕ �
         (λ q. n (sym q ∙ sym is)))
         (eq-or-ne i l)
 
-    -- its group waited for something: it has no number, and is not the one that gets it
+    -- the slot's group waited for something: it has no number, and is not the one that gets it
     other : l ≡ h → ⊥
     other q = omega (arith, count-down-some, rw (← q) at (w .taken (rw (← q) lm)))
 
@@ -302,7 +302,7 @@ module _ {m : ℕ} {leaders numbers : List ℕ} {h : ℕ} {held held′ : ℕ �
     taken : h < m → getD counts′ h 0 ≡ 0
     taken hm = there h (λ q. other (sym q)) ∙ w .taken hm
 
-    -- it waits for more
+    -- the slot's group waits for more
     pub count-down-stays : (left ≡ 0 → ⊥) → Waiting m leaders numbers h held′ counts′ ready
     count-down-stays more =
         record {
@@ -334,7 +334,7 @@ module _ {m : ℕ} {leaders numbers : List ℕ} {h : ℕ} {held held′ : ℕ �
               });
         }
 
-    -- it is ready
+    -- the slot's group is ready
     pub count-down-ready : left ≡ 0 → {ready′ : List ℕ} → length ready′ ≡ length ready → Added l ready ready′
         → Waiting m leaders numbers h held′ counts′ ready′
     count-down-ready none {ready′} long add =
@@ -667,7 +667,7 @@ module _ {m : ℕ} {leaders numbers : List ℕ} {held : ℕ → Bool} {counts re
             (rw (ne-eqb i h (r .other)) refl);
       }
 
-  -- it has its number
+  -- the group that was taken out of the set has its number
   pub taken-in : {h : ℕ} → Waiting m leaders numbers h held counts ready → unnumbered numbers h ≡ false
       → Waiting m leaders numbers m held counts ready
   taken-in {h} w has =
@@ -794,7 +794,7 @@ module _ {m : ℕ} {graph leaders numbers counts ready : List ℕ} (r : NumberRe
           })
 
   module _ {j : ℕ} (is : j ≡ least (inSet ready) (64 * length ready)) where
-    -- it is in the set
+    -- the lowest gate is in the set
     pub lowest-in : j < m → inSet ready j ≡ true
     lowest-in l =
         rw is (least-at (inSet ready) (64 * length ready) (rw (← is) (omega (arith, w .readyRoom, r .legal .few))))

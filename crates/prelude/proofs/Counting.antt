@@ -35,7 +35,7 @@ countBelow-mono p q (suc n) f =
     let s = bit-mono (p n) (q n) (f n (omega arith)) in
     omega arith
 
--- and fewer, where one passes only the other
+-- fewer numbers pass a test that implies another, where one of them passes only the other
 pub countBelow-less : (p q : ℕ → Bool) (n : ℕ) → ((k : ℕ) → k < n → p k ≡ true → q k ≡ true) → (k : ℕ) → k < n
     → p k ≡ false → q k ≡ true
     → countBelow p n < countBelow q n

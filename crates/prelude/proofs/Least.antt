@@ -50,7 +50,7 @@ module _ (p : ℕ → Bool) (n : ℕ) where
   pub least-below : (i : ℕ) → i < least p n → p i ≡ false
   least-below i l = found p 0 n .before i (omega arith) l
 
-  -- it passes, if it is below the bound
+  -- the least number passes, if it is below the bound
   pub least-at : least p n < n → p (least p n) ≡ true
   least-at l = found p 0 n .at (omega arith)
 

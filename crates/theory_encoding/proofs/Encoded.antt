@@ -90,7 +90,7 @@ module _ (b : Block) where
       ∙ append-assoc (header b ++ inputPart b ++ neverPart b) (gatePart b) (outputPart b)
       ∙ append-assoc (header b ++ inputPart b) (neverPart b) (gatePart b ++ outputPart b)
 
-  -- then the names of the inputs
+  -- behind the counts stand the names of the inputs
   pub encode-input : (j : ℕ) (d : Name) → j < inputCount b
       → (i : ℕ) → i < nameSize → getD (encode b) (inputsAt + nameSize * j + i) 0
       ≡ getD (nameWords (getD (b .inputs) j d)) i 0
@@ -103,7 +103,7 @@ module _ (b : Block) where
       (rw length-inputPart (omega arith))
       ∙ getD-joined nameWords nameSize length-nameWords (b .inputs) j i d 0 h l
 
-  -- then the never lines
+  -- behind the names stand the never lines
   pub encode-never : (j : ℕ) (d : Assignment) → j < neverCount b
       → (i : ℕ) → i < neverSize → getD (encode b) (neversAt (inputCount b) + neverSize * j + i) 0
       ≡ getD (neverWords (getD (b .nevers) j d)) i 0
@@ -117,7 +117,7 @@ module _ (b : Block) where
       (rw length-neverPart (omega arith))
       ∙ getD-joined neverWords neverSize (λ _. refl) (b .nevers) j i d 0 h l
 
-  -- then the gates
+  -- behind the never lines stand the gates
   pub encode-gate : (j : ℕ) → j < gateCount b
       → GateStands (inputCount b) (encode b) (gatesAt (inputCount b) (neverCount b) + gateSize * j) (gateOf b j)
   unfolding gatePart
@@ -129,7 +129,7 @@ module _ (b : Block) where
       length-before-gates (rw length-gatePart (omega arith))
       ∙ getD-joined (gateWords (inputCount b)) gateSize (length-gateWords (inputCount b)) (b .gates) j i noGate 0 h l
 
-  -- then the outputs
+  -- behind the gates stand the outputs
   pub encode-output : (o : ℕ) (d : Output) → o < outputCount b
       → OutputStands (inputCount b) (encode b) (outputsAt (inputCount b) (neverCount b) (gateCount b) + outputSize * o)
       (getD (b .outputs) o d)

@@ -186,7 +186,7 @@ module _ (ws : List ℕ) where
       ports = sym (namesRule-names ws (outputsAt (getD ws 0 0) (getD ws 3 0) (getD ws 1 0)) outputSize (getD ws 2 0))
           ∙ w .ports
 
-  -- and are the words of that block
+  -- words that keep the rules are the words of the block that they hold
   pub intact-encode : intact ws ≡ true → encode (decode ws) ≡ ws
   intact-encode h =
       encode-decode ws (getD ws 0 0) (getD ws 1 0) (getD ws 2 0) (getD ws 3 0) refl refl refl refl (w .sized)
@@ -202,7 +202,7 @@ module _ (ws : List ℕ) where
   encoded-length e = sym (ap length e) ∙ length-encode (decode ws)
       ∙ rw (decode-inputCount ws, decode-gateCount ws, decode-outputCount ws, decode-neverCount ws)
 
-  -- and hold the words of its gates
+  -- the words of a block's gates stand in words that are the block's
   gate-stands : encode (decode ws) ≡ ws → (j : ℕ) → j < getD ws 1 0
       → GateStands (getD ws 0 0) ws (gatesAt (getD ws 0 0) (getD ws 3 0) + gateSize * j) (gate-at j)
   unfolding gate-at

@@ -143,7 +143,7 @@ module _ (start : ℕ → Bool) (s : Name) (legal : isLegalName start s ≡ true
       (λ l. rw (List·getD-eq-default s 0 {n = i} l) (omega arith))
       (lt-or-le i (length s))
 
-  -- its words are 16-bit words
+  -- the words of a legal name are 16-bit words
   pub legal-words : (i : ℕ) → i < nameSize → getD (nameWords s) i 0 < 65536
   unfolding nameWords
   legal-words i l =

@@ -195,7 +195,7 @@ whole-encode ws h =
     (and-right (isWellFormed (decode ws)) (same (encode (decode ws)) ws)
     (not-false (isWellFormed (decode ws) && same (encode (decode ws)) ws) h))
 
--- and that block is well-formed
+-- the block that words hold that are not malformed is well-formed
 pub whole-wellFormed : (ws : List ℕ) → isMalformed ws ≡ false → isWellFormed (decode ws) ≡ true
 unfolding isMalformed
 whole-wellFormed ws h =

@@ -172,7 +172,7 @@ encode-small b h p =
     (λ l. rw (List·getD-eq-default (encode b) 0 {n = p} l) (omega arith))
     (lt-or-le p (length (encode b)))
 
--- and so of words that are not malformed
+-- words that are not malformed are 16-bit words
 pub whole-small : (ws : List ℕ) → isMalformed ws ≡ false → (p : ℕ) → getD ws p 0 < 65536
 whole-small ws h p =
     subst (λ (v : List ℕ). getD v p 0 < 65536) (whole-encode ws h) (encode-small (decode ws) (whole-wellFormed ws h) p)

@@ -104,7 +104,7 @@ module _ (b : Block) (x : List Value) where
   pub any-order-below : (js : List ℕ) → BelowAll (run b x js (replicate (gateCount b) undefined)) (settled b x)
   any-order-below js = run-below-settled js (replicate (gateCount b) undefined) start-below-settled
 
-  -- and where no gate's evaluation would change the end, it is the settled state.
+  -- Where no gate's evaluation would change the end of a run, the end is the settled state.
   pub any-order-settled : (js : List ℕ)
       → ((j : ℕ) → j < gateCount b
       → evaluated x (run b x js (replicate (gateCount b) undefined)) (gateOf b j)

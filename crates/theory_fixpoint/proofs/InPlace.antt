@@ -34,7 +34,7 @@ module _ (b : Block) (x : List Value) where
   step-grows j v h k =
       below-set (λ _. Unit) v v j (evaluated x v (gateOf b j)) (λ i s. below-refl (getD v i undefined)) (λ s. h j) k tt
 
-  -- and leaves it rising.
+  -- A step leaves a rising state rising.
   pub step-rising : (j : ℕ) (v : List Value) → Rising b x v → Rising b x (stepAt b x j v)
   unfolding stepAt
   step-rising j v h k = go (after-set v j k (evaluated x v (gateOf b j)) undefined)

@@ -18,7 +18,7 @@ valueOf-code undefined = refl
 valueOf-code (val false) = refl
 valueOf-code (val true) = refl
 
--- and so for a state
+-- the codes of a state name its values
 pub values-codes : (s : List Value) → map valueOf (map code s) ≡ s
 values-codes [] = refl
 values-codes (v ∷ s) = rw (valueOf-code v, values-codes s)

@@ -35,7 +35,7 @@ module _ {T : Type 0} where
           at (inl g) = g .1 w (ap accepted (same n (c ∷ w) (omega arith)) ∙ h)
           at (inr g) = let m = fails-within (λ w. bounded n (c ∷ w)) s left (g .1) in omega arith
 
-      -- it is not: with a larger bound neither
+      -- the byte is not the bad one: with a larger bound neither
       behind : left ≤ length s → (n : ℕ) → length s + suc before ≤ n → Fails (λ w. bounded n (c ∷ w)) s left
       behind le n m = at (f n (omega arith))
         where

@@ -23,7 +23,7 @@ use Rattle.theory_encoding.proofs.Gates.{by-kind}
 
 -- ---- names
 
--- it begins with a byte that no name has
+-- the text begins with a byte that no name has
 abbrev pub Ends : List ℕ → Type 0
 Ends [] = ⊥
 Ends (x ∷ s) = isNameByte x ≡ false

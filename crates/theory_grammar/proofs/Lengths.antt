@@ -1,6 +1,6 @@
 -- Prints are longer than what follows them: by what expressions and lines add. Cited for the bound on lines and for the
 -- laws that a reader's rest is shorter. Assumes nothing.
---   term-length, terms-length, input-length, pair-length, never-length, gate-length, output-length: the bytes of a print
+--   term-length, terms-length, input-length, pair-length, never-length, gate-length, output-length: bytes of a print
 --   pairs-length: pairs have as many bytes as there are of them, and a bracket more
 --   lineCount-length: no text has more lines than bytes
 use Prim.Native.Nat.{ℕ, _+_, _≤_, _<_}

@@ -40,7 +40,7 @@ distinct-parts x xs d = go (memberList x xs) d
     go true d = absurd (false≢true d)
     go false d = (refl, d)
 
--- and by two of its places
+-- in a list in which none stands twice, two places hold different elements
 pub distinct-apart : (xs : List (List ℕ)) → distinct xs ≡ true → (i j : ℕ) → i < j → j < length xs
     → getD xs i [] ≡ getD xs j [] → ⊥
 distinct-apart [] d i j l g e = omega arith

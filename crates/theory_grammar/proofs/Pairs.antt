@@ -1,6 +1,6 @@
 -- Pairs of a name and a value, in set lines and never lines, up to their closing bracket: what is read is legal and
 -- printed back, and what is legal is read back. Assumes nothing.
---   pairReader-sound, pairsReader-sound, neverPairs-sound: what is read is legal, and its print and the rest are the text
+--   pairReader-sound, pairsReader-sound, neverPairs-sound: what is read is legal, and printed back
 --   pairReader-back, pairsReader-back, neverPairs-back: the print of legal pairs is read
 --   pairs-few: no text has more pairs than bytes
 use Prim.Native.Nat.{ℕ, zero, suc, _≤_}

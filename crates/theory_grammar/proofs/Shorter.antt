@@ -1,5 +1,5 @@
--- What a reader leaves of a text is shorter than the text, for names and expressions; what it is to be a text's end; and
--- what a term prints before other bytes. Assumes nothing.
+-- What a reader leaves of a text is shorter than the text, for names and expressions; the end of a text; and what a
+-- term prints before other bytes. Assumes nothing.
 use Prim.Native.Nat.{ℕ, _-_, _≤_, _<_}
 use mathlib.Core.Path.{_≡_, refl, sym, ap, _∙_}
 use mathlib.Core.Bool.{Bool, true, false, false≢true}

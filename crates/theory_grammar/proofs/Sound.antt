@@ -22,7 +22,7 @@ use Rattle.theory_grammar.proofs.Pairs.{neverPairs-sound}
 use Rattle.theory_grammar.proofs.SoundTerms.{nameReader-sound, letter-nameByte, nameStart-nameByte}
 use Rattle.theory_grammar.proofs.SoundTerms.{exprReader-sound, termReader-sound, ExprRead}
 
--- which lines a tree lacks
+-- trees that lack some sorts of lines
 abbrev pub NoInputs : Tree → Type 0
 NoInputs t = t .inputs ≡ []
 

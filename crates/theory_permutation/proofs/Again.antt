@@ -284,6 +284,6 @@ module _ (b : Block) (fits : isWellFormed b ≡ true) where
   gathered-order-again =
       ap joined gathered-groups ∙ joined-map place (groups b) ∙ places-in-order ∙ ap upTo (sym (gathered-count b fits))
 
-  -- and the block stays
+  -- gathering a gathered block changes nothing
   pub gathered-again : gathered (gathered b) ≡ gathered b
   gathered-again = ordered-gathered (gathered b) (gathered-wellFormed b fits) gathered-order-again

@@ -68,7 +68,7 @@ module _ (b : Block) (fits : isWellFormed b ≡ true) where
         arranged-back b fits order (placeIn order) out (inverse order) (numberAt order) (back .lengthIs)
         (inverse-at (gateCount b) order h) (out .oldOfNew)
 
-    -- and so is out after back
+    -- gathering by the list what was scattered by it gives the block back
     pub scattered-out : arranged order (placeIn order) (scattered order b) ≡ b
     unfolding scattered
     scattered-out =

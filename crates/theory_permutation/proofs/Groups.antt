@@ -71,7 +71,7 @@ module _ (b : Block) (inside : Inside b) (order : List ℕ) (number : ℕ → �
       let there : numberAt order u ≡ k = ap (numberAt order) e ∙ r .oldOfNew k (inside (numberAt order t) k m) in
       rw there m
 
-  -- and back
+  -- a read of the block is one of the renumbered block
   reads-new : (i k : ℕ) → reads b i k ≡ true → reads c (number i) (number k) ≡ true
   unfolding reads
   reads-new i k h =

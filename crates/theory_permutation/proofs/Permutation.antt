@@ -52,7 +52,7 @@ count-again x xs n h =
     again k l e (inl m) = rw e m
     again k l e (inr c) = absurd (omega arith)
 
--- and else for one
+-- a number that is not in the list yet counts for one more
 count-new : (x : ℕ) (xs : List ℕ) (n : ℕ) → member x xs ≡ false → x < n
     → countBelow (holds (x ∷ xs)) n ≡ suc (countBelow (holds xs) n)
 count-new x xs n m l =
@@ -80,7 +80,7 @@ count-few (x ∷ xs) n = go (next-of x xs n) (count-few xs n)
     go (again e) r = omega arith
     go (new m l e) r = omega arith
 
--- so where as many are there as the list is long, none stands twice and all are below n
+-- where a list holds as many numbers below n as it is long, none stands twice and all are below n
 count-all : (xs : List ℕ) (n : ℕ) → length xs ≤ countBelow (holds xs) n
     → Once xs × ((y : ℕ) → member y xs ≡ true → y < n)
 count-all [] n h = (tt, λ y m. absurd (false≢true m))
@@ -112,7 +112,7 @@ module _ (m : ℕ) (order : List ℕ) where
         apart = λ t u l k e. once-getD order once t u (omega arith) (omega arith) e;
       }
 
-  -- and each number once passes
+  -- a list that is each number below m once passes the test
   pub each-permutation : EachOnce m order → isPermutation m order ≡ true
   unfolding isPermutation numberAt
   each-permutation e =

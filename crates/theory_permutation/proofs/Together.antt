@@ -62,7 +62,7 @@ pair-of (x ∷ xs) t u l k =
     whole : length (joined (x ∷ xs)) ≡ length x + length (joined xs)
     whole = length-append x (joined xs)
 
-    -- both in the first list
+    -- both places are in the first list
     here′ : u < length x → Pair (x ∷ xs) t u
     here′ c =
         record {
@@ -94,7 +94,7 @@ pair-of (x ∷ xs) t u l k =
           secondIs = getD-later x (joined xs) u d ∙ p .secondIs;
         }
 
-    -- and neither
+    -- neither place is in the first list
     there : length x ≤ t → Pair xs (t - length x) (u - length x) → Pair (x ∷ xs) t u
     there c p =
         record {

@@ -144,7 +144,7 @@ module _ (b : Block) (fits : isWellFormed b ≡ true) (order : List ℕ) (number
     unfolding rounds
     rounds-kept = ap₂ (λ (p : ℕ → Bool) (n : ℕ). least p n) (fun-ext stable-kept) count-kept
 
-    -- and the settled values are the moved ones
+    -- the settled values of the renumbered block are the moved ones
     pub settled-moved : settled c x ≡ moved order (settled b x)
     unfolding settled
     settled-moved = ap (afterRounds c x) rounds-kept ∙ afterRounds-moved (rounds b x)

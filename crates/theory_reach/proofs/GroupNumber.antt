@@ -43,7 +43,7 @@ module _ (b : Block) where
       let w = groups-some b inside j h in
       rw (groupNumber-is j (w .0) (w .2)) (w .2)
 
-  -- and is its group
+  -- the group at a gate's number is the gate's group
   pub groupNumber-group : Inside b → (j : ℕ) → j < gateCount b → getD (groups b) (groupNumber b j) [] ≡ groupOf b j
   groupNumber-group inside j h = groups-group b j (groupNumber b j) (groupNumber-member inside j h)
 
@@ -53,7 +53,7 @@ module _ (b : Block) where
       let e = groupNumber-group inside i (sameGroup-below b j i (sameGroup-sym b i j h)) in
       sym (groupNumber-is j (groupNumber b i) (rw e (groupOf-member b i j h)))
 
-  -- and only they
+  -- gates with one number are in one group
   pub same-groupNumber : Inside b → (i j : ℕ) → i < gateCount b → j < gateCount b → groupNumber b i ≡ groupNumber b j
       → sameGroup b i j ≡ true
   same-groupNumber inside i j hi hj e =
@@ -69,7 +69,7 @@ module _ (b : Block) where
       let l = w .1 in
       omega arith
 
-  -- and so it reaches them only
+  -- a gate reaches only gates whose number is not higher
   pub groupNumber-path : Inside b → {i k : ℕ} → OperandPath b i k → groupNumber b k ≤ groupNumber b i
   groupNumber-path inside stay = omega arith
   groupNumber-path inside (step {i} {j} {k} r p) =

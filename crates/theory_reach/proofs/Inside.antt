@@ -57,7 +57,7 @@ fits-inside b h i k m = gates-inside b (b .gates) i k h m
 second : (a b c d e : Bool) → (a && b && c && d && e) ≡ true → b ≡ true
 second a b c d e h = and-right a b (and-left (a && b) c (and-left (a && b && c) d (and-left (a && b && c && d) e h)))
 
--- and so in a well-formed block
+-- in a well-formed block every gate that is read is there
 pub wellFormed-inside : (b : Block) → isWellFormed b ≡ true → Inside b
 unfolding isWellFormed
 wellFormed-inside b h =

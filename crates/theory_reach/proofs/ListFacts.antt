@@ -32,7 +32,7 @@ all-member p (y ∷ xs) h x m =
     (λ e. all-member p xs (and-right (p y) _ h) x e)
     (or-cases _ _ m)
 
--- and one that passes at each passes at all
+-- a test that passes at each element passes at all
 pub all-intro : (p : ℕ → Bool) (xs : List ℕ) → ((x : ℕ) → member x xs ≡ true → p x ≡ true) → all p xs ≡ true
 all-intro p [] f = refl
 all-intro p (y ∷ xs) f =
@@ -62,7 +62,7 @@ member-upTo k (suc n) h = go (lt-or-le k n) (member-upTo k n)
         let s : k ≡ n = omega arith in
         member-right k (upTo n) _ (rw s (member-head n []))
 
--- and nothing else is
+-- every number in 0, .., n - 1 is below n
 pub upTo-below : (k n : ℕ) → member k (upTo n) ≡ true → k < n
 upTo-below k zero h = absurd (false≢true h)
 upTo-below k (suc n) h =
@@ -177,7 +177,7 @@ entry-below x [] g h = absurd (false≢true h)
 entry-below x (y ∷ xs) zero h = omega arith
 entry-below x (y ∷ xs) (suc g) h = let r = entry-below x xs g h in omega arith
 
--- and what is in them joined is in one
+-- an element of lists joined is an element of one of them
 pub joined-member : (x : ℕ) (xs : List (List ℕ)) → member x (joined xs) ≡ true
     → (g : ℕ) × (g < length xs) × (member x (getD xs g []) ≡ true)
 joined-member x [] h = absurd (false≢true h)
@@ -194,7 +194,7 @@ pub once-right : (xs ys : List ℕ) → Once (xs ++ ys) → Once ys
 once-right [] ys h = h
 once-right (x ∷ xs) ys h = once-right xs ys (h .1)
 
--- and what is before is not behind
+-- where none stands twice in two lists joined, no element is in both
 pub once-apart : (xs ys : List ℕ) → Once (xs ++ ys) → (x : ℕ) → member x xs ≡ true → member x ys ≡ true → ⊥
 once-apart [] ys h x m n = true≢false (sym m)
 once-apart (y ∷ xs) ys h x m n =

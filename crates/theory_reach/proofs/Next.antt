@@ -35,7 +35,7 @@ module _ (b : Block) where
   ready-reads done group h i k m r =
       or-cases _ _ (all-member (λ k. member k group || member k done) (readBy b i) (all-member _ group h i m) k r)
 
-  -- and a group that does is ready
+  -- a group is ready if all that it reads is in it or done
   pub ready-intro : (done group : List ℕ)
       → ((i k : ℕ) → member i group ≡ true → reads b i k ≡ true → (member k group ≡ true) ⊎ (member k done ≡ true))
       → isReady b done group ≡ true
@@ -65,12 +65,12 @@ module _ (b : Block) where
   unfolding mayBeNext
   mayBeNext-left done j h = not-true _ (and-left _ _ h)
 
-  -- and its group is ready
+  -- the group of a gate that may be next is ready
   pub mayBeNext-ready : (done : List ℕ) (j : ℕ) → mayBeNext b done j ≡ true → isReady b done (groupOf b j) ≡ true
   unfolding mayBeNext
   mayBeNext-ready done j h = and-right (not (member j done)) _ h
 
-  -- it matters only which gates are numbered
+  -- whether a gate may be next depends only on which gates are numbered
   pub mayBeNext-same : (done done′ : List ℕ) → ((k : ℕ) → member k done ≡ member k done′)
       → mayBeNext b done ≡ mayBeNext b done′
   unfolding mayBeNext isReady
@@ -171,7 +171,7 @@ module _ (b : Block) where
             (member-cases i done (groupOf b j) m);
       }
 
-  -- and one gate more at least is numbered
+  -- numbering a group numbers at least one gate more
   pub next-counts : (done : List ℕ) (j : ℕ) → j < gateCount b → mayBeNext b done j ≡ true
       → countBelow (λ k. member k done) (gateCount b) < countBelow (λ k. member k (done ++ groupOf b j)) (gateCount b)
   next-counts done j h e =

@@ -42,13 +42,13 @@ module _ (b : Block) where
   unfolding groupsAfter
   groupsAfter-found more done h = rw (lt-ltb (nextGate b done) (gateCount b) h)
 
-  -- and where none may
+  -- where no gate may be next, no group follows
   pub groupsAfter-none : (more : ℕ) (done : List ℕ) → gateCount b ≤ nextGate b done → groupsAfter b more done ≡ []
   unfolding groupsAfter
   groupsAfter-none zero done h = refl
   groupsAfter-none (suc more) done h = rw (le-ltb (nextGate b done) (gateCount b) h)
 
-  -- it matters only which gates are numbered
+  -- the groups that follow depend only on which gates are numbered
   pub groupsAfter-same : (more : ℕ) (done done′ : List ℕ) → ((k : ℕ) → member k done ≡ member k done′)
       → groupsAfter b more done ≡ groupsAfter b more done′
   unfolding groupsAfter
@@ -174,7 +174,7 @@ module _ (b : Block) where
   unfolding groups
   groups-numbered t = groupsAfter-numbered (gateCount b) [] t (numbered-none b)
 
-  -- and so are those of all
+  -- the gates of all groups are numbered
   pub groups-all-numbered : Numbered b (joined (groups b))
   groups-all-numbered = rw (take-length (groups b)) at (groups-numbered (length (groups b)))
 
@@ -183,7 +183,7 @@ module _ (b : Block) where
   unfolding groups
   groups-all inside = groupsAfter-all inside (gateCount b) [] (numbered-none b) (omega arith)
 
-  -- and so in one of the groups,
+  -- every gate is in one of the groups
   pub groups-some : Inside b → (j : ℕ) → j < gateCount b
       → (g : ℕ) × (g < length (groups b)) × (member j (getD (groups b) g []) ≡ true)
   groups-some inside j h = joined-member j (groups b) (groups-all inside j h)
@@ -200,7 +200,7 @@ module _ (b : Block) where
   pub groups-once : Once (joined (groups b))
   groups-once = groups-all-numbered .once
 
-  -- and all stand there
+  -- the groups together have as many gates as the block
   pub length-joined-groups : Inside b → length (joined (groups b)) ≡ gateCount b
   length-joined-groups inside =
       once-length (joined (groups b)) (gateCount b) groups-once (groups-all-numbered .below)

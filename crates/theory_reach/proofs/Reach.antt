@@ -74,7 +74,7 @@ module _ (b : Block) where
   pub grown-keeps : (set : List Bool) (j : ℕ) → j < gateCount b → has set j ≡ true → has (grown b set) j ≡ true
   grown-keeps set j h e = has-grown set j h ∙ or-left _ _ e
 
-  -- and adds what is read
+  -- growing a set adds what its gates read
   pub grown-reads : (set : List Bool) (i j : ℕ) → j < gateCount b → has set i ≡ true → reads b i j ≡ true
       → has (grown b set) j ≡ true
   grown-reads set i j h e r =
@@ -82,7 +82,7 @@ module _ (b : Block) where
       ∙ or-right (has set j) _
       (below-any (λ i. has set i && reads b i j) (gateCount b) i (reads-below b i j r) (and-intro _ _ e r))
 
-  -- and nothing else
+  -- growing a set adds nothing else
   pub grown-cases : (set : List Bool) (j : ℕ) → j < gateCount b → has (grown b set) j ≡ true
       → (has set j ≡ true) ⊎ ((i : ℕ) × (has set i ≡ true) × (reads b i j ≡ true))
   grown-cases set j h e = go (or-cases _ _ (sym (has-grown set j h) ∙ e))

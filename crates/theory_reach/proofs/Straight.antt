@@ -54,7 +54,7 @@ module _ (b : Block) (s : isStraight b ≡ true) where
       ltb-true k i (all-member (λ k. ltb k i) (readBy b i)
       (all-member _ (upTo (gateCount b)) s i (member-upTo i _ (reads-below b i k r))) k r)
 
-  -- which are there,
+  -- every gate that a straight block's gate reads is there
   pub straight-inside : Inside b
   straight-inside i k r = let l = straight-reads i k r in let m = reads-below b i k r in omega arith
 
@@ -63,7 +63,7 @@ module _ (b : Block) (s : isStraight b ≡ true) where
   straight-path stay = omega arith
   straight-path (step {i} {j} r p) = let l = straight-reads i j r in let m = straight-path p in omega arith
 
-  -- so not itself through another,
+  -- no gate of a straight block reaches itself through another
   pub straight-loopless : Loopless b
   unfolding sameGroup
   straight-loopless i j h =
@@ -71,7 +71,7 @@ module _ (b : Block) (s : isStraight b ≡ true) where
       let m = straight-path (reaches-path b j i (and-right (reaches b i j) _ h)) in
       omega arith
 
-  -- and is its group
+  -- a gate of a straight block is its own group
   pub straight-groupOf : (j : ℕ) → j < gateCount b → groupOf b j ≡ j ∷ []
   straight-groupOf j h = groupOf-single b j h (λ k e. sym (straight-loopless j k e))
 

@@ -29,7 +29,7 @@ record InFree (b : Block) (cut : Cut) (n : ℕ) : Type 0 where
   free : DependsOnNone b (cut .gates) old
   number : n ≡ newNumber b cut old
 
--- and a chain of reads leads there
+-- a chain of reads leads from gate k to the gate of number n, which does not depend on the group
 record FreeFrom (b : Block) (cut : Cut) (k n : ℕ) : Type 0 where
   end : InFree b cut n
   path : OperandPath b k (end .old)

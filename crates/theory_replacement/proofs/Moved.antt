@@ -199,7 +199,7 @@ module _ (b : Block) (rank : ℕ → ℕ) (whole : isComplete b ≡ true) (ranks
   from-new-rank o n (newGate t is l e) = rw (e, rank-after-new t) (omega arith)
   from-new-rank o n (net i k u is l m e) = rw (e, rank-after-kept k l m) (let h = f .belowLevel i k u is in omega arith)
 
-  -- so no read raises the rank
+  -- no read of the replaced netlist raises the rank
   pub ranks-after : Ranks after rankAfter
   ranks-after n n′ r = go (read-cases b cut (p .own) new whole (f .stands) fits (f .outputs) n n′ r)
     where
@@ -251,7 +251,7 @@ module _ (b : Block) (rank : ℕ → ℕ) (whole : isComplete b ≡ true) (ranks
     unfolding standIn
     stand-constant c = refl
 
-    -- its own block's operands, in place afterwards
+    -- the operands of the other group's own block, in place afterwards
     place-moved : (o : Operand) → isOperand (q .own) o ≡ true → standIn b cut new (place o) ≡ placeAfter o
     unfolding inPlace numberAt
     place-moved (input i) h =
@@ -386,7 +386,7 @@ module _ (b : Block) (rank : ℕ → ℕ) (whole : isComplete b ≡ true) (ranks
             let h″ : rank k < g .level = g .belowLevel i k u is in
             omega arith
 
-    -- it can be replaced afterwards
+    -- the other group can be replaced afterwards
     pub moved-fits : PieceFits after rankAfter (movedPiece b p q)
     unfolding movedPiece movedCut
     moved-fits =
@@ -425,7 +425,7 @@ module _ (b : Block) (rank : ℕ → ℕ) (whole : isComplete b ≡ true) (ranks
         ∙ map-same _ (operandValue x (settled b x)) (q .cut .nets) (constant false)
         (λ i l. operand-kept b cut (p .own) new whole (f .stands) fits x agree _ (seen-net i l))
 
-    -- its two blocks show the same afterwards
+    -- the other group's two blocks show the same afterwards
     pub moved-agree : (x : List Value) → Agree b x p → Agree b x q → Agree after x (movedPiece b p q)
     unfolding movedPiece movedCut
     moved-agree x first second = rw (nets-kept x first) second

@@ -175,7 +175,7 @@ module _ (b : Block) (group : List ℕ) where
   boundary-has j o m t n a =
       first-has o _ (keep-has (isOutsideNet group) o (operandsOf b group) t (operands-has group j o m n a))
 
-  -- and stands there once
+  -- each net of the boundary stands there once
   pub boundary-once : NoNetTwice (boundary b group)
   unfolding boundary
   boundary-once = first-once (keep (isOutsideNet group) (operandsOf b group))

@@ -314,7 +314,8 @@ module _ (b : Block) (cut : Cut) (own new : Block) (whole : isComplete b ≡ tru
         (operand-up (settled new y) new-up (portNode k)
         (new-node new (fits .complete) (placeIn (cut .ports) k) (port-below k m)))
 
-    -- and at all gates outside.
+    -- In a state below the settled values, and outside the group below those of the replaced netlist, an operand's
+    -- value is below that of what stands for it.
     stand-up : (v : List Value) → ((k : ℕ) → Below (getD v k undefined) (getD (settled b x) k undefined))
         → ((k : ℕ) → k < gateCount b → member k (cut .gates) ≡ false
         → Below (getD v k undefined) (getD (settled after x) (newNumber b cut k) undefined))

@@ -48,12 +48,12 @@ module _ (b : Block) where
   unfolding rendering
   rendering-inputs = refl
 
-  -- its never lines,
+  -- The rendering has the original's never lines.
   pub rendering-nevers : rendering b .nevers ≡ b .nevers
   unfolding rendering
   rendering-nevers = refl
 
-  -- and its ports, in order.
+  -- The rendering has the original's ports, in order.
   pub rendering-ports : map (λ (o : Output). o .port) (rendering b .outputs)
       ≡ map (λ (o : Output). o .port) (b .outputs)
   unfolding rendering

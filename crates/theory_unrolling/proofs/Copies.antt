@@ -163,7 +163,7 @@ pub copied-kind : (newest : List Operand) (g : Gate) → copied newest g .kind �
 unfolding copied
 copied-kind newest g = refl
 
--- and as many operands.
+-- A copy has as many operands as its gate.
 pub length-copied : (newest : List Operand) (g : Gate) → length (copied newest g .operands) ≡ length (g .operands)
 unfolding copied
 length-copied newest g = length-map (g .operands) (copiedOperand newest)

@@ -54,6 +54,6 @@ module _ (b : Block) where
           let e : length (getD (groups b) t []) ≡ 1 = rw (groups-single b f t l .2) refl in
           rw (passCount-one b t l e, e)
 
-  -- and so in a straight block
+  -- a straight block has as many copies as gates
   pub copyCount-straight : isStraight b ≡ true → copyCount b ≡ gateCount b
   copyCount-straight s = copyCount-loopless (straight-inside b s) (straight-loopless b s)

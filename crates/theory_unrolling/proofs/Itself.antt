@@ -38,7 +38,7 @@ operands-kept newest (gate j ∷ os) h =
     (ap (λ (r : List Operand). gate j ∷ r)
     (operands-kept newest os (λ k m. h k (member-rest k j (joined (map gateOperand os)) m))))
 
--- and the gate is its own copy
+-- a gate whose operands' gates stand for themselves is its own copy
 copied-kept : (newest : List Operand) (g : Gate)
     → ((k : ℕ) → member k (joined (map gateOperand (g .operands))) ≡ true → getD newest k (constant false) ≡ gate k)
     → copied newest g ≡ g

@@ -100,7 +100,7 @@ module _ (b : Block) (group : List ℕ) (s : ℕ) where
   unfolding afterPasses
   length-after p = length-run b (settingOf (inputCount b) s) (repeated p group) (beforePasses b group s) ∙ length-before
 
-  -- and so is every state after.
+  -- Every state after passes is below the settled one.
   pub after-below : (p : ℕ) → BelowAll (afterPasses b group s p) (settledUnder b s)
   unfolding afterPasses settledUnder
   after-below p =
@@ -182,7 +182,7 @@ module _ (b : Block) (group : List ℕ) where
       ⊎-elim (λ x. not-both x e) (λ k. k)
       (or-cases (isExcluded b s) (areSettled b group s p) (all-below (at p) (settingCount b) s h l))
 
-  -- and what does so under each is enough.
+  -- Passes that settle a group under each setting that may come are enough.
   pub at-enough : (p : ℕ) → ((s : ℕ) → s < settingCount b → isExcluded b s ≡ false → areSettled b group s p ≡ true)
       → areEnough b group p ≡ true
   unfolding areEnough at
@@ -258,7 +258,7 @@ module _ (b : Block) (t : ℕ) (there : t < length (groups b)) where
       least-at-most searched (length (groupAt b t)) (length (groupAt b t) - 1) (rw e size-enough) in
       omega arith
 
-  -- and enough.
+  -- The unrolling depth is enough.
   pub passCount-enough : areEnough b (groupAt b t) (passCount b (groupAt b t)) ≡ true
   unfolding passCount searched
   passCount-enough = let l = passCount-most in least-at searched (length (groupAt b t)) (omega arith)
