@@ -74,7 +74,7 @@ pub record Certified (m : ℕ) (graph order ends positions notes : List ℕ) : T
 abbrev pub noGate : ℕ
 noGate = 65535
 
--- `key` is a number below m for each gate, the same exactly for the gates of a group
+-- `key` is a number below m for each gate, the same exactly for the gates of one component
 pub record Keyed (b : Block) (m : ℕ) (key : ℕ → ℕ) : Type 0 where
   pub below : (j : ℕ) → j < m → key j < m
   pub same : (i j : ℕ) → i < m → j < m → sameGroup b i j ≡ true → key i ≡ key j

@@ -190,7 +190,7 @@ fn lead_each(
 }
 
 // Finds the leader of every gate by closure; makes room for the sets.
-pub fn lead_slowly(graph: &[u16; GRAPH_WORDS], m: usize, leaders: &mut [u16; MAX_GATES])
+pub fn lead_by_closure(graph: &[u16; GRAPH_WORDS], m: usize, leaders: &mut [u16; MAX_GATES])
     requires { ⌜ Graph m (now graph) × (length (now leaders) ≡ maxGates) ⌝ }
     ensures { λ r. ⌜ Leads (network m (now (graph .entry))) m (now (leaders .exit)) ⌝ }
 {

@@ -3,7 +3,7 @@
 // finds the leaders.
 use crate::certified::are_certified;
 use crate::certified::last_of;
-use crate::closure::lead_slowly;
+use crate::closure::lead_by_closure;
 use graph_gates::GRAPH_WORDS;
 use graph_scc::check::are_layers;
 use graph_scc::check::find_positions;
@@ -104,10 +104,10 @@ fn lead_with(
         lead_layers(graph, m, order, ends, stack, notes, firsts, leaders);
         return;
     }
-    lead_slowly(graph, m, leaders);
+    lead_by_closure(graph, m, leaders);
 }
 
-// Writes the lowest gate of each gate's group.
+// Writes each gate's leader, the lowest gate of its strongly connected component.
 pub fn lead(graph: &[u16; GRAPH_WORDS], m: usize, leaders: &mut [u16; MAX_GATES])
     requires { ⌜ Graph m (now graph) × (length (now leaders) ≡ maxGates) ⌝ }
     ensures { λ r. ⌜ Leads (network m (now (graph .entry))) m (now (leaders .exit)) ⌝ }

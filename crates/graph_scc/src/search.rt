@@ -80,7 +80,7 @@ fn is_own_operand(graph: &[u16; GRAPH_WORDS], k: usize) -> bool
 }
 
 // How high the stack is below the gates that were entered after `time`.
-fn group_start(time: usize, top: usize, notes: &[u16; NOTES], stack: &[u16; MAX_GATES]) -> usize
+fn component_start(time: usize, top: usize, notes: &[u16; NOTES], stack: &[u16; MAX_GATES]) -> usize
     requires { ⌜ top ≤ maxGates ⌝ }
     ensures { λ r. ⌜ r ≤ top ⌝ }
 {
@@ -118,7 +118,7 @@ fn write_gate(
 }
 
 // Writes the gates of the stack from `start` on; their component ends at `end`.
-fn write_group(
+fn write_component(
     start: usize,
     end: usize,
     standing: Standing,
@@ -154,7 +154,7 @@ fn layer_end(graph: &[u16; GRAPH_WORDS], k: usize, alone: bool, last: usize) -> 
 
 // Gate k reaches no gate that was entered before it, so that it is the root of a component: the gates that were entered
 // after it and wait on the stack, and gate k itself.
-fn close_group(
+fn close_component(
     graph: &[u16; GRAPH_WORDS],
     k: usize,
     standing: Standing,
@@ -168,7 +168,7 @@ fn close_group(
     ensures { λ r. ⌜ SameRooms (now (order .entry)) (now (ends .entry)) (now (order .exit)) (now (ends .exit)) ⌝ }
 {
     let at = NOTE_SIZE * k;
-    let start = group_start(
+    let start = component_start(
         note_of(notes, at + ENTERED) as usize,
         standing.top,
         notes,
@@ -176,7 +176,7 @@ fn close_group(
     );
     let last = standing.count + (standing.top - start);
     let end = layer_end(graph, k, start == standing.top, last);
-    write_group(start, end, standing, stack, notes, order, ends);
+    write_component(start, end, standing, stack, notes, order, ends);
     write_gate(k, end, last, notes, order, ends);
     notes[at + LOWEST] = 0;
     Standing {
@@ -222,7 +222,7 @@ fn leave(
     let at = NOTE_SIZE * k;
     let lowest = note_of(notes, at + LOWEST) as usize / CURSORS;
     if lowest == note_of(notes, at + ENTERED) as usize {
-        return close_group(graph, k, standing, stack, notes, order, ends);
+        return close_component(graph, k, standing, stack, notes, order, ends);
     }
     lower(note_of(notes, at + PARENT) as usize, lowest, notes);
     push(k, standing, stack)
