@@ -24,5 +24,6 @@ module _ {A : Type 0} where
   -- the front of what is placed
   pub placed-front : (z : A) (xs d : List A) (n : ℕ) → length xs ≡ n → tab (λ i. getD (placed xs d) i z) n ≡ xs
   placed-front z xs d n e =
-      tab-ext (λ i. getD (placed xs d) i z) (λ i. getD xs i z) n (λ i l. List·getD-append xs (drop (length xs) d) z i (omega arith))
+      tab-ext (λ i. getD (placed xs d) i z) (λ i. getD xs i z) n
+      (λ i l. List·getD-append xs (drop (length xs) d) z i (omega arith))
       ∙ tab-getD z xs n e

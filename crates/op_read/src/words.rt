@@ -1,6 +1,6 @@
 // The block's words: the counts, the names of the inputs, and the words of never lines, gates and outputs that are
 // there already.
-use text_symbols::Counts;
+use text_counts::Counts;
 use words_layout::offsets::GATE_SIZE;
 use words_layout::offsets::INPUTS_AT;
 use words_layout::offsets::NAME_SIZE;
@@ -22,8 +22,10 @@ ghost use Rattle.op_read.specs.Words.{nameOf, wordOf, treeBlockWords, Pu
 
 // Writes the four counts.
 fn put_counts(c: Counts, block: &mut [u16])
-    requires { ⌜ (c .inputs ≤ maxInputs) × (c .gates ≤ maxGates) × (c .outputs ≤ maxOutputs) × (c .nevers ≤ maxNevers) × (inputsAt ≤ length (now block)) ⌝ }
-    ensures { λ r. ⌜ now (block .exit) ≡ sets (now (block .entry)) 0 (c .inputs ∷ c .gates ∷ c .outputs ∷ c .nevers ∷ []) ⌝ }
+    requires { ⌜ (c .inputs ≤ maxInputs) × (c .gates ≤ maxGates) × (c .outputs ≤ maxOutputs) × (c .nevers ≤ maxNevers)
+        × (inputsAt ≤ length (now block)) ⌝ }
+    ensures { λ r. ⌜ now (block .exit) ≡ sets (now (block .entry)) 0
+        (c .inputs ∷ c .gates ∷ c .outputs ∷ c .nevers ∷ []) ⌝ }
 {
     block[0] = c.inputs as u16;
     block[1] = c.gates as u16;
@@ -45,7 +47,8 @@ fn put_name(block: &mut [u16], at: usize, name: u64)
 // Writes the first n names.
 fn put_names(names: &[u64], n: usize, block: &mut [u16])
     requires { ⌜ (n ≤ length (now names)) × (inputsAt + nameSize * n ≤ length (now block)) ⌝ }
-    ensures { λ r. ⌜ now (block .exit) ≡ sets (now (block .entry)) inputsAt (joined (tab (nameOf (now (names .entry))) n)) ⌝ }
+    ensures { λ r. ⌜ now (block .exit) ≡ sets (now (block .entry)) inputsAt
+        (joined (tab (nameOf (now (names .entry))) n)) ⌝ }
 {
     let mut i = 0;
     while i < n {

@@ -6,7 +6,7 @@ use mathlib.Core.List.{List, [], _∷_, _++_}
 use lib.ListN.{length, drop}
 use lib.Dec.{eqb}
 use Rattle.prelude.specs.Lists.{all, joined}
-use Rattle.text_symbols.specs.Trees.{isLine}
+use Rattle.text_lines.specs.Trees.{isLine}
 
 -- the line's second byte, behind its bracket, is this letter
 abbrev pub lettered : ℕ → List ℕ → Bool

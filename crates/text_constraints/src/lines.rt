@@ -1,6 +1,6 @@
 // Where the never lines of a text stand, by the letter behind each line's opening bracket.
 use crate::NeverLines;
-use text_symbols::lines::next_line;
+use text_lines::next_line;
 use words_layout::bytes::byte_at;
 ghost use mathlib.Core.Path.{_≡_};
 ghost use Prim.Native.Nat.{_≤_, _<_};
@@ -8,7 +8,7 @@ ghost use lib.ListN.{length};
 ghost use Rattle.netlist.specs.Limits.{maxText};
 ghost use Rattle.netlist.specs.Syntax.{Tree};
 ghost use Rattle.text_constraints.specs.Runs.{Ran};
-ghost use Rattle.text_symbols.specs.Trees.{TextOf};
+ghost use Rattle.text_lines.specs.Trees.{TextOf};
 ghost use Rattle.text_constraints.specs.Places.{neverLines};
 
 // Lines with one letter, up to another line: the place behind them, and how many they are.

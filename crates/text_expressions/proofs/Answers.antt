@@ -18,7 +18,7 @@ use Rattle.netlist.specs.Reading.{Mention, mentions, declaredNodes, Binding, li
 use Rattle.netlist.specs.Reading.{gateLinesAt, outputLinesAt, operandMentions, shownMention, usedNames}
 use Rattle.netlist.specs.Reading.{firstOutside, lookup, termGates, linesGates, blockOf}
 use Rattle.theory_grammar.proofs.Places.{printGate-split, printOutput-split, lines-measure, print-measure}
-use Rattle.text_symbols.specs.declared.Counts.{Counts}
+use Rattle.text_counts.specs.declared.Counts.{Counts}
 use Rattle.text_symbols.proofs.TreeSearch.{bound-names}
 use Rattle.text_expressions.specs.declared.Walked.{Walked}
 use Rattle.netlist.specs.declared.Refusal.the-variants.{UndeclaredName}

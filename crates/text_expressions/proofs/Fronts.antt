@@ -8,8 +8,8 @@ use lib.Seq.{length-take-le}
 use lib.Dec.{eqb}
 use borrow.Author.Tests.{ne-eqb, lt-ltb, le-ltb}
 use Rattle.prelude.specs.Lists.{trimmed}
-use Rattle.text_symbols.specs.Packed.{packed, nameFront}
-use Rattle.text_symbols.specs.Search.{indexOf}
+use Rattle.text_names.specs.Packed.{packed, nameFront}
+use Rattle.text_names.specs.Search.{indexOf}
 use Rattle.text_expressions.specs.declared.Leaf.{Leaf}
 use Rattle.netlist.specs.Kinds.{isKind, keyword, signatureOf}
 use Rattle.theory_encoding.proofs.Gates.{by-kind}

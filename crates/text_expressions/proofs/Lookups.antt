@@ -12,11 +12,11 @@ use Rattle.netlist.specs.Netlist.{Name, constant}
 use Rattle.netlist.specs.StoredBlock.{nodeWord}
 use Rattle.netlist.specs.Names.{isNameByte, isNameStart, isLegalName, isNodeName}
 use Rattle.netlist.specs.Reading.{Binding, lookup}
-use Rattle.text_symbols.specs.Packed.{packed, nameFront}
-use Rattle.text_symbols.specs.Search.{indexOf}
-use Rattle.text_symbols.proofs.TreeLines.{name-bytes}
-use Rattle.text_symbols.proofs.TreeWalk.{front-legal}
-use Rattle.text_symbols.proofs.Lookup.{Bytes, index-member, index-lookup}
+use Rattle.text_names.specs.Packed.{packed, nameFront}
+use Rattle.text_names.specs.Search.{indexOf}
+use Rattle.text_names.proofs.LegalNames.{name-bytes}
+use Rattle.text_names.proofs.LegalNames.{front-legal}
+use Rattle.text_names.proofs.Lookup.{Bytes, index-member, index-lookup}
 use Rattle.text_expressions.specs.Walk.{Ends, declaredNames}
 
 -- the name in front of a byte that no name has

@@ -11,8 +11,8 @@ use Rattle.prelude.proofs.Tests.{and-left, and-right}
 use Rattle.netlist.specs.Netlist.{Name}
 use Rattle.netlist.specs.StoredBlock.{nameWords}
 use Rattle.netlist.specs.Names.{isNameByte}
-use Rattle.text_symbols.specs.Packed.{packed}
-use Rattle.text_symbols.proofs.Packing.{name-byte-range}
+use Rattle.text_names.specs.Packed.{packed}
+use Rattle.text_names.proofs.Packing.{name-byte-range}
 use Rattle.text_expressions.specs.Ports.{portWords}
 
 record Halves (x : Name) : Type 0 where

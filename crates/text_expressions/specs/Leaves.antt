@@ -7,8 +7,8 @@ use mathlib.Core.List.{List}
 use lib.ListN.{length, getD}
 use lib.Dec.{eqb, ltb}
 use Rattle.netlist.specs.Kinds.{keyword}
-use Rattle.text_symbols.specs.Packed.{packed, nameFront}
-use Rattle.text_symbols.specs.Search.{indexOf}
+use Rattle.text_names.specs.Packed.{packed, nameFront}
+use Rattle.text_names.specs.Search.{indexOf}
 use Rattle.text_expressions.specs.declared.Leaf.{Leaf}
 
 -- `xor` or `xnor`, by the byte behind `x`

@@ -17,7 +17,7 @@ use Rattle.netlist.specs.Syntax.{Term, Terms, printTerm, printTerms, termCount,
 use Rattle.netlist.specs.Reading.{Mention, Binding, gatesIn, gatesInside, termMentions, termsMentions, firstOutside}
 use Rattle.netlist.specs.Reading.{termNode, termsNodes, termGates}
 use Rattle.netlist.specs.Reading.{termsGates}
-use Rattle.text_symbols.specs.Packed.{packed}
+use Rattle.text_names.specs.Packed.{packed}
 use Rattle.text_expressions.specs.declared.Found.{Found}
 use Rattle.text_expressions.specs.Leaves.{earlier}
 

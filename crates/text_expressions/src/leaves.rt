@@ -1,8 +1,8 @@
 // What stands at the front of a text: a kind's word, a name, a constant.
 use crate::Leaf;
-use text_symbols::index::find_indexed;
-use text_symbols::pack::name_length;
-use text_symbols::pack::pack_first;
+use text_names::index::find_indexed;
+use text_names::pack::name_length;
+use text_names::pack::pack_first;
 use words_layout::bytes::byte_at;
 use words_layout::kinds::NOT;
 use words_layout::kinds::ROWS;
@@ -13,7 +13,7 @@ use words_layout::nodes::CONSTANT_1;
 use words_layout::trim::trimmed_length;
 ghost use mathlib.Core.Path.{_≡_};
 ghost use lib.ListN.{length};
-ghost use Rattle.text_symbols.specs.Index.{Indexed};
+ghost use Rattle.text_names.specs.Index.{Indexed};
 ghost use Rattle.text_expressions.specs.Leaves.{kindBehindX, kindHere, wordLength, earlier, nameHere, leafHere};
 
 // The words of the constants.

@@ -3,7 +3,7 @@
 use lines::gate_lines;
 use lines::output_lines;
 use netlist::Refusal;
-use text_symbols::Counts;
+use text_counts::Counts;
 use words_layout::limits::MAX_GATES;
 use words_layout::offsets::GATE_SIZE;
 use words_refusals::Test;

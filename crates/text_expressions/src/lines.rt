@@ -2,8 +2,8 @@
 use crate::Walked;
 use crate::leaves::name_here;
 use crate::walk::expression;
-use text_symbols::pack::name_length;
-use text_symbols::pack::pack;
+use text_names::pack::name_length;
+use text_names::pack::pack;
 use words_layout::limits::MAX_GATES;
 use words_layout::offsets::GATE_SIZE;
 use words_layout::offsets::OUTPUT_SIZE;
@@ -14,7 +14,7 @@ ghost use lib.ListN.{length};
 ghost use lib.Seq.{sets};
 ghost use Rattle.netlist.specs.StoredBlock.{outputSize};
 ghost use Rattle.netlist.specs.Limits.{maxGates, maxOutputs};
-ghost use Rattle.text_symbols.specs.Index.{Indexed};
+ghost use Rattle.text_names.specs.Index.{Indexed};
 ghost use Rattle.text_expressions.specs.Lines.{gateForm, outputForm, LineHere, LineRead, LinesHere, LinesRead};
 ghost use Rattle.text_expressions.specs.Ports.{portWords};
 

@@ -14,7 +14,7 @@ ghost use Prim.Native.Nat.{_+_, _*_, _≤_};
 ghost use lib.ListN.{length};
 ghost use lib.Seq.{sets};
 ghost use Rattle.netlist.specs.StoredBlock.{gateSize};
-ghost use Rattle.text_symbols.specs.Index.{Indexed};
+ghost use Rattle.text_names.specs.Index.{Indexed};
 ghost use Rattle.text_expressions.specs.Walk.{TermHere, TermRead};
 
 // Writes a gate's five words.

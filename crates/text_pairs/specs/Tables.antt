@@ -12,10 +12,10 @@ use Rattle.netlist.specs.Netlist.{Name}
 use Rattle.netlist.specs.Names.{isNameByte}
 use Rattle.netlist.specs.Syntax.{Pair, isLegalPair, printPair, printLines}
 use Rattle.netlist.specs.Reading.{Mention, mentions, pairMention}
-use Rattle.text_symbols.specs.Lines.{lineOpens}
-use Rattle.text_symbols.specs.Packed.{packed}
-use Rattle.text_symbols.specs.Index.{maxPairs}
-use Rattle.text_symbols.specs.Search.{indexOf}
+use Rattle.text_lines.specs.Lines.{lineOpens}
+use Rattle.text_names.specs.Packed.{packed}
+use Rattle.text_names.specs.Index.{maxPairs}
+use Rattle.text_names.specs.Search.{indexOf}
 
 -- legal pairs stand at this place of a text, up to the end of their line
 pub record PairsAt (at : ℕ) (ps : List Pair) (text : List ℕ) : Type 0 where

@@ -4,10 +4,10 @@ use crate::given::first_outside;
 use crate::tables::code_at;
 use crate::tables::name_size;
 use netlist::Refusal;
-use text_symbols::pack::pack_at;
-use text_symbols::search::MAX_PAIRS;
-use text_symbols::search::find;
-use text_symbols::search::first_repeat;
+use text_names::pack::pack_at;
+use text_names::search::MAX_PAIRS;
+use text_names::search::find;
+use text_names::search::first_repeat;
 use words_layout::limits::MAX_INPUTS;
 use words_refusals::Test;
 ghost use mathlib.Core.Path.{_≡_};
@@ -21,7 +21,7 @@ ghost use Rattle.netlist.specs.Limits.{maxText, maxInputs};
 ghost use Rattle.netlist.specs.Netlist.{Name};
 ghost use Rattle.netlist.specs.Reading.{firstRepeat, firstOutside};
 ghost use Rattle.netlist.specs.Syntax.{Pair};
-ghost use Rattle.text_symbols.specs.Index.{maxPairs};
+ghost use Rattle.text_names.specs.Index.{maxPairs};
 ghost use Rattle.text_pairs.specs.PairBytes.{pairPlace, pairNumber, pairCodes, givenCode, inputCode};
 ghost use Rattle.text_pairs.specs.Tables.{PairsAt, pairMentions, NamesAre, InputsAre, NumbersReady};
 
@@ -57,7 +57,8 @@ fn pair_place(s: &[u8], at: usize, i: usize) -> usize
 // text.
 pub fn find_repeat(s: &[u8], at: usize, base: usize, names: &[u64], count: usize) -> Test
     requires { ⌜ NumbersReady at base count (now names) ⌝ }
-    ensures { λ r. ⌜ ((ps : List Pair) → PairsAt at ps (now (s .entry)) → count ≡ length ps → NamesAre ps (now (names .entry))
+    ensures { λ r. ⌜ ((ps : List Pair) → PairsAt at ps (now (s .entry)) → count ≡ length ps
+        → NamesAre ps (now (names .entry))
         → r ≡ testAt (firstRepeat [] (pairMentions ps (base + at))) DuplicateDeclaration) ⌝ }
 {
     let i = first_repeat(&names[..count]);
@@ -79,8 +80,10 @@ pub fn find_outside(
     n: usize,
 ) -> Test
     requires { ⌜ NumbersReady at base count (now names) × (n ≤ length (now inputs)) ⌝ }
-    ensures { λ r. ⌜ ((ps : List Pair) (known : List Name) → PairsAt at ps (now (s .entry)) → count ≡ length ps → NamesAre ps (now (names .entry))
-        → InputsAre known n (now (inputs .entry)) → r ≡ testAt (firstOutside known (pairMentions ps (base + at))) UndeclaredName) ⌝ }
+    ensures { λ r. ⌜ ((ps : List Pair) (known : List Name) → PairsAt at ps (now (s .entry)) → count ≡ length ps
+        → NamesAre ps (now (names .entry))
+        → InputsAre known n (now (inputs .entry)) → r ≡ testAt (firstOutside known (pairMentions ps (base + at)))
+        UndeclaredName) ⌝ }
 {
     let i = first_outside(names, count, inputs, n);
     if i < count {
@@ -112,10 +115,12 @@ pub fn fill_values(
     n: usize,
     setting: &mut [u8; MAX_INPUTS],
 )
-    requires { ⌜ (at ≤ maxText) × (count ≤ maxPairs) × (length (now names) ≡ maxPairs) × (n ≤ length (now inputs)) × (n ≤ maxInputs)
+    requires { ⌜ (at ≤ maxText) × (count ≤ maxPairs) × (length (now names) ≡ maxPairs) × (n ≤ length (now inputs))
+        × (n ≤ maxInputs)
         × (length (now setting) ≡ maxInputs) ⌝ }
     ensures { λ r. ⌜ now (setting .exit) ≡ placed
-        (tab (inputCode (now (names .entry)) (pairCodes (now (s .entry)) at count) count (now (inputs .entry))) n) (now (setting .entry)) ⌝ }
+        (tab (inputCode (now (names .entry)) (pairCodes (now (s .entry)) at count) count (now (inputs .entry))) n)
+        (now (setting .entry)) ⌝ }
 {
     let mut j = 0;
     while j < n {

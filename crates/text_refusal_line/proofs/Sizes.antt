@@ -15,7 +15,7 @@ use Rattle.netlist.specs.Parse.{Parsed, got, stuck, parse}
 use Rattle.netlist.specs.Reading.{isOverLimit, firstDuplicate, firstUndeclared, blockOf}
 use Rattle.netlist.specs.Answers.{Outcome, refused, refuseIf, refuseAt}
 use Rattle.netlist.specs.Operations.{counted, readTree, readParsed, readText}
-use Rattle.text_symbols.specs.Results.{treeCounts}
+use Rattle.text_counts.specs.Counting.{treeCounts}
 use Rattle.theory_grammar.proofs.Limits.{limits-within}
 use Rattle.op_read.specs.Words.{wordCount}
 use Rattle.op_read.proofs.BlockWords.{block-length}

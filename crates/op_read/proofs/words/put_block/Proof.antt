@@ -26,17 +26,21 @@ put-words-requires-3 : tie.Need-put-words-requires-3
 unfolding wordCount outputsAt gatesAt neversAt
 put-words-requires-3 c κs = search needs
 
+-- the function's entry
+abbrev entry : tie.After-put-counts → tie.Start
+entry c = search
+
 returns : tie.Need-returns
 returns c =
     let at-put-words3 = c .before .before in
     let at-outputs = at-put-words3 .before in
-    let at-put-words2 = at-outputs .before .before .before .before .before in
+    let at-put-words2 : tie.After-put-words2 = search in
     let at-gates = at-put-words2 .before in
-    let at-put-words = at-gates .before .before .before .before in
+    let at-put-words : tie.After-put-words = search in
     let at-nevers = at-put-words .before in
-    let at-put-names = at-nevers .before .before .before .before in
-    let at-put-counts = at-put-names .before .before .before .before in
-    let start = at-put-counts .before .before .before .before .before .before .before in
+    let at-put-names : tie.After-put-names = search in
+    let at-put-counts : tie.After-put-counts = search in
+    let start = entry at-put-counts in
     let a = start .args in
     block-written (a .c) (a .names .now) (a .masks .now) (a .gates .now) (a .outputs .now) (a .block .now) _ _ _ _ _
     (at-put-counts .put-counts .ensures) (at-put-names .put-names .ensures)

@@ -20,7 +20,8 @@ slice-write-block-4 c = simp length-set (omega arith)
 returns : tie.Need-returns
 unfolding portWords
 returns c =
-    let a = c .args in four-stores (a .block .now) (a .at) (a .name % 65536) (a .name / 65536 % 65536) (a .name / 4294967296 % 65536)
+    let a = c .args in
+    four-stores (a .block .now) (a .at) (a .name % 65536) (a .name / 65536 % 65536) (a .name / 4294967296 % 65536)
     (a .name / 281474976710656 % 65536)
 
 pub put-name-spec : {M : Type 1} → statement M

@@ -12,7 +12,8 @@ use Rattle.op_read.specs.Words.{nameOf}
 use Rattle.op_read.proofs.BlockWords.{name-size}
 
 abbrev Inv-loop : tie.InvT-loop
-Inv-loop names n block₀ i₀ block i = (i ≤ n) × (block ≡ sets block₀ 4 (joined (tab (nameOf names) i))) × (length block ≡ length block₀)
+Inv-loop names n block₀ i₀ block i =
+    (i ≤ n) × (block ≡ sets block₀ 4 (joined (tab (nameOf names) i))) × (length block ≡ length block₀)
 
 abbrev μ-loop : tie.MeasureT-loop
 μ-loop names n block₀ i₀ block i = n - i
@@ -23,12 +24,13 @@ loop-holds c = (omega arith, refl, refl)
 loop-again : tie.Need-loop-again Inv-loop μ-loop
 unfolding nameOf
 loop-again c =
-    let at-loop = c .before .before .before .before .before .before in
+    let at-loop : tie.At-loop Inv-loop μ-loop = search in
     let start = at-loop .before .before .before in
     let a = start .args in
     let l = at-loop .loop in (
       omega arith,
-      sets-joined-next (nameOf (a .names .now)) 4 (name-size (a .names .now)) (a .block .now) (l .block) _ 4 (l .i) (l .inv .1)
+      sets-joined-next (nameOf (a .names .now)) 4 (name-size (a .names .now)) (a .block .now) (l .block) _ 4 (l .i)
+          (l .inv .1)
           (c .before .before .put-name .ensures),
       c .before .before .put-name .kept .0 ∙ l .inv .2,
     )
@@ -37,7 +39,10 @@ same-length : tie.Need-same-length Inv-loop μ-loop
 same-length c = c .before .loop .inv .2
 
 returns : tie.Need-returns Inv-loop μ-loop
-returns c = let all : c .before .loop .i ≡ c .before .before .before .before .args .n = omega arith in rw (← all) (c .before .loop .inv .1)
+returns c =
+    let start : tie.Start Inv-loop μ-loop = search in
+    let all : c .before .loop .i ≡ start .args .n = omega arith in
+    rw (← all) (c .before .loop .inv .1)
 
 pub put-names-spec : {M : Type 1} → statement M
 put-names-spec =

@@ -11,7 +11,8 @@ use Rattle.prelude.proofs.Stores.{sets-next}
 use Rattle.op_read.specs.Words.{wordOf}
 
 abbrev Inv-loop : tie.InvT-loop
-Inv-loop words count block₀ at i₀ block i = (i ≤ count) × (block ≡ sets block₀ at (tab (wordOf words) i)) × (length block ≡ length block₀)
+Inv-loop words count block₀ at i₀ block i =
+    (i ≤ count) × (block ≡ sets block₀ at (tab (wordOf words) i)) × (length block ≡ length block₀)
 
 abbrev μ-loop : tie.MeasureT-loop
 μ-loop words count block₀ at i₀ block i = count - i
@@ -24,7 +25,8 @@ unfolding wordOf
 loop-again c = let a = c .before .before .before .args in
     let l = c .before .before .loop in (
       omega arith,
-      sets-next (wordOf (a .words .now)) (a .block .now) (l .block) (a .at) (l .i) (getD (a .words .now) (l .i) 0) (l .inv .1) refl,
+      sets-next (wordOf (a .words .now)) (a .block .now) (l .block) (a .at) (l .i) (getD (a .words .now) (l .i) 0)
+          (l .inv .1) refl,
       length-set (l .block) (a .at + l .i) (getD (a .words .now) (l .i) 0) ∙ l .inv .2,
     )
 
@@ -32,7 +34,8 @@ same-length : tie.Need-same-length Inv-loop μ-loop
 same-length c = c .before .loop .inv .2
 
 returns : tie.Need-returns Inv-loop μ-loop
-returns c = let all : c .before .loop .i ≡ c .before .before .args .count = omega arith in rw (← all) (c .before .loop .inv .1)
+returns c =
+    let all : c .before .loop .i ≡ c .before .before .args .count = omega arith in rw (← all) (c .before .loop .inv .1)
 
 pub put-words-spec : {M : Type 1} → statement M
 put-words-spec =

@@ -1,4 +1,5 @@
--- `text_constraints::lines::never_lines` meets its contract: a legal text has its lines of inputs first, and then its never lines. Assumes nothing.
+-- `text_constraints::lines::never_lines` meets its contract: a legal text has its lines of inputs first, and then its
+-- never lines. Assumes nothing.
 use borrow.Author.Needs.{needs}
 use Rattle.text_constraints.proofs.TreePlaces.{runs-are}
 use Rattle.text_constraints.proofs.lines.never_lines.Statement.{statement}

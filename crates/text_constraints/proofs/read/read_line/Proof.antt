@@ -5,7 +5,7 @@ use mathlib.Core.Path.{_≡_, sym}
 use native.Mathlib.Omega.{arith}
 use lib.ListN.{drop}
 use lib.Seq.{length-take-le}
-use Rattle.text_symbols.specs.Lines.{lineOpens}
+use Rattle.text_lines.specs.Lines.{lineOpens}
 use Rattle.text_pairs.proofs.TableLaws.{filled-room, inputs-room}
 use Rattle.text_constraints.proofs.NeverText.{opens-behind, taken-few}
 use Rattle.text_constraints.proofs.OneLine.{few-pairs, numbers-ready, line-read}
@@ -26,7 +26,7 @@ abbrev repeated : tie.After-find-outside → tie.After-find-repeat
 repeated c = c .before .before .before
 
 abbrev outside : tie.After-fill-values → tie.After-find-outside
-outside c = c .before .before .before .before
+outside c = search
 
 -- the line has a bracket for each pair, and its own
 pairs-counted : (c : tie.After-line-of) → c .line-of .result .gates ≡ lineOpens (drop 6 (entry c .args .s .now))

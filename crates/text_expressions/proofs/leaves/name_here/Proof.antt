@@ -1,7 +1,7 @@
 -- `text_expressions::leaves::name_here` meets its contract. Assumes nothing.
 use native.Mathlib.Omega.{arith}
 use Rattle.text_expressions.proofs.Fronts.{name-found, name-unknown}
-use Rattle.text_symbols.proofs.Packing.{front-shorter}
+use Rattle.text_names.proofs.Packing.{front-shorter}
 use borrow.Author.Needs.{needs}
 use Rattle.text_expressions.proofs.leaves.name_here.Statement.{statement}
 use Rattle.text_expressions.proofs.leaves.name_here.Tie as tie

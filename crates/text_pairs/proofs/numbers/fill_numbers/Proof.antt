@@ -1,11 +1,12 @@
--- `text_pairs::numbers::fill_numbers` meets its contract: one pair a turn; no place is far behind the first. Assumes nothing.
+-- `text_pairs::numbers::fill_numbers` meets its contract: one pair a turn; no place is far behind the first. Assumes
+-- nothing.
 use borrow.Author.Needs.{needs}
 use Prim.Native.Nat.{_-_, _≤_}
 use mathlib.Core.Path.{_≡_, refl, ap, _∙_}
 use native.Mathlib.Omega.{arith}
 use Rattle.prelude.specs.Lists.{tab, placed}
 use Rattle.prelude.proofs.Tab.{fill-next}
-use Rattle.text_symbols.specs.Packed.{packedAt}
+use Rattle.text_names.specs.Packed.{packedAt}
 use Rattle.text_pairs.specs.PairBytes.{pairPlace, pairNumber}
 use Rattle.text_pairs.proofs.PairPlaces.{here-short, place-next}
 use Rattle.text_pairs.proofs.NumberLaws.{place-far}
@@ -55,7 +56,8 @@ loop-again c =
     let s = a .s .now in (
       omega arith,
       place-next s (a .at) (l .loop .i) (l .loop .inv .1) (c .name-size .ensures),
-      fill-next (pairNumber s (a .at)) (l .loop .i) (a .names .now) (l .loop .names) _ (l .loop .inv .2) (omega (arith, entry l .pre))
+      fill-next (pairNumber s (a .at)) (l .loop .i) (a .names .now) (l .loop .names) _ (l .loop .inv .2)
+          (omega (arith, entry l .pre))
           (c .before .pack-at .ensures ∙ ap (packedAt s) (l .loop .inv .1)),
     )
 

@@ -35,7 +35,8 @@ loop-again c =
     let a = s .args in
     let f = inputCode (a .names .now) (pairCodes (a .s .now) (a .at) (a .count)) (a .count) (a .inputs .now) in (
       omega arith,
-      fill-next f (l .loop .j) (a .setting .now) (l .loop .setting) (c .value-given .result) (l .loop .inv .1) (omega (arith, s .pre))
+      fill-next f (l .loop .j) (a .setting .now) (l .loop .setting) (c .value-given .result) (l .loop .inv .1)
+          (omega (arith, s .pre))
           (c .value-given .ensures),
     )
 

@@ -1,4 +1,5 @@
--- `text_pairs::numbers::value_given` meets its contract: the value stands behind the name that is found. Assumes nothing.
+-- `text_pairs::numbers::value_given` meets its contract: the value stands behind the name that is found. Assumes
+-- nothing.
 use borrow.Author.Needs.{needs}
 use borrow.Author.Tests.{lt-ltb, le-ltb}
 use mathlib.Core.Path.{_≡_, sym, ap, _∙_}
@@ -24,7 +25,8 @@ returns c =
     let a = entry found .args in
     let l = c .before .before .if1 .taken in
     c .code-at .ensures ∙ ap (codeAt (a .s .now)) (c .before .pair-place .ensures)
-    ∙ sym (rw (← found .find .ensures, lt-ltb _ _ l) (getD-tab (pairCode (a .s .now) (a .at)) (a .count) (found .find .result) 0 l))
+    ∙ sym (rw (← found .find .ensures, lt-ltb _ _ l)
+    (getD-tab (pairCode (a .s .now) (a .at)) (a .count) (found .find .result) 0 l))
 
 returns-2 : tie.Need-returns-2
 unfolding givenCode

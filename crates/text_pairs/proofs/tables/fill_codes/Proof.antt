@@ -11,7 +11,8 @@ use Rattle.prelude.proofs.Tab.{fill-next}
 use Rattle.text_pairs.specs.PairBytes.{codeThrough}
 
 abbrev Inv-loop : tie.InvT-loop
-Inv-loop text places count codes₀ i₀ codes i = (i ≤ count) × (codes ≡ placed (tab (codeThrough text places) i) codes₀) × (length codes ≡ length codes₀)
+Inv-loop text places count codes₀ i₀ codes i =
+    (i ≤ count) × (codes ≡ placed (tab (codeThrough text places) i) codes₀) × (length codes ≡ length codes₀)
 
 abbrev μ-loop : tie.MeasureT-loop
 μ-loop text places count codes₀ i₀ codes i = count - i
@@ -22,10 +23,12 @@ loop-holds c = (omega arith, refl, refl)
 loop-again : tie.Need-loop-again Inv-loop μ-loop
 unfolding codeThrough
 loop-again c =
-    let a = c .before .before .before .before .before .before .before .args in
+    let start : tie.Start Inv-loop μ-loop = search in
+    let a = start .args in
     let l = c .before .before .before .loop in (
       omega arith,
-      fill-next (codeThrough (a .text .now) (a .places .now)) (l .i) (a .codes .now) (l .codes) (c .code-at .result) (l .inv .1) (omega arith)
+      fill-next (codeThrough (a .text .now) (a .places .now)) (l .i) (a .codes .now) (l .codes) (c .code-at .result)
+          (l .inv .1) (omega arith)
           (c .code-at .ensures),
       length-set (l .codes) (l .i) (c .code-at .result) ∙ l .inv .2,
     )
@@ -34,7 +37,10 @@ same-length : tie.Need-same-length Inv-loop μ-loop
 same-length c = c .before .loop .inv .2
 
 returns : tie.Need-returns Inv-loop μ-loop
-returns c = let l = c .before .loop in let e : l .i ≡ c .before .before .before .before .before .args .count = omega arith in rw (← e) (l .inv .1)
+returns c =
+    let start : tie.Start Inv-loop μ-loop = search in
+    let l = c .before .loop in
+    let e : l .i ≡ start .args .count = omega arith in rw (← e) (l .inv .1)
 
 pub fill-codes-spec : {M : Type 1} → statement M
 fill-codes-spec =

@@ -1,10 +1,12 @@
--- `text_symbols::table::input_names` meets its contract: one line a turn, read from the rest of the text; the first n lines are the inputs'. Assumes nothing.
+-- `text_symbols::table::input_names` meets its contract: one line a turn, read from the rest of the text; the first n
+-- lines are the inputs'. Assumes nothing.
 use Prim.Native.Nat.{_-_}
 use mathlib.Core.Path.{refl, _∙_}
 use native.Mathlib.Omega.{arith}
 use borrow.Author.Needs.{needs}
-use Rattle.text_symbols.specs.Lines.{NamesNow}
-use Rattle.text_symbols.proofs.FillSteps.{names-start, name-start, names-rest, name-sizes, names-next, names-sized, names-done}
+use Rattle.text_symbols.specs.Tables.{NamesNow}
+use Rattle.text_symbols.proofs.FillSteps.{names-start, name-start, names-rest, name-sizes, names-next}
+use Rattle.text_symbols.proofs.FillSteps.{names-sized, names-done}
 use Rattle.text_symbols.proofs.TreeTable.{inputs-named}
 use Rattle.text_symbols.proofs.table.input_names.Statement.{statement}
 use Rattle.text_symbols.proofs.table.input_names.Tie as tie
@@ -56,7 +58,8 @@ loop-again : tie.Need-loop-again Inv-loop μ-loop
 loop-again c =
     let line = c .before .before .before in
     let s = entry (turn line) in
-    names-next (s .pre .0) (turn line .loop .inv) refl (line .line-of .ensures) (omega arith) (omega (arith, s .pre .1, s .pre .2)) (c .before .pack-at .ensures)
+    names-next (s .pre .0) (turn line .loop .inv) refl (line .line-of .ensures) (omega arith)
+    (omega (arith, s .pre .1, s .pre .2)) (c .before .pack-at .ensures)
 
 returns : tie.Need-returns Inv-loop μ-loop
 returns c =

@@ -1,0 +1,8 @@
+-- Laws of names as numbers, over plain lists.
+pub mod ListFacts
+pub mod Filling
+pub mod Packing
+pub mod LegalNames
+pub mod Lookup
+pub mod Indexing
+pub mod Repeats

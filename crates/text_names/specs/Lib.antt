@@ -1,0 +1,4 @@
+-- Names as numbers, searches in tables of them, and the index of a table.
+pub mod Packed
+pub mod Search
+pub mod Index

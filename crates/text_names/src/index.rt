@@ -1,0 +1,93 @@
+// The symbol table's index: a hash table by open addressing with linear probing (Knuth, The Art of Computer Programming
+// 3, 6.4), so that a name is found without going through all of them.
+use words_layout::limits::MAX_GATES;
+use words_layout::limits::MAX_INPUTS;
+ghost use mathlib.Core.Path.{_≡_};
+ghost use Prim.Native.Nat.{ℕ, _≤_, _<_};
+ghost use lib.ListN.{length, getD};
+ghost use Rattle.text_names.specs.Search.{indexOf};
+ghost use Rattle.text_names.specs.Index.{hashOf, stopsAt, WalkEnds, Indexed, NameEntered, AllEntered};
+
+// A prime, above the number of different names that one never line has room for.
+const HASHES: u64 = 8101;
+
+// The hashes as a number of entries: a walk begins at a hash and passes at most one entry for each name.
+pub const HASH_ENTRIES: usize = HASHES as usize;
+
+// The entries of an index of a text's nodes.
+pub const INDEX_SIZE: usize = HASH_ENTRIES + MAX_INPUTS + MAX_GATES + 1;
+
+// Where the walk of a name begins.
+fn hash(name: u64) -> usize
+    ensures { λ r. ⌜ r ≡ hashOf name ⌝ }
+{
+    (name % HASHES) as usize
+}
+
+// Does the walk of this name stop at this entry?
+fn stops_at(names: &[u64], entry: usize, name: u64) -> bool
+    requires { ⌜ entry ≤ length (now names) ⌝ }
+    ensures { λ r. ⌜ r ≡ stopsAt (now (names .entry)) name entry ⌝ }
+{
+    if entry == 0 {
+        return true;
+    }
+    names[entry - 1] == name
+}
+
+// Where the walk of this name ends.
+fn walk(names: &[u64], index: &[u16], name: u64) -> usize
+    requires { ⌜ ((j : ℕ) → getD (now index) j 0 ≤ length (now names)) ⌝ }
+    ensures { λ r. ⌜ WalkEnds (now (names .entry)) (now (index .entry)) name r ⌝ }
+{
+    let mut at = hash(name);
+    while at < index.len() {
+        if stops_at(names, index[at] as usize, name) {
+            return at;
+        }
+        at += 1;
+    }
+    at
+}
+
+// The number of the table's name that is equal to this one, or how many names there are.
+pub fn find_indexed(names: &[u64], index: &[u16], name: u64) -> usize
+    requires { ⌜ Indexed (now names) (length (now names)) (now index) ⌝ }
+    ensures { λ r. ⌜ r ≡ indexOf (now (names .entry)) (length (now (names .entry))) name ⌝ }
+{
+    let at = walk(names, index, name);
+    let found = index[at] as usize;
+    if found == 0 {
+        return names.len();
+    }
+    found - 1
+}
+
+// Enters name i behind those before it; tells whether it is one of them already.
+fn enter(names: &[u64], i: usize, index: &mut [u16]) -> bool
+    requires { ⌜ Indexed (now names) i (now index) × (i < length (now names)) ⌝ }
+    ensures { λ r. ⌜ NameEntered (now (names .entry)) i (now (index .exit)) r ⌝ }
+{
+    let at = walk(names, index, names[i]);
+    if index[at] != 0 {
+        return true;
+    }
+    index[at] = (i + 1) as u16;
+    false
+}
+
+// Enters the names into an empty index up to the first that is one of those before it, and tells its number, or how
+// many names there are.
+pub fn enter_all(names: &[u64], index: &mut [u16]) -> usize
+    requires { ⌜ Indexed (now names) 0 (now index) ⌝ }
+    ensures { λ r. ⌜ AllEntered (now (names .entry)) (now (index .exit)) r ⌝ }
+{
+    let mut i = 0;
+    while i < names.len() {
+        if enter(names, i, index) {
+            return i;
+        }
+        i += 1;
+    }
+    i
+}
