@@ -5,14 +5,12 @@ use mathlib.Core.List.{List, [], _∷_, _++_, map, append-assoc, map-append, map
 use Prim.Native.Nat.{ℕ, _+_, _*_, _≤_}
 use native.Mathlib.Omega.{arith}
 use lib.ListN.{length, getD, take, length-append, length-map}
-use lib.Seq.{sets, take-take, take-at, getD-take}
+use lib.Seq.{take-take, take-at, getD-take}
 use Rattle.prelude.specs.Lists.{all, tab, joined, sum}
 use Rattle.prelude.proofs.Tests.{and-left, and-right}
-use Rattle.prelude.proofs.Tab.{length-tab, tab-ext, tab-getD, map-tab}
-use Rattle.prelude.proofs.Stores.{sets-append, length-joined-tab}
+use Rattle.prelude.proofs.Tab.{tab-ext, tab-getD, map-tab}
 use Rattle.netlist.specs.Netlist.{Name, gateCount, outputCount, neverCount}
-use Rattle.netlist.specs.StoredBlock.{inputsAt, neversAt, gatesAt, outputsAt, nameWords, neverWords, gateWords}
-use Rattle.netlist.specs.StoredBlock.{outputWords, encode}
+use Rattle.netlist.specs.StoredBlock.{nameWords, neverWords, gateWords, outputWords, encode}
 use Rattle.netlist.specs.Names.{isPlainName}
 use Rattle.netlist.specs.Syntax.{name, apply, GateLine, Tree, isLegalTree, printInput, printGate}
 use Rattle.netlist.specs.Reading.{Mention, mentions, inputMention, gateMention, gateLinesAt, declaredNodes}
@@ -32,7 +30,7 @@ use Rattle.text_symbols.proofs.TreeSearch.{nodes-length}
 use Rattle.text_expressions.specs.Ports.{portWords}
 use Rattle.text_expressions.proofs.PortNames.{port-words}
 use Rattle.text_expressions.proofs.Closings.{gates-count}
-use Rattle.op_read.specs.Words.{nameOf, wordOf, treeBlockWords, wordCount}
+use Rattle.text_block.specs.Words.{nameOf, wordOf, treeBlockWords, wordCount}
 use Rattle.op_read.specs.Steps.{WriteReady}
 use Rattle.op_read.proofs.ListFacts.{placed-front}
 
@@ -175,37 +173,3 @@ module _ {text : List ℕ} {c : Counts} {names masks gates outputs : List ℕ}
       ∙ placed-front 0 _ (w .gates₀) (5 * c .gates) gates-length)
       (ap (λ (r : List ℕ). tab (wordOf r) (5 * c .outputs)) (w .outputsWritten)
       ∙ placed-front 0 _ (w .outputs₀) (5 * c .outputs) outputs-length)
-
--- ---- writing the five parts
-
-pub name-size : (names : List ℕ) (i : ℕ) → length (nameOf names i) ≡ 4
-unfolding nameOf portWords
-name-size names i = refl
-
-pub block-written : (c : Counts) (names masks gates outputs block a b d e f : List ℕ)
-    → a ≡ sets block 0 (c .inputs ∷ c .gates ∷ c .outputs ∷ c .nevers ∷ [])
-    → b ≡ sets a inputsAt (joined (tab (nameOf names) (c .inputs)))
-    → d ≡ sets b (neversAt (c .inputs)) (tab (wordOf masks) (2 * c .nevers))
-    → e ≡ sets d (gatesAt (c .inputs) (c .nevers)) (tab (wordOf gates) (5 * c .gates))
-    → f ≡ sets e (outputsAt (c .inputs) (c .nevers) (c .gates)) (tab (wordOf outputs) (5 * c .outputs))
-    → f ≡ sets block 0 (treeBlockWords c names masks gates outputs)
-unfolding treeBlockWords neversAt gatesAt outputsAt
-block-written c names masks gates outputs block a b d e f p q m r s =
-    let head = c .inputs ∷ c .gates ∷ c .outputs ∷ c .nevers ∷ [] in
-    let ns = joined (tab (nameOf names) (c .inputs)) in
-    let ms = tab (wordOf masks) (2 * c .nevers) in
-    let gs = tab (wordOf gates) (5 * c .gates) in
-    let os = tab (wordOf outputs) (5 * c .outputs) in
-    let x : length (head ++ ns) ≡ 4 + 4 * c .inputs = omega
-    (arith, length-append head ns, length-joined-tab (nameOf names) 4 (name-size names) (c .inputs)) in
-    let y : length (head ++ ns ++ ms) ≡ 4 + 4 * c .inputs + 2 * c .nevers = omega
-    (arith, length-append (head ++ ns) ms, x, length-tab (wordOf masks) (2 * c .nevers)) in
-    let z : length (head ++ ns ++ ms ++ gs) ≡ 4 + 4 * c .inputs + 2 * c .nevers + 5 * c .gates = omega
-    (arith, length-append (head ++ ns ++ ms) gs, y, length-tab (wordOf gates) (5 * c .gates)) in
-    let u : b ≡ sets block 0 (head ++ ns) = q ∙ rw p (sets-append head block 0 4 ns (omega arith)) in
-    let v : d ≡ sets block 0 (head ++ ns ++ ms) =
-    m ∙ rw u (sets-append (head ++ ns) block 0 (4 + 4 * c .inputs) ms (omega (arith, x))) in
-    let w : e ≡ sets block 0 (head ++ ns ++ ms ++ gs) = r
-    ∙ rw v (sets-append (head ++ ns ++ ms) block 0 (4 + 4 * c .inputs + 2 * c .nevers) gs (omega (arith, y))) in
-    s ∙ rw w (sets-append (head ++ ns ++ ms ++ gs) block 0 (4 + 4 * c .inputs + 2 * c .nevers + 5 * c .gates) os
-    (omega (arith, z)))

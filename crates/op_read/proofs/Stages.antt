@@ -45,7 +45,7 @@ use Rattle.text_constraints.proofs.LineWalk.{failed-first}
 use Rattle.text_expressions.specs.Resolution.{TreeAt, firstUnknown, ResolveReady, Resolved}
 use Rattle.words_refusals.proofs.Promised.{IsFailed, passed-none, passed-false, failed, failed-at, passed, keeps-room}
 use Rattle.words_refusals.proofs.Promised.{bare, keeps-bare, finished}
-use Rattle.op_read.specs.Words.{treeBlockWords, wordCount, PutReady}
+use Rattle.text_block.specs.Words.{treeBlockWords, wordCount, PutReady}
 use Rattle.op_read.specs.Steps.{TreeText, Limited, TablesReady, TermsReady, WriteReady}
 use Rattle.op_read.proofs.Outcomes.{read-tree, read-within, read-single, read-known}
 use Rattle.op_read.proofs.BlockWords.{first-numbers, block-length, masks-length, gates-length, outputs-length}

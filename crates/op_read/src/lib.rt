@@ -19,7 +19,6 @@ ghost use Rattle.netlist.specs.Operations.{read};
 ghost use Rattle.op_read.specs.Steps.{TreeText};
 
 mod steps;
-mod words;
 
 // Read of a text in form: refusal 3, and what the never lines tell; their tables are gone before the others are made.
 fn read_legal(text: &[u8], block: &mut [u16]) -> Answer

@@ -1,7 +1,7 @@
 // The steps of Read on a text that is a legal tree's and within the limits: declare names, look for repeats, resolve
 // uses, write words.
-use crate::words::put_block;
 use netlist::Answer;
+use text_block::put_block;
 use text_constraints::NeverTold;
 use text_constraints::read::NEVER_WORDS;
 use text_counts::Counts;

@@ -1,6 +1,6 @@
 -- One never line, read from the rest of its text: what its table of numbers holds, and what it tells. Assumes nothing.
 --   pairs-at, count-of: its pairs, and how many they are
---   few-pairs, numbers-ready, named: their table
+--   few-pairs, number-room, numbers-ready, named: their table
 --   given-is, line-says: what they give the inputs, and what all tells
 use Prim.Native.Nat.{ℕ, _+_, _≤_}
 use mathlib.Core.Path.{_≡_, sym, ap, _∙_}
@@ -23,7 +23,7 @@ use Rattle.words_layout.specs.declared.value_masks.Masks.{Masks}
 use Rattle.text_names.specs.Index.{maxPairs}
 use Rattle.text_lines.specs.Lines.{lineOpens}
 use Rattle.text_pairs.specs.PairBytes.{pairNumber, pairCodes, inputCode}
-use Rattle.text_pairs.specs.Tables.{PairsAt, pairMentions, NamesAre, InputsAre, NumbersReady}
+use Rattle.text_pairs.specs.Tables.{PairsAt, pairMentions, NamesAre, InputsAre, NumberRoom, NumbersReady}
 use Rattle.text_pairs.proofs.GivenValues.{values-given}
 use Rattle.text_pairs.proofs.NumberLaws.{numbers-named, codes-here}
 use Rattle.text_pairs.proofs.PairPlaces.{count-is}
@@ -51,8 +51,11 @@ module _ {s : List ℕ} {at : ℕ} {inputs : List ℕ} {n : ℕ} {names : List �
         (omega (arith, length-tab (pairNumber s 6) count, few-pairs, ready .nameRoom))
         ∙ ready .nameRoom
 
+    pub number-room : NumberRoom 6 count names′
+    number-room = record { near = omega arith; few = few-pairs; room = name-room }
+
     pub numbers-ready : NumbersReady 6 at count names′
-    numbers-ready = record { near = omega arith; start = ready .near; few = few-pairs; room = name-room }
+    numbers-ready = record { table = number-room; start = ready .near }
 
     named : {ps : List Pair} → NeverAt 0 ps s → NamesAre ps names′
     named is = numbers-named (pairs-at is) count names (count-of is) filled

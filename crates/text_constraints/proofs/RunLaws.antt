@@ -1,6 +1,7 @@
 -- Lines with one letter: the turns of the loop that passes them. Assumes nothing.
 --   lettered-byte: the letter as the code reads it
 --   RunLeft, run-start, run-next, run-done: the lines that are left
+--   Running: what holds before each turn
 use Prim.Native.Nat.{ℕ, _+_, _≤_, _<_}
 use mathlib.Core.Path.{_≡_, refl, sym, _∙_}
 use mathlib.Core.Bool.{true, false, false≢true, true≢false}
@@ -69,6 +70,12 @@ pub record RunLeft (letter from : ℕ) (text : List ℕ) (ls : List (List ℕ)) 
   pub is : RunAt letter end left text
   pub bytes : end + length (joined left) ≡ from + length (joined ls)
   pub lines : count + length left ≡ length ls
+
+-- the loop has passed `count` lines, up to the place `end`
+pub record Running (letter from : ℕ) (text : List ℕ) (end count : ℕ) : Type 0 where
+  pub inside : end ≤ length text
+  pub few : count ≤ end
+  pub left : (ls : List (List ℕ)) → RunAt letter from ls text → RunLeft letter from text ls end count
 
 module _ {letter from : ℕ} {text : List ℕ} {ls : List (List ℕ)} where
   pub run-start : RunAt letter from ls text → RunLeft letter from text ls from 0

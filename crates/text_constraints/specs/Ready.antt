@@ -30,6 +30,11 @@ pub record NeversReady (text : List ℕ) (lines : NeverLines) : Type 0 where
   pub fewInputs : lines .inputs ≤ maxInputs
   pub fewLines : lines .count ≤ maxNevers
 
+-- the text, and room for the words of its lines
+pub record NeversRoom (text : List ℕ) (lines : NeverLines) (masks : List ℕ) : Type 0 where
+  pub ready : NeversReady text lines
+  pub room : length masks ≡ neverSize * maxNevers
+
 -- a table that begins with the numbers of inputs' names
 pub record InputsReady (n : ℕ) (inputs : List ℕ) : Type 0 where
   pub known : List Name

@@ -17,17 +17,14 @@ use words_layout::value_masks::masks_of;
 use words_refusals::Test;
 ghost use mathlib.Core.Path.{_≡_};
 ghost use mathlib.Core.Option.{Option};
-ghost use Prim.Native.Nat.{ℕ, _*_};
-ghost use lib.ListN.{length};
+ghost use Prim.Native.Nat.{ℕ};
 ghost use Rattle.netlist.specs.declared.Refusal.{Refusal};
 ghost use Rattle.words_refusals.specs.Tests.{testAt};
-ghost use Rattle.netlist.specs.Limits.{maxNevers};
-ghost use Rattle.netlist.specs.StoredBlock.{neverSize};
 ghost use Rattle.netlist.specs.Syntax.{Tree};
 ghost use Rattle.netlist.specs.Reading.{orElse};
 ghost use Rattle.text_lines.specs.Trees.{TextOf};
 ghost use Rattle.text_constraints.specs.Places.{neverLines, Told};
-ghost use Rattle.text_constraints.specs.Ready.{LineReady, LineRead, LinesReady, LinesRead, NeversReady};
+ghost use Rattle.text_constraints.specs.Ready.{LineReady, LineRead, LinesReady, LinesRead, NeversRoom};
 
 // The bytes of `(never`, behind which the pairs stand.
 const PAIRS_AT: usize = 6;
@@ -109,7 +106,7 @@ fn read_lines(
 
 // Reads all never lines: refusals 4 and 5, and their words into the beginning of `masks`.
 pub fn read_nevers(text: &[u8], lines: NeverLines, masks: &mut [u16; NEVER_WORDS]) -> NeverTold
-    requires { ⌜ NeversReady (now text) lines × (length (now masks) ≡ neverSize * maxNevers) ⌝ }
+    requires { ⌜ NeversRoom (now text) lines (now masks) ⌝ }
     ensures { λ r. ⌜ ((t : Tree) → TextOf t (now (text .entry)) → lines ≡ neverLines t
         → Told t (now (masks .entry)) (now (masks .exit)) r) ⌝ }
 {

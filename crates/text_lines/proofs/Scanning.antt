@@ -43,6 +43,16 @@ module _ (s : List ℕ) (i : ℕ) (inside : i < length s) where
       rw (add-one, drop-cons s i 0, ne-eqb (getD s i 0) 10 e) in
       omega arith
 
+-- ---- the invariant of a loop over bytes: n of what a function counts stands before byte i
+
+pub record CountedTo (total : List ℕ → ℕ) (s : List ℕ) (i n : ℕ) : Type 0 where
+  pub within : i ≤ length s
+  pub few : n ≤ i
+  pub left : n + total (drop i s) ≡ total s
+
+pub counted-none : {total : List ℕ → ℕ} {s : List ℕ} → CountedTo total s 0 0
+counted-none = record { within = omega arith; few = omega arith; left = omega arith }
+
 -- ---- a part without an LF
 
 -- one byte more

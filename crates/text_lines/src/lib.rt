@@ -62,7 +62,8 @@ fn has_lf(s: &[u8], at: usize) -> bool
 
 // The bytes of the whole parts at the front that have no LF.
 fn skip_parts(s: &[u8]) -> usize
-    ensures { λ r. ⌜ (r ≤ length (now (s .entry))) × (r + lengthWithLf (drop r (now (s .entry))) ≡ lengthWithLf (now (s .entry))) ⌝ }
+    ensures { λ r. ⌜ (r ≤ length (now (s .entry))) × (r + lengthWithLf (drop r (now (s .entry)))
+        ≡ lengthWithLf (now (s .entry))) ⌝ }
 {
     let mut i = 0;
     while PART <= s.len() - i {

@@ -1,15 +1,16 @@
 -- Laws of the index of names.
---   passed-one, ends-behind             a walk goes on; it ends behind the index
+--   Walking                             a walk goes on, to its end or to that of the index
 --   ends-one, ends-near, ends-inside    a name's walk ends at one place, not far behind the last hash, in the index
 --   index-hit, index-miss               what the entry at the walk's end says of the name
 --   repeats-hit, repeats-miss           and of the next name of the table
 --   index-more                          one more name, stored at its walk's end
 --   index-none, index-new               an empty index
+--   Entering                            the loop that enters name after name
 -- Assumes nothing.
 use Prim.Native.Nat.{ℕ, zero, suc, _+_, _-_, _≤_, _<_}
 use mathlib.Core.Path.{_≡_, refl, sym, _∙_}
 use mathlib.Core.Logic.{_⊎_, ⊎-elim}
-use mathlib.Core.Bool.{true, false}
+use mathlib.Core.Bool.{Bool, true, false}
 use mathlib.Core.List.{List}
 use native.Mathlib.Nat.{le-antisymm, mod-lt}
 use native.Mathlib.Numerals.{add-one, unary-clauses}
@@ -21,7 +22,8 @@ use borrow.Author.Tests.{eqb-true, eq-eqb, lt-ltb, le-ltb}
 use Rattle.prelude.proofs.Tests.{not-both, not-true-false, lt-or-le, eq-or-ne}
 use Rattle.prelude.proofs.Least.{least-is}
 use Rattle.text_names.specs.Search.{isAt, indexOf, repeatsAt}
-use Rattle.text_names.specs.Index.{hashes, hashOf, stopsAt, WalkEnds, Stored, Indexed}
+use Rattle.text_names.specs.Index.{hashes, hashOf, stopsAt, WalkEnds, Stored, Indexed, NameEntered, AllEntered}
+use Rattle.text_names.proofs.Searching.{Sought, sought-none, sought-more, sought-here, sought-all}
 
 hash-below : (name : ℕ) → hashOf name < hashes
 unfolding hashOf
@@ -48,24 +50,35 @@ stops-entry names name (suc i) ne = simp unary-clauses
 
 -- ---- a walk
 
--- one more entry is passed
-pub passed-one : (names index : List ℕ) (name at : ℕ)
-    → ((j : ℕ) → hashOf name ≤ j → j < at → stopsAt names name (getD index j 0) ≡ false)
-    → stopsAt names name (getD index at 0) ≡ false → (j : ℕ) → hashOf name ≤ j → j < at + 1
-    → stopsAt names name (getD index j 0) ≡ false
-passed-one names index name at f e j a b = ⊎-elim (λ (q : j ≡ at). rw q e) (λ ne. f j a (omega arith)) (eq-or-ne j at)
+-- a walk that goes on: every entry passed is another name's
+pub record Walking (names index : List ℕ) (name at : ℕ) : Type 0 where
+  pub from : hashOf name ≤ at
+  pub passed : (j : ℕ) → hashOf name ≤ j → j < at → stopsAt names name (getD index j 0) ≡ false
 
--- a walk that leaves the index ends there
-pub ends-behind : (names index : List ℕ) (name at : ℕ) → hashOf name ≤ at
-    → ((j : ℕ) → hashOf name ≤ j → j < at → stopsAt names name (getD index j 0) ≡ false) → length index ≤ at
-    → WalkEnds names index name at
-ends-behind names index name at from passed l =
-    record {
-      from = from;
-      passed = passed;
-      stops = stops-none names name (getD index at 0)
-          (List·getD-eq-default index 0 l);
-    }
+pub walking-none : {names index : List ℕ} {name at : ℕ} → at ≡ hashOf name → Walking names index name at
+walking-none e = record { from = omega arith; passed = λ j a b. absurd (omega arith) }
+
+module _ {names index : List ℕ} {name at : ℕ} (w : Walking names index name at) where
+  -- one more entry is passed
+  pub walking-more : {r : Bool} → r ≡ stopsAt names name (getD index at 0) → r ≡ false
+      → Walking names index name (at + 1)
+  walking-more e t =
+      record {
+        from = let h = w .from in omega arith;
+        passed = λ j a b. ⊎-elim (λ (q : j ≡ at). rw q (sym e ∙ t)) (λ ne. w .passed j a (omega arith)) (eq-or-ne j at);
+      }
+
+  pub walking-stops : {r : Bool} → r ≡ stopsAt names name (getD index at 0) → r ≡ true → WalkEnds names index name at
+  walking-stops e t = record { from = w .from; passed = w .passed; stops = sym e ∙ t }
+
+  -- a walk that leaves the index ends there
+  pub walking-behind : length index ≤ at → WalkEnds names index name at
+  walking-behind l =
+      record {
+        from = w .from;
+        passed = w .passed;
+        stops = stops-none names name (getD index at 0) (List·getD-eq-default index 0 l);
+      }
 
 module _ (names index : List ℕ) (name : ℕ) where
   pub ends-one : (a b : ℕ) → WalkEnds names index name a → WalkEnds names index name b → a ≡ b
@@ -214,3 +227,33 @@ index-new names n few room =
     index-none names (replicate n 0) few (rw length-replicate room)
     (λ j. ⊎-elim (λ (l : j < n). getD-replicate n j 0 0 l)
     (λ (l : n ≤ j). List·getD-eq-default (replicate n 0) 0 (rw length-replicate l)) (lt-or-le j n))
+
+-- ---- the loop that enters name after name
+
+-- i names are entered, and none of them repeats one before it
+pub record Entering (names index₀ : List ℕ) (i : ℕ) (index : List ℕ) : Type 0 where
+  pub sized : length index ≡ length index₀
+  pub held : Indexed names i index
+  pub sought : Sought (repeatsAt names) (length names) i
+
+pub entering-none : {names index : List ℕ} → Indexed names 0 index → Entering names index 0 index
+entering-none h = record { sized = refl; held = h; sought = sought-none }
+
+module _ {names index₀ : List ℕ} {i : ℕ} {index : List ℕ} (h : Entering names index₀ i index) where
+  module _ {after : List ℕ} {r : Bool} (told : NameEntered names i index after r) (l : i < length names) where
+    pub still-sized : length after ≡ length index₀
+    still-sized = told .sized ∙ h .sized
+
+    pub entering-more : r ≡ false → Entering names index₀ (i + 1) after
+    entering-more e =
+        record { sized = still-sized; held = told .stored e; sought = sought-more (h .sought) l (told .answer) e }
+
+    pub entering-repeat : r ≡ true → AllEntered names after i
+    entering-repeat e =
+        record { answer = sought-here (h .sought) l (told .answer) e; indexed = λ m. absurd (omega arith) }
+
+  pub entering-all : length names ≤ i → AllEntered names index i
+  entering-all l =
+      let w = h .held .within in
+      let whole : i ≡ length names = omega arith in
+      record { answer = sought-all (h .sought) l; indexed = λ _. rw whole at (h .held) }

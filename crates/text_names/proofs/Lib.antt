@@ -1,6 +1,6 @@
 -- Laws of names as numbers, over plain lists.
 pub mod ListFacts
-pub mod Filling
+pub mod Searching
 pub mod Packing
 pub mod LegalNames
 pub mod Lookup

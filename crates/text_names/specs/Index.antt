@@ -47,8 +47,14 @@ pub record Indexed (names : List ℕ) (count : ℕ) (index : List ℕ) : Type 0 
   pub beyond : (j : ℕ) → hashes + count ≤ j → getD index j 0 ≡ 0
   pub stored : (i : ℕ) → i < count → Stored names index i
 
--- name i is told to repeat one before it, or is in the index
-pub record NameEntered (names : List ℕ) (i : ℕ) (after : List ℕ) (r : Bool) : Type 0 where
+-- the names before name i are in the index
+pub record EnterReady (names : List ℕ) (i : ℕ) (index : List ℕ) : Type 0 where
+  pub held : Indexed names i index
+  pub inside : i < length names
+
+-- name i is told to repeat one before it, or is in the index, which keeps its length
+pub record NameEntered (names : List ℕ) (i : ℕ) (index after : List ℕ) (r : Bool) : Type 0 where
+  pub sized : length after ≡ length index
   pub answer : r ≡ repeatsAt names i
   pub stored : r ≡ false → Indexed names (i + 1) after
 

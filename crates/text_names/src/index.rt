@@ -3,10 +3,10 @@
 use words_layout::limits::MAX_GATES;
 use words_layout::limits::MAX_INPUTS;
 ghost use mathlib.Core.Path.{_≡_};
-ghost use Prim.Native.Nat.{ℕ, _≤_, _<_};
+ghost use Prim.Native.Nat.{ℕ, _≤_};
 ghost use lib.ListN.{length, getD};
 ghost use Rattle.text_names.specs.Search.{indexOf};
-ghost use Rattle.text_names.specs.Index.{hashOf, stopsAt, WalkEnds, Indexed, NameEntered, AllEntered};
+ghost use Rattle.text_names.specs.Index.{hashOf, stopsAt, WalkEnds, Indexed, EnterReady, NameEntered, AllEntered};
 
 // A prime, above the number of different names that one never line has room for.
 const HASHES: u64 = 8101;
@@ -65,8 +65,8 @@ pub fn find_indexed(names: &[u64], index: &[u16], name: u64) -> usize
 
 // Enters name i behind those before it; tells whether it is one of them already.
 fn enter(names: &[u64], i: usize, index: &mut [u16]) -> bool
-    requires { ⌜ Indexed (now names) i (now index) × (i < length (now names)) ⌝ }
-    ensures { λ r. ⌜ NameEntered (now (names .entry)) i (now (index .exit)) r ⌝ }
+    requires { ⌜ EnterReady (now names) i (now index) ⌝ }
+    ensures { λ r. ⌜ NameEntered (now (names .entry)) i (now (index .entry)) (now (index .exit)) r ⌝ }
 {
     let at = walk(names, index, names[i]);
     if index[at] != 0 {

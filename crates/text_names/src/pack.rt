@@ -60,7 +60,8 @@ pub fn pack_at(text: &[u8], at: usize) -> u64
 // The number of the name at each of these places.
 pub fn fill_names(text: &[u8], places: &[usize], lines: usize, names: &mut [u64])
     requires { ⌜ (lines ≤ length (now places)) × (lines ≤ length (now names)) ⌝ }
-    ensures { λ r. ⌜ now (names .exit) ≡ placed (tab (packedThrough (now (text .entry)) (now (places .entry))) lines) (now (names .entry)) ⌝ }
+    ensures { λ r. ⌜ now (names .exit) ≡ placed (tab (packedThrough (now (text .entry)) (now (places .entry))) lines)
+        (now (names .entry)) ⌝ }
 {
     let mut i = 0;
     while i < lines {

@@ -23,11 +23,12 @@ ghost use Rattle.netlist.specs.Reading.{firstRepeat, firstOutside};
 ghost use Rattle.netlist.specs.Syntax.{Pair};
 ghost use Rattle.text_names.specs.Index.{maxPairs};
 ghost use Rattle.text_pairs.specs.PairBytes.{pairPlace, pairNumber, pairCodes, givenCode, inputCode};
-ghost use Rattle.text_pairs.specs.Tables.{PairsAt, pairMentions, NamesAre, InputsAre, NumbersReady};
+ghost use Rattle.text_pairs.specs.Tables.{PairsAt, pairMentions, NamesAre, InputsAre, NumberRoom, NumbersReady};
+ghost use Rattle.text_pairs.specs.Tables.{ValuesReady, OutsideReady};
 
 // The number of each pair's name; the first pair's space is at `at`.
 pub fn fill_numbers(s: &[u8], at: usize, count: usize, names: &mut [u64; MAX_PAIRS])
-    requires { ⌜ (at ≤ maxText) × (count ≤ maxPairs) × (length (now names) ≡ maxPairs) ⌝ }
+    requires { ⌜ NumberRoom at count (now names) ⌝ }
     ensures { λ r. ⌜ now (names .exit) ≡ placed (tab (pairNumber (now (s .entry)) at) count) (now (names .entry)) ⌝ }
 {
     let mut place = at + 2;
@@ -79,7 +80,7 @@ pub fn find_outside(
     inputs: &[u64],
     n: usize,
 ) -> Test
-    requires { ⌜ NumbersReady at base count (now names) × (n ≤ length (now inputs)) ⌝ }
+    requires { ⌜ OutsideReady at base count (now names) (now inputs) n ⌝ }
     ensures { λ r. ⌜ ((ps : List Pair) (known : List Name) → PairsAt at ps (now (s .entry)) → count ≡ length ps
         → NamesAre ps (now (names .entry))
         → InputsAre known n (now (inputs .entry)) → r ≡ testAt (firstOutside known (pairMentions ps (base + at)))
@@ -95,7 +96,7 @@ pub fn find_outside(
 
 // The value that the pairs give a name: 2, undefined, where they do not name it.
 fn value_given(s: &[u8], at: usize, names: &[u64; MAX_PAIRS], count: usize, name: u64) -> u8
-    requires { ⌜ (at ≤ maxText) × (count ≤ maxPairs) × (length (now names) ≡ maxPairs) ⌝ }
+    requires { ⌜ NumberRoom at count (now names) ⌝ }
     ensures { λ r. ⌜ r ≡ givenCode (now (names .entry)) (pairCodes (now (s .entry)) at count) count name ⌝ }
 {
     let i = find(names, count, name);
@@ -115,9 +116,7 @@ pub fn fill_values(
     n: usize,
     setting: &mut [u8; MAX_INPUTS],
 )
-    requires { ⌜ (at ≤ maxText) × (count ≤ maxPairs) × (length (now names) ≡ maxPairs) × (n ≤ length (now inputs))
-        × (n ≤ maxInputs)
-        × (length (now setting) ≡ maxInputs) ⌝ }
+    requires { ⌜ ValuesReady at count (now names) (now inputs) n (now setting) ⌝ }
     ensures { λ r. ⌜ now (setting .exit) ≡ placed
         (tab (inputCode (now (names .entry)) (pairCodes (now (s .entry)) at count) count (now (inputs .entry))) n)
         (now (setting .entry)) ⌝ }

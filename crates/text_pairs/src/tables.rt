@@ -38,7 +38,8 @@ pub fn name_size(text: &[u8], at: usize) -> usize
 // The place of each name; the first pair's space is at `at`.
 fn fill_places(text: &[u8], at: usize, count: usize, places: &mut [usize])
     requires { ⌜ (at ≤ maxText) × (count ≤ maxText) × (count ≤ length (now places)) ⌝ }
-    ensures { λ r. ⌜ now (places .exit) ≡ placed (tab (pairPlace (now (text .entry)) at) count) (now (places .entry)) ⌝ }
+    ensures { λ r. ⌜ now (places .exit) ≡ placed (tab (pairPlace (now (text .entry)) at) count)
+        (now (places .entry)) ⌝ }
 {
     let mut place = at + 2;
     let mut i = 0;

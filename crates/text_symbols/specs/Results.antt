@@ -45,6 +45,12 @@ pub record Declared (t : Tree) (names places words : List ℕ) : Type 0 where
   pub table : NameTable t names places
   pub nodesAre : take (length (bindings t)) words ≡ nodeWords t
 
+-- a text, and room for the numbers of the names of n inputs
+pub record InputRoom (text : List ℕ) (n : ℕ) (inputs : List ℕ) : Type 0 where
+  pub short : length text ≤ maxText
+  pub few : n ≤ maxInputs
+  pub room : length inputs ≡ maxInputs
+
 -- a table begins with the numbers of the names of n inputs
 pub record InputNames (text : List ℕ) (n : ℕ) (inputs : List ℕ) : Type 0 where
   pub sized : length inputs ≡ maxInputs

@@ -12,7 +12,7 @@ ghost use Prim.Native.Nat.{_≤_};
 ghost use lib.ListN.{length};
 ghost use Rattle.netlist.specs.Limits.{maxText, maxInputs};
 ghost use Rattle.text_symbols.specs.Tables.{lineWord, FillReady, FilledTo};
-ghost use Rattle.text_symbols.specs.Results.{InputNames, TableRoom, Filled};
+ghost use Rattle.text_symbols.specs.Results.{InputRoom, InputNames, TableRoom, Filled};
 
 // The names that the largest text declares.
 pub const NAMES: usize = MAX_INPUTS + MAX_GATES + MAX_OUTPUTS;
@@ -57,7 +57,7 @@ fn fill_lines(
 
 // The numbers of the names that the first n lines declare, which are those of the inputs.
 pub fn input_names(text: &[u8], n: usize, inputs: &mut [u64; MAX_INPUTS])
-    requires { ⌜ (length (now text) ≤ maxText) × (n ≤ maxInputs) × (length (now inputs) ≡ maxInputs) ⌝ }
+    requires { ⌜ InputRoom (now text) n (now inputs) ⌝ }
     ensures { λ r. ⌜ InputNames (now (text .entry)) n (now (inputs .exit)) ⌝ }
 {
     let mut at = 0;

@@ -32,11 +32,13 @@ returns c =
 read-nevers-requires : tie.Need-read-nevers-requires
 read-nevers-requires c κs =
     let t = c .before .before .before in
-    let f = found t in (
-      nevers-ready (entry f .pre) (f .never-lines .ensures) (t .before .tally .ensures) (t .limits .ensures)
-          (c .before .enum-told .given .1),
-      omega arith,
-    )
+    let f = found t in
+    record {
+      ready =
+          nevers-ready (entry f .pre) (f .never-lines .ensures) (t .before .tally .ensures) (t .limits .ensures)
+          (c .before .enum-told .given .1);
+      room = omega arith;
+    }
 
 read-tables-requires : tie.Need-read-tables-requires
 read-tables-requires c κs =

@@ -7,11 +7,11 @@ use Rattle.op_read.proofs.steps.finish.Statement.{statement}
 use Rattle.op_read.proofs.steps.finish.Tie as tie
 
 abbrev entry : tie.After-struct-known → tie.Start
-entry c = search
+entry c = let counted = c .before .before in counted .before .before
 
 -- where there is room
 abbrev told : tie.After-put-block-arg5 → tie.After-enum-told
-told c = search
+told c = let lent = c .before .before .before in lent .before .before
 
 outputs-behind-requires : tie.Need-outputs-behind-requires
 outputs-behind-requires c κs =

@@ -13,10 +13,10 @@ use Rattle.op_read.proofs.steps.read_tables.Tie as tie
 
 -- the function's entry, and where the tables are filled
 abbrev entry : tie.After-nodes → tie.Start
-entry c = search
+entry c = let named = c .before .before .before in named .before .before
 
 abbrev filled : tie.After-duplicate → tie.After-declare
-filled c = search
+filled c = let lent = c .before .before in lent .before .before
 
 abbrev repeats : tie.After-earlier-repeat → tie.After-duplicate
 repeats c = c .before .before
@@ -60,8 +60,8 @@ returns-2 c =
 
 read-terms-requires : tie.Need-read-terms-requires
 read-terms-requires c κs =
-    let inside = c .before .before .before in
-    let inside = inside .before in
+    let lent = c .before .before in
+    let inside = lent .before .before in
     let once = inside .before .before in
     let e = once .before .before in
     let r = repeats e in

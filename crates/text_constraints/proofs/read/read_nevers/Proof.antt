@@ -28,7 +28,13 @@ table-of {text} {lines} i t is e =
     inputs-are is n (i .numbers t is n)
 
 abbrev entry : tie.After-input-names → tie.Start
-entry c = search
+entry c = let made = c .before .before in made .before .before
+
+input-names-requires : tie.Need-input-names-requires
+input-names-requires c κs =
+    let start : tie.Start = search in
+    let r = start .pre .ready in
+    record { short = r .short; few = r .fewInputs; room = omega arith }
 
 returns : tie.Need-returns
 returns c = λ t is e. none-told t _ (none-counted t e (c .if1 .taken))
@@ -37,7 +43,7 @@ read-lines-requires : tie.Need-read-lines-requires
 read-lines-requires c κs =
     let named = c .before .before .before in
     let p = entry named .pre in
-    let r = p .0 in
+    let r = p .ready in
     record {
       lines = r .tree .nevers;
       is = nevers-stand (r .is) (r .stand);
@@ -50,7 +56,7 @@ read-lines-requires c κs =
             few = r .fewInputs;
           };
       nameRoom = omega arith;
-      maskRoom = p .1;
+      maskRoom = p .room;
     }
 
 returns-2 : tie.Need-returns-2
@@ -63,7 +69,7 @@ returns-2 c =
     let told =
     c .read-lines .ensures .say (t .nevers) (t .inputs) stand (table-of (named .input-names .ensures) t is e) in
     let room : 2 * length (t .nevers) ≤ length (s .args .masks .now) =
-    omega (arith, stand .counted, s .pre .1, s .pre .0 .fewLines) in
+    omega (arith, stand .counted, s .pre .room, s .pre .ready .fewLines) in
     record {
       repeats = rw e at (told .repeats);
       outsides = rw e at (told .outsides);
@@ -72,4 +78,4 @@ returns-2 c =
 
 pub read-nevers-spec : {M : Type 1} → statement M
 read-nevers-spec =
-    tie.close (tie.spec returns (λ c κs. search needs) read-lines-requires returns-2)
+    tie.close (tie.spec returns input-names-requires read-lines-requires returns-2)

@@ -11,14 +11,15 @@ use Rattle.text_pairs.proofs.numbers.find_outside.Statement.{statement}
 use Rattle.text_pairs.proofs.numbers.find_outside.Tie as tie
 
 abbrev entry : tie.After-first-outside → tie.Start
-entry c = search
+entry c = let lent = c .before .before in lent .before .before
 
 first-outside-requires : tie.Need-first-outside-requires
 first-outside-requires c κs =
-    let p = c .before .before .before .pre in (omega (arith, p .0 .few, p .0 .room), p .1)
+    let p = c .before .before .before .pre in
+    (omega (arith, p .numbers .table .few, p .numbers .table .room), p .known)
 
 pair-place-requires : tie.Need-pair-place-requires
-pair-place-requires c κs = let p = entry (c .before) .pre .0 in (p .near, omega (arith, p .few))
+pair-place-requires c κs = let p = entry (c .before) .pre .numbers .table in (p .near, omega (arith, p .few))
 
 add-place : tie.Need-add-place
 add-place c =
@@ -28,7 +29,9 @@ add-place c =
       arith,
       c .pair-place .ensures,
       place-far (s .args .s .now) (s .args .at) (found .first-outside .result),
-      s .pre .0,
+      s .pre .numbers .start,
+      s .pre .numbers .table .near,
+      s .pre .numbers .table .few,
       c .before .if1 .taken,
     )
 

@@ -12,15 +12,15 @@ use Rattle.text_pairs.proofs.numbers.find_repeat.Statement.{statement}
 use Rattle.text_pairs.proofs.numbers.find_repeat.Tie as tie
 
 abbrev entry : tie.After-first-repeat → tie.Start
-entry c = search
+entry c = let lent = c .before .before in lent .before .before
 
 slice-aggregate-first-repeat : tie.Need-slice-aggregate-first-repeat
 slice-aggregate-first-repeat c =
     let s = c .before .before .before in
-    sym (length-take-le (s .args .count) (s .args .names .now) (omega (arith, s .pre .few, s .pre .room)))
+    sym (length-take-le (s .args .count) (s .args .names .now) (omega (arith, s .pre .table .few, s .pre .table .room)))
 
 pair-place-requires : tie.Need-pair-place-requires
-pair-place-requires c κs = let p = entry (c .before) .pre in (p .near, omega (arith, p .few))
+pair-place-requires c κs = let p = entry (c .before) .pre .table in (p .near, omega (arith, p .few))
 
 add-place : tie.Need-add-place
 add-place c =
@@ -30,7 +30,9 @@ add-place c =
       arith,
       c .pair-place .ensures,
       place-far (s .args .s .now) (s .args .at) (found .first-repeat .result),
-      s .pre,
+      s .pre .start,
+      s .pre .table .near,
+      s .pre .table .few,
       c .before .if1 .taken,
     )
 

@@ -13,10 +13,10 @@ abbrev entry : tie.After-find → tie.Start
 entry c = c .before .before .before
 
 find-requires : tie.Need-find-requires
-find-requires c κs = let p = c .before .before .pre in omega (arith, p .1, p .2)
+find-requires c κs = let p = c .before .before .pre in omega (arith, p .few, p .room)
 
 pair-place-requires : tie.Need-pair-place-requires
-pair-place-requires c κs = let p = entry (c .before) .pre in (p .0, omega (arith, p .1))
+pair-place-requires c κs = let p = entry (c .before) .pre in (p .near, omega (arith, p .few))
 
 returns : tie.Need-returns
 unfolding givenCode pairCodes pairCode

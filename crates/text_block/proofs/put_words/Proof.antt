@@ -1,14 +1,14 @@
--- `op_read::words::put_words` meets its contract: one word a turn. Assumes nothing.
+-- `text_block::put_words` meets its contract: one word a turn. Assumes nothing.
 use native.Mathlib.Omega.{arith}
 use mathlib.Core.Path.{_≡_, refl, _∙_}
-use Rattle.op_read.proofs.words.put_words.Statement.{statement}
-use Rattle.op_read.proofs.words.put_words.Tie as tie
+use Rattle.text_block.proofs.put_words.Statement.{statement}
+use Rattle.text_block.proofs.put_words.Tie as tie
 use Prim.Native.Nat.{_+_, _-_, _≤_}
 use lib.ListN.{length, getD, length-set}
 use lib.Seq.{sets}
 use Rattle.prelude.specs.Lists.{tab}
 use Rattle.prelude.proofs.Stores.{sets-next}
-use Rattle.op_read.specs.Words.{wordOf}
+use Rattle.text_block.specs.Words.{wordOf}
 
 abbrev Inv-loop : tie.InvT-loop
 Inv-loop words count block₀ at i₀ block i =

@@ -1,5 +1,5 @@
-// The block's words: the counts, the names of the inputs, and the words of never lines, gates and outputs that are
-// there already.
+// The words of a text's block, from its tables: the counts, the names of the inputs, and the words of never lines,
+// gates and outputs that are there already.
 use text_counts::Counts;
 use words_layout::offsets::GATE_SIZE;
 use words_layout::offsets::INPUTS_AT;
@@ -18,7 +18,7 @@ ghost use Rattle.prelude.specs.Lists.{tab, joined};
 ghost use Rattle.netlist.specs.Limits.{maxInputs, maxNevers, maxGates, maxOutputs};
 ghost use Rattle.netlist.specs.StoredBlock.{nameSize, inputsAt};
 ghost use Rattle.text_expressions.specs.Ports.{portWords};
-ghost use Rattle.op_read.specs.Words.{nameOf, wordOf, treeBlockWords, PutReady};
+ghost use Rattle.text_block.specs.Words.{nameOf, wordOf, treeBlockWords, PutReady};
 
 // Writes the four counts.
 fn put_counts(c: Counts, block: &mut [u16])

@@ -1,12 +1,12 @@
--- `op_read::words::put_name` meets its contract. Assumes nothing.
+-- `text_block::put_name` meets its contract. Assumes nothing.
 use native.Mathlib.Omega.{arith}
 use borrow.Author.Needs.{needs}
-use Rattle.op_read.proofs.words.put_name.Statement.{statement}
-use Rattle.op_read.proofs.words.put_name.Tie as tie
+use Rattle.text_block.proofs.put_name.Statement.{statement}
+use Rattle.text_block.proofs.put_name.Tie as tie
 use Prim.Native.Nat.{_/_, _%_}
 use lib.ListN.{length-set}
 use Rattle.text_expressions.specs.Ports.{portWords}
-use Rattle.op_read.proofs.ListFacts.{four-stores}
+use Rattle.text_block.proofs.BlockParts.{four-stores}
 
 slice-write-block-2 : tie.Need-slice-write-block-2
 slice-write-block-2 c = simp length-set (omega arith)

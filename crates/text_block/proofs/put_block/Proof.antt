@@ -1,10 +1,10 @@
--- `op_read::words::put_block` meets its contract: the five parts, one after the other. Assumes nothing.
+-- `text_block::put_block` meets its contract: the five parts, one after the other. Assumes nothing.
 use borrow.Author.Needs.{needs}
-use Rattle.op_read.proofs.words.put_block.Statement.{statement}
-use Rattle.op_read.proofs.words.put_block.Tie as tie
+use Rattle.text_block.proofs.put_block.Statement.{statement}
+use Rattle.text_block.proofs.put_block.Tie as tie
 use Rattle.netlist.specs.StoredBlock.{neversAt, gatesAt, outputsAt}
-use Rattle.op_read.specs.Words.{wordCount}
-use Rattle.op_read.proofs.BlockWords.{block-written}
+use Rattle.text_block.specs.Words.{wordCount}
+use Rattle.text_block.proofs.BlockParts.{block-written}
 
 put-counts-requires : tie.Need-put-counts-requires
 unfolding wordCount outputsAt gatesAt neversAt
@@ -28,7 +28,10 @@ put-words-requires-3 c κs = search needs
 
 -- the function's entry
 abbrev entry : tie.After-put-counts → tie.Start
-entry c = search
+entry c =
+    let lent = c .before .before .before in
+    let known = lent .before .before .before in
+    known .before
 
 returns : tie.Need-returns
 returns c =

@@ -1,8 +1,8 @@
--- `op_read::words::put_counts` meets its contract. Assumes nothing.
+-- `text_block::put_counts` meets its contract. Assumes nothing.
 use native.Mathlib.Omega.{arith}
 use borrow.Author.Needs.{needs}
-use Rattle.op_read.proofs.words.put_counts.Statement.{statement}
-use Rattle.op_read.proofs.words.put_counts.Tie as tie
+use Rattle.text_block.proofs.put_counts.Statement.{statement}
+use Rattle.text_block.proofs.put_counts.Tie as tie
 use lib.ListN.{length-set}
 
 slice-write-block-2 : tie.Need-slice-write-block-2

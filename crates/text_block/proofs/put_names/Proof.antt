@@ -1,15 +1,15 @@
--- `op_read::words::put_names` meets its contract: one name a turn. Assumes nothing.
+-- `text_block::put_names` meets its contract: one name a turn. Assumes nothing.
 use native.Mathlib.Omega.{arith}
 use mathlib.Core.Path.{_≡_, refl, _∙_}
-use Rattle.op_read.proofs.words.put_names.Statement.{statement}
-use Rattle.op_read.proofs.words.put_names.Tie as tie
+use Rattle.text_block.proofs.put_names.Statement.{statement}
+use Rattle.text_block.proofs.put_names.Tie as tie
 use Prim.Native.Nat.{_-_, _≤_}
 use lib.ListN.{length}
 use lib.Seq.{sets}
 use Rattle.prelude.specs.Lists.{tab, joined}
 use Rattle.prelude.proofs.Stores.{sets-joined-next}
-use Rattle.op_read.specs.Words.{nameOf}
-use Rattle.op_read.proofs.BlockWords.{name-size}
+use Rattle.text_block.specs.Words.{nameOf}
+use Rattle.text_block.proofs.BlockParts.{name-size}
 
 abbrev Inv-loop : tie.InvT-loop
 Inv-loop names n block₀ i₀ block i =
