@@ -3,8 +3,9 @@
 --   ends-one, ends-near, ends-inside    a name's walk ends at one place, not far behind the last hash, in the index
 --   index-hit, index-miss               what the entry at the walk's end says of the name
 --   repeats-hit, repeats-miss           and of the next name of the table
---   index-more                          one more name, stored at its walk's end
---   index-none, index-new               an empty index
+--   held-more, index-more               one more name, stored at its walk's end
+--   index-none, held-new                an empty index
+--   Holding                             the loop that enters names while there is room
 --   Entering                            the loop that enters name after name
 -- Assumes nothing.
 use Prim.Native.Nat.{ℕ, zero, suc, _+_, _-_, _≤_, _<_}
@@ -23,6 +24,7 @@ use Rattle.prelude.proofs.Tests.{not-both, not-true-false, lt-or-le, eq-or-ne}
 use Rattle.prelude.proofs.Least.{least-is}
 use Rattle.text_names.specs.Search.{isAt, indexOf, repeatsAt}
 use Rattle.text_names.specs.Index.{hashes, hashOf, stopsAt, WalkEnds, Stored, Indexed, NameEntered, AllEntered}
+use Rattle.text_names.specs.Index.{Held, EnteredIfRoom}
 use Rattle.text_names.proofs.Searching.{Sought, sought-none, sought-more, sought-here, sought-all}
 
 hash-below : (name : ℕ) → hashOf name < hashes
@@ -98,7 +100,10 @@ module _ (names index : List ℕ) (name : ℕ) where
   ends-inside count at h f =
       let n = ends-near count at h f in let r = h .room in let s = h .few in let w = h .within in omega arith
 
-module _ (names index : List ℕ) (count name at : ℕ) (h : Indexed names count index)
+pub held-of : {names : List ℕ} {count : ℕ} {index : List ℕ} → Indexed names count index → Held names count index
+held-of h = record { few = h .few; within = h .within; entries = h .entries; stored = h .stored }
+
+module _ (names index : List ℕ) (count name at : ℕ) (h : Held names count index)
     (f : WalkEnds names index name at) where
   -- where a name of the table is this one, its entry stands at the walk's end
   there : (j : ℕ) → j < count → isAt names name j ≡ true → getD index at 0 ≡ suc j
@@ -127,7 +132,7 @@ module _ (names index : List ℕ) (count name at : ℕ) (h : Indexed names count
 
 -- ---- the next name
 
-module _ (names index : List ℕ) (i at : ℕ) (h : Indexed names i index)
+module _ (names index : List ℕ) (i at : ℕ) (h : Held names i index)
     (f : WalkEnds names index (getD names i 0) at) where
   pub repeats-hit : (getD index at 0 ≡ 0 → ⊥) → true ≡ repeatsAt names i
   unfolding repeatsAt
@@ -147,14 +152,14 @@ module _ (names index : List ℕ) (i at : ℕ) (h : Indexed names i index)
       sym (le-ltb (indexOf names i (getD names i 0)) i (omega arith))
 
   -- an entry stored where there was none is on no other name's way
-  module _ (l : i < length names) (e : getD index at 0 ≡ 0) where
+  module _ (inside : at < length index) (l : i < length names) (e : getD index at 0 ≡ 0) where
     abbrev after : List ℕ
     after = set index at (suc i)
 
     entry-new : getD after at 0 ≡ suc i
-    entry-new = getD-set-same index at (suc i) 0 (ends-inside names index (getD names i 0) i at h f)
+    entry-new = getD-set-same index at (suc i) 0 inside
 
-    entry-other : (j : ℕ) → (j ≡ at → ⊥) → getD after j 0 ≡ getD index j 0
+    pub entry-other : (j : ℕ) → (j ≡ at → ⊥) → getD after j 0 ≡ getD index j 0
     entry-other j ne = getD-set-other index at j (suc i) 0 ne
 
     passed-kept : (name j : ℕ) → stopsAt names name (getD index j 0) ≡ false → getD after j 0 ≡ getD index j 0
@@ -188,23 +193,39 @@ module _ (names index : List ℕ) (i at : ℕ) (h : Indexed names i index)
           entry = entry-new;
         }
 
-    pub index-more : Indexed names (i + 1) (set index at (i + 1))
-    index-more =
+    pub held-more : Held names (i + 1) (set index at (i + 1))
+    held-more =
         rw add-one
         record {
           few = h .few;
-          room = rw (length-set index at (suc i)) (h .room);
           within = omega arith;
           entries =
               λ j. ⊎-elim (λ q. rw q (let n = entry-new in omega arith))
               (λ ne. let b = h .entries j in let o = entry-other j ne in omega arith) (eq-or-ne j at);
-          beyond =
-              λ j q. entry-other j (λ s. let n = ends-near names index (getD names i 0) i at h f in omega arith)
-              ∙ h .beyond j (omega arith);
           stored =
               λ k q. ⊎-elim (λ (s : k ≡ i). rw s stored-new) (λ ne. stored-kept k (h .stored k (omega arith)))
               (eq-or-ne k i);
         }
+
+module _ (names index : List ℕ) (i at : ℕ) (h : Indexed names i index)
+    (f : WalkEnds names index (getD names i 0) at) (l : i < length names) (e : getD index at 0 ≡ 0) where
+  near : at ≤ hashes + i
+  near = ends-near names index (getD names i 0) i at h f
+
+  more : Held names (i + 1) (set index at (i + 1))
+  more = held-more names index i at (held-of h) f (ends-inside names index (getD names i 0) i at h f) l e
+
+  pub index-more : Indexed names (i + 1) (set index at (i + 1))
+  index-more =
+      record {
+        few = h .few;
+        room = rw (length-set index at (i + 1)) (h .room);
+        within = more .within;
+        entries = more .entries;
+        beyond =
+            λ j q. getD-set-other index at j (i + 1) 0 (λ s. let n = near in omega arith) ∙ h .beyond j (omega arith);
+        stored = more .stored;
+      }
 
 -- ---- an empty index
 
@@ -221,12 +242,19 @@ index-none names index few room none =
     }
 
 -- of a new array
-pub index-new : (names : List ℕ) (n : ℕ) → length names < 65536 → hashes + length names < n
-    → Indexed names 0 (replicate n 0)
-index-new names n few room =
-    index-none names (replicate n 0) few (rw length-replicate room)
-    (λ j. ⊎-elim (λ (l : j < n). getD-replicate n j 0 0 l)
-    (λ (l : n ≤ j). List·getD-eq-default (replicate n 0) 0 (rw length-replicate l)) (lt-or-le j n))
+new-none : (n j : ℕ) → getD {A = ℕ} (replicate n 0) j 0 ≡ 0
+new-none n j =
+    ⊎-elim (λ (l : j < n). getD-replicate n j 0 0 l)
+    (λ (l : n ≤ j). List·getD-eq-default (replicate n 0) 0 (rw length-replicate l)) (lt-or-le j n)
+
+pub held-new : (names : List ℕ) (n : ℕ) → length names < 65536 → Held names 0 (replicate n 0)
+held-new names n few =
+    record {
+      few = few;
+      within = omega arith;
+      entries = λ j. let e = new-none n j in omega arith;
+      stored = λ i l. absurd (omega arith);
+    }
 
 -- ---- the loop that enters name after name
 
@@ -257,3 +285,26 @@ module _ {names index₀ : List ℕ} {i : ℕ} {index : List ℕ} (h : Entering 
       let w = h .held .within in
       let whole : i ≡ length names = omega arith in
       record { answer = sought-all (h .sought) l; indexed = λ _. rw whole at (h .held) }
+
+-- ---- the loop that enters names while there is room
+
+pub record Holding (names index₀ : List ℕ) (i : ℕ) (index : List ℕ) : Type 0 where
+  pub sized : length index ≡ length index₀
+  pub held : Held names i index
+  pub sought : Sought (repeatsAt names) (length names) i
+
+pub holding-none : {names index : List ℕ} → Held names 0 index → Holding names index 0 index
+holding-none h = record { sized = refl; held = h; sought = sought-none }
+
+module _ {names index₀ : List ℕ} {i : ℕ} {index : List ℕ} (h : Holding names index₀ i index) {after : List ℕ} {r : Bool}
+    (told : EnteredIfRoom names i index after r) where
+  pub room-sized : length after ≡ length index₀
+  room-sized = told .sized ∙ h .sized
+
+  pub holding-more : i < length names → r ≡ false → Holding names index₀ (i + 1) after
+  holding-more l e =
+      record {
+        sized = room-sized;
+        held = told .stored e;
+        sought = sought-more (h .sought) l (sym (told .answer e)) refl;
+      }

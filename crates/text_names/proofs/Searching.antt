@@ -1,5 +1,5 @@
--- A loop that looks for the first number below a bound that passes a test: one law for each way through it. Assumes
--- nothing.
+-- A loop that looks for the first number below a bound that passes a test: one law for each way through it, of its
+-- invariant Sought. Assumes nothing.
 use Prim.Native.Nat.{ℕ, _+_, _≤_, _<_}
 use mathlib.Core.Path.{_≡_, sym, _∙_}
 use mathlib.Core.Bool.{Bool, true, false}
@@ -7,11 +7,7 @@ use native.Mathlib.Omega.{arith}
 use borrow.Author.Count.{below-more}
 use Rattle.prelude.specs.Lists.{least}
 use Rattle.prelude.proofs.Least.{least-is}
-
--- The invariant of such a loop: i of the n numbers are tested, and none of them passes.
-pub record Sought (p : ℕ → Bool) (n i : ℕ) : Type 0 where
-  pub within : i ≤ n
-  pub none : (j : ℕ) → j < i → p j ≡ false
+pub use Rattle.text_names.specs.Search.{Sought}
 
 pub sought-none : {p : ℕ → Bool} {n : ℕ} → Sought p n 0
 sought-none = record { within = omega arith; none = λ j l. absurd (omega arith) }

@@ -37,6 +37,13 @@ pub record Stored (names index : List ℕ) (i : ℕ) : Type 0 where
   pub ends : WalkEnds names index (getD names i 0) at
   pub entry : getD index at 0 ≡ suc i
 
+-- the index holds the first `count` names, of which none repeats another
+pub record Held (names : List ℕ) (count : ℕ) (index : List ℕ) : Type 0 where
+  pub few : length names < 65536
+  pub within : count ≤ length names
+  pub entries : (j : ℕ) → getD index j 0 ≤ count
+  pub stored : (i : ℕ) → i < count → Stored names index i
+
 -- the index holds the first `count` names, of which none repeats another. No entry stands further behind the last hash
 -- than there are names
 pub record Indexed (names : List ℕ) (count : ℕ) (index : List ℕ) : Type 0 where
@@ -57,6 +64,17 @@ pub record NameEntered (names : List ℕ) (i : ℕ) (index after : List ℕ) (r 
   pub sized : length after ≡ length index
   pub answer : r ≡ repeatsAt names i
   pub stored : r ≡ false → Indexed names (i + 1) after
+
+-- an index that may be full, and holds the names before name i
+pub record HeldReady (names : List ℕ) (i : ℕ) (index : List ℕ) : Type 0 where
+  pub held : Held names i index
+  pub inside : i < length names
+
+-- name i is in the index, where it is told that it repeats none before it and that there was room
+pub record EnteredIfRoom (names : List ℕ) (i : ℕ) (index after : List ℕ) (r : Bool) : Type 0 where
+  pub sized : length after ≡ length index
+  pub answer : r ≡ false → repeatsAt names i ≡ false
+  pub stored : r ≡ false → Held names (i + 1) after
 
 -- the first name that repeats one before it is told by r, or all names are in the index
 pub record AllEntered (names after : List ℕ) (r : ℕ) : Type 0 where

@@ -5,14 +5,18 @@ use words_layout::limits::MAX_INPUTS;
 ghost use mathlib.Core.Path.{_≡_};
 ghost use Prim.Native.Nat.{ℕ, _≤_};
 ghost use lib.ListN.{length, getD};
-ghost use Rattle.text_names.specs.Search.{indexOf};
+ghost use Rattle.text_names.specs.Search.{indexOf, repeatsAt, Sought};
 ghost use Rattle.text_names.specs.Index.{hashOf, stopsAt, WalkEnds, Indexed, EnterReady, NameEntered, AllEntered};
+ghost use Rattle.text_names.specs.Index.{Held, HeldReady, EnteredIfRoom};
 
 // A prime, above the number of different names that one never line has room for.
 const HASHES: u64 = 8101;
 
 // The hashes as a number of entries: a walk begins at a hash and passes at most one entry for each name.
-pub const HASH_ENTRIES: usize = HASHES as usize;
+const HASH_ENTRIES: usize = HASHES as usize;
+
+// The entries of an index of a long line's names. It may have no room for a name whose hash is great.
+pub const MANY_ENTRIES: usize = HASH_ENTRIES + 2048;
 
 // The entries of an index of a text's nodes.
 pub const INDEX_SIZE: usize = HASH_ENTRIES + MAX_INPUTS + MAX_GATES + 1;
@@ -85,6 +89,39 @@ pub fn enter_all(names: &[u64], index: &mut [u16]) -> usize
     let mut i = 0;
     while i < names.len() {
         if enter(names, i, index) {
+            return i;
+        }
+        i += 1;
+    }
+    i
+}
+
+// Enters name i behind those before it, where its walk ends in the index; tells whether it does not, or is one of them
+// already.
+fn enter_if_room(names: &[u64], i: usize, index: &mut [u16]) -> bool
+    requires { ⌜ HeldReady (now names) i (now index) ⌝ }
+    ensures { λ r. ⌜ EnteredIfRoom (now (names .entry)) i (now (index .entry)) (now (index .exit)) r ⌝ }
+{
+    let at = walk(names, index, names[i]);
+    if index.len() <= at {
+        return true;
+    }
+    if index[at] != 0 {
+        return true;
+    }
+    index[at] = (i + 1) as u16;
+    false
+}
+
+// Enters the names into an empty index up to the first that is one of those before it or has no room, and tells its
+// number, or how many names there are.
+pub fn enter_while_room(names: &[u64], index: &mut [u16]) -> usize
+    requires { ⌜ Held (now names) 0 (now index) ⌝ }
+    ensures { λ r. ⌜ Sought (repeatsAt (now (names .entry))) (length (now (names .entry))) r ⌝ }
+{
+    let mut i = 0;
+    while i < names.len() {
+        if enter_if_room(names, i, index) {
             return i;
         }
         i += 1;

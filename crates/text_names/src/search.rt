@@ -1,6 +1,6 @@
 // Searches in a table of names: the first that is equal to a given one, and the first that repeats one before it.
-use crate::index::HASH_ENTRIES;
-use crate::index::enter_all;
+use crate::index::MANY_ENTRIES;
+use crate::index::enter_while_room;
 use words_layout::limits::MAX_OUTPUTS;
 use words_layout::limits::MAX_TEXT;
 ghost use mathlib.Core.Path.{_≡_};
@@ -41,7 +41,7 @@ fn repeats(names: &[u64], i: usize) -> bool
 }
 
 // The index of the first name that repeats one before it, or the length; each is compared with those before it.
-fn repeat_of_few(names: &[u64]) -> usize
+pub fn repeat_of_few(names: &[u64]) -> usize
     ensures { λ r. ⌜ r ≡ least (repeatsAt (now (names .entry))) (length (now (names .entry))) ⌝ }
 {
     let mut i = 0;
@@ -54,13 +54,21 @@ fn repeat_of_few(names: &[u64]) -> usize
     i
 }
 
-// The index of the first name that repeats one before it, or the length; each is entered into an index.
+// The index of the first name that repeats one before it, or the length; each is entered into an index, and where that
+// has no room for one, each is compared with those before it.
 fn repeat_of_many(names: &[u64]) -> usize
     requires { ⌜ length (now names) ≤ maxPairs ⌝ }
     ensures { λ r. ⌜ r ≡ least (repeatsAt (now (names .entry))) (length (now (names .entry))) ⌝ }
 {
-    let mut index = [0u16; HASH_ENTRIES + MAX_PAIRS + 1];
-    enter_all(names, &mut index)
+    let mut index = [0u16; MANY_ENTRIES];
+    let i = enter_while_room(names, &mut index);
+    if names.len() <= i {
+        return i;
+    }
+    if repeats(names, i) {
+        return i;
+    }
+    repeat_of_few(names)
 }
 
 // The index of the first name that repeats one before it, or the length.

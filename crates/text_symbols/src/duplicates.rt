@@ -2,7 +2,7 @@
 use netlist::Refusal;
 use text_counts::Counts;
 use text_names::index::enter_all;
-use text_names::search::first_repeat;
+use text_names::search::repeat_of_few;
 use words_refusals::Test;
 ghost use Rattle.text_symbols.specs.Results.{IndexReady, Repeats};
 
@@ -20,7 +20,7 @@ pub fn duplicate(c: Counts, names: &[u64], places: &[usize], index: &mut [u16]) 
         let place = places[i];
         return Test::Failed(Refusal::DuplicateDeclaration(place));
     }
-    let j = first_repeat(&names[nodes..nodes + ports]);
+    let j = repeat_of_few(&names[nodes..nodes + ports]);
     if j < ports {
         let place = places[nodes + j];
         return Test::Failed(Refusal::DuplicateDeclaration(place));

@@ -6,7 +6,7 @@ use mathlib.Core.Bool.{true≢false}
 use native.Mathlib.Omega.{arith}
 use lib.ListN.{length-set}
 use borrow.Author.Needs.{needs}
-use Rattle.text_names.proofs.Indexing.{ends-near, ends-inside, repeats-hit, repeats-miss, index-more}
+use Rattle.text_names.proofs.Indexing.{held-of, ends-near, ends-inside, repeats-hit, repeats-miss, index-more}
 use Rattle.text_names.proofs.index.enter.Statement.{statement}
 use Rattle.text_names.proofs.index.enter.Tie as tie
 
@@ -33,7 +33,7 @@ returns c =
     let found : tie.After-walk = search in
     record {
       sized = refl;
-      answer = repeats-hit _ _ _ _ (start .pre .held) (found .walk .ensures) (c .if1 .taken);
+      answer = repeats-hit _ _ _ _ (held-of (start .pre .held)) (found .walk .ensures) (c .if1 .taken);
       stored = λ e. absurd (true≢false e);
     }
 
@@ -56,7 +56,7 @@ returns-2 c =
     let found : tie.After-walk = search in
     record {
       sized = length-set (start .args .index .now) (found .walk .result) (start .args .i + 1);
-      answer = repeats-miss _ _ _ _ (start .pre .held) (found .walk .ensures) (c .if1 .left);
+      answer = repeats-miss _ _ _ _ (held-of (start .pre .held)) (found .walk .ensures) (c .if1 .left);
       stored =
           λ _. index-more _ _ _ _ (start .pre .held) (found .walk .ensures) (start .pre .inside) (c .if1 .left);
     }

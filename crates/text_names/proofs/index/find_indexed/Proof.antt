@@ -4,7 +4,7 @@ use Prim.Native.Nat.{_-_}
 use native.Mathlib.Omega.{arith}
 use lib.ListN.{length, getD}
 use borrow.Author.Needs.{needs}
-use Rattle.text_names.proofs.Indexing.{ends-near, ends-inside, index-hit, index-miss}
+use Rattle.text_names.proofs.Indexing.{held-of, ends-near, ends-inside, index-hit, index-miss}
 use Rattle.text_names.proofs.index.find_indexed.Statement.{statement}
 use Rattle.text_names.proofs.index.find_indexed.Tie as tie
 
@@ -32,7 +32,7 @@ returns c =
     let at-walk = c .before .before in
     let s = at-walk .before .before .before in
     index-miss (s .args .names .now) (s .args .index .now) (length (s .args .names .now)) (s .args .name)
-    (at-walk .walk .result) (s .pre)
+    (at-walk .walk .result) (held-of (s .pre))
     (at-walk .walk .ensures) (c .if1 .taken)
 
 returns-2 : tie.Need-returns-2
@@ -40,7 +40,7 @@ returns-2 c =
     let at-walk = c .before .before in
     let s = at-walk .before .before .before in
     index-hit (s .args .names .now) (s .args .index .now) (length (s .args .names .now)) (s .args .name)
-    (at-walk .walk .result) (s .pre)
+    (at-walk .walk .result) (held-of (s .pre))
     (at-walk .walk .ensures) (getD (s .args .index .now) (at-walk .walk .result) 0 - 1)
     (let n = c .if1 .left in omega arith)
 

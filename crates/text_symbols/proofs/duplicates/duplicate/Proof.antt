@@ -50,7 +50,7 @@ returns-2 c =
           (s .args .places .now) table
           (s .pre .numberRoom) (s .pre .placeRoom) (at-enter .enter-all .result) (at-enter .enter-all .ensures .answer)
           (at-if1 .if1 .left)
-          (at-port .first-repeat .result) (at-port .first-repeat .ensures) (c .before .if2 .taken);
+          (at-port .repeat-of-few .result) (at-port .repeat-of-few .ensures) (c .before .if2 .taken);
       indexed = λ e. failed-passed e;
     }
 
@@ -66,7 +66,7 @@ returns-3 c =
           (s .args .places .now) table
           (s .pre .numberRoom) (s .pre .placeRoom) (at-enter .enter-all .result) (at-enter .enter-all .ensures .answer)
           (at-if1 .if1 .left)
-          (at-port .first-repeat .result) (at-port .first-repeat .ensures) (c .if2 .left);
+          (at-port .repeat-of-few .result) (at-port .repeat-of-few .ensures) (c .if2 .left);
       indexed =
           λ _. at-enter .enter-all .ensures .indexed
           (rw (length-take-le (s .args .c .inputs + s .args .c .named) (s .args .names .now)
