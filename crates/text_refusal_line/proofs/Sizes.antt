@@ -17,7 +17,7 @@ use Rattle.netlist.specs.Answers.{Outcome, refused, refuseIf, refuseAt}
 use Rattle.netlist.specs.Operations.{counted, readTree, readParsed, readText}
 use Rattle.text_counts.specs.Counting.{treeCounts}
 use Rattle.theory_grammar.proofs.Limits.{limits-within}
-use Rattle.op_read.specs.Words.{wordCount}
+use Rattle.text_block.specs.Words.{wordCount}
 use Rattle.op_read.proofs.BlockWords.{block-length}
 use Rattle.text_refusal_line.proofs.Told.{Fits}
 
