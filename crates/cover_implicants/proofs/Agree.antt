@@ -17,7 +17,8 @@ use Rattle.netlist.specs.Assignments.{Assignment, fixes, agrees, isWithin}
 use Rattle.netlist.specs.Cover.{without}
 use Rattle.cover_implicants.specs.Digits.{ternaryDigit}
 use Rattle.cover_implicants.specs.Over.{soundOver, Consistent}
-use Rattle.cover_implicants.proofs.Digits.{numeral-ext, numeral-digit, digit-lt, digit-lowered, digit-kept, lowered-le}
+use Rattle.cover_implicants.proofs.Digits.{numeral-ext, numeral-digit, digit-lt, digit-lowered, digit-kept}
+use Rattle.cover_implicants.proofs.Digits.{lowered-le}
 use Rattle.cover_implicants.proofs.ListFacts.{implies-use, implies-from}
 
 pub bit-lt : (s i : ℕ) → bit s i < 2
@@ -28,7 +29,8 @@ bit-lt s i = digit-lt 2 (omega arith) s i
 pub bits-eq : (n s t : ℕ) → s < 2 ^ n → t < 2 ^ n → ((i : ℕ) → i < n → bit s i ≡ bit t i) → s ≡ t
 unfolding bit ternaryDigit
 bits-eq n s t l m h =
-    sym (numeral-digit 2 (omega arith) s n l) ∙ numeral-ext 2 (omega arith) (ternaryDigit 2 s) (ternaryDigit 2 t) n h ∙ numeral-digit 2 (omega arith) t n m
+    sym (numeral-digit 2 (omega arith) s n l) ∙ numeral-ext 2 (omega arith) (ternaryDigit 2 s) (ternaryDigit 2 t) n h
+    ∙ numeral-digit 2 (omega arith) t n m
 
 -- a mask without its bit i, which is c
 module _ (m n i c : ℕ) (small : m < 2 ^ n) (below : i < n) (is : bit m i ≡ c) where
@@ -38,7 +40,9 @@ module _ (m n i c : ℕ) (small : m < 2 ^ n) (below : i < n) (is : bit m i ≡ c
 
   pub bit-dropped : bit (m - c * 2 ^ i) i ≡ 0
   unfolding bit ternaryDigit
-  bit-dropped = let h : ternaryDigit 2 m i ≡ c = is in digit-lowered 2 (omega arith) m n i c small below (omega arith) ∙ omega arith
+  bit-dropped =
+      let h : ternaryDigit 2 m i ≡ c = is in
+      digit-lowered 2 (omega arith) m n i c small below (omega arith) ∙ omega arith
 
   pub bit-kept : (j : ℕ) → j < n → (j ≡ i → ⊥) → bit (m - c * 2 ^ i) j ≡ bit m j
   unfolding bit ternaryDigit
@@ -81,46 +85,51 @@ module _ (n f o : ℕ) where
   within-from h = below-all (λ i. leb (bit o i) (bit f i)) n (λ i l. le-leb (bit o i) (bit f i) (h i l))
 
 -- without a fixed input i: its bits are 0 in both masks, the others are kept
-module _ (n : ℕ) (a : Assignment) (i : ℕ) (ok : Consistent n a) (below : i < n) (fixed-here : bit (a .fixed) i ≡ 1) where
-  pub without-fixed : bit (without a i .fixed) i ≡ 0
-  unfolding without
-  without-fixed = rw (one-mul (2 ^ i)) at (bit-dropped (a .fixed) n i 1 (ok .fixed-lt) below fixed-here)
+module _ (n : ℕ) (a : Assignment) (i : ℕ) (ok : Consistent n a) (below : i < n) (fixed-here : bit (a .fixed) i ≡ 1)
+  where
+    pub without-fixed : bit (without a i .fixed) i ≡ 0
+    unfolding without
+    without-fixed = rw (one-mul (2 ^ i)) at (bit-dropped (a .fixed) n i 1 (ok .fixed-lt) below fixed-here)
 
-  pub without-fixed-other : (j : ℕ) → j < n → (j ≡ i → ⊥) → bit (without a i .fixed) j ≡ bit (a .fixed) j
-  unfolding without
-  without-fixed-other j l ne = rw (one-mul (2 ^ i)) at (bit-kept (a .fixed) n i 1 (ok .fixed-lt) below fixed-here j l ne)
+    pub without-fixed-other : (j : ℕ) → j < n → (j ≡ i → ⊥) → bit (without a i .fixed) j ≡ bit (a .fixed) j
+    unfolding without
+    without-fixed-other j l ne =
+        rw (one-mul (2 ^ i)) at (bit-kept (a .fixed) n i 1 (ok .fixed-lt) below fixed-here j l ne)
 
-  pub without-ones : bit (without a i .ones) i ≡ 0
-  unfolding without
-  without-ones = bit-dropped (a .ones) n i (bit (a .ones) i) (ok .ones-lt) below refl
+    pub without-ones : bit (without a i .ones) i ≡ 0
+    unfolding without
+    without-ones = bit-dropped (a .ones) n i (bit (a .ones) i) (ok .ones-lt) below refl
 
-  pub without-ones-other : (j : ℕ) → j < n → (j ≡ i → ⊥) → bit (without a i .ones) j ≡ bit (a .ones) j
-  unfolding without
-  without-ones-other = bit-kept (a .ones) n i (bit (a .ones) i) (ok .ones-lt) below refl
+    pub without-ones-other : (j : ℕ) → j < n → (j ≡ i → ⊥) → bit (without a i .ones) j ≡ bit (a .ones) j
+    unfolding without
+    without-ones-other = bit-kept (a .ones) n i (bit (a .ones) i) (ok .ones-lt) below refl
 
-  -- the first mask is less
-  pub without-less : without a i .fixed < a .fixed
-  unfolding without
-  without-less =
-      let h : 2 ^ i ≤ a .fixed = rw (one-mul (2 ^ i)) at (bit-le (a .fixed) n i 1 (ok .fixed-lt) below fixed-here) in
-      let z : 0 < 2 ^ i = pow-pos i in
-      omega arith
+    -- the first mask is less
+    pub without-less : without a i .fixed < a .fixed
+    unfolding without
+    without-less =
+        let h : 2 ^ i ≤ a .fixed = rw (one-mul (2 ^ i)) at (bit-le (a .fixed) n i 1 (ok .fixed-lt) below fixed-here) in
+        let z : 0 < 2 ^ i = pow-pos i in
+        omega arith
 
-  pub without-legal : Consistent n (without a i)
-  unfolding without
-  without-legal = record {
-    fixed-lt = let h : a .fixed < 2 ^ n = ok .fixed-lt in omega arith;
-    ones-lt = let h : a .ones < 2 ^ n = ok .ones-lt in omega arith;
-    inside = within-from n (without a i .fixed) (without a i .ones) (λ j l.
-        ⊎-elim (λ (e : j ≡ i). rw (e, without-ones, without-fixed) (omega arith))
-        (λ (ne : j ≡ i → ⊥). rw (without-ones-other j l ne, without-fixed-other j l ne) (within-at n (a .fixed) (a .ones) (ok .inside) j l)) (eq-or-ne j i));
-  }
+    pub without-legal : Consistent n (without a i)
+    unfolding without
+    without-legal = record {
+      fixed-lt = let h : a .fixed < 2 ^ n = ok .fixed-lt in omega arith;
+      ones-lt = let h : a .ones < 2 ^ n = ok .ones-lt in omega arith;
+      inside = within-from n (without a i .fixed) (without a i .ones) (λ j l.
+          ⊎-elim (λ (e : j ≡ i). rw (e, without-ones, without-fixed) (omega arith))
+          (λ (ne : j ≡ i → ⊥). rw (without-ones-other j l ne, without-fixed-other j l ne)
+          (within-at n (a .fixed) (a .ones) (ok .inside) j l)) (eq-or-ne j i));
+    }
 
-  -- what agrees with it agreed before
-  pub without-agrees : (s : ℕ) → agrees n a s ≡ true → agrees n (without a i) s ≡ true
-  without-agrees s h = agrees-from n (without a i) s (λ j l e. ⊎-elim
-      (λ (q : j ≡ i). let z : bit (without a i .fixed) i ≡ 1 = rw q at e in let y : bit (without a i .fixed) i ≡ 0 = without-fixed in absurd (omega arith))
-      (λ (ne : j ≡ i → ⊥). agrees-at n a s h j l (sym (without-fixed-other j l ne) ∙ e) ∙ sym (without-ones-other j l ne)) (eq-or-ne j i))
+    -- what agrees with it agreed before
+    pub without-agrees : (s : ℕ) → agrees n a s ≡ true → agrees n (without a i) s ≡ true
+    without-agrees s h = agrees-from n (without a i) s (λ j l e. ⊎-elim
+        (λ (q : j ≡ i). let z : bit (without a i .fixed) i ≡ 1 = rw q at e in let y : bit (without a i .fixed) i
+        ≡ 0 = without-fixed in absurd (omega arith))
+        (λ (ne : j ≡ i → ⊥). agrees-at n a s h j l (sym (without-fixed-other j l ne) ∙ e)
+        ∙ sym (without-ones-other j l ne)) (eq-or-ne j i))
 
 -- the bits of two masks' common part, and the test that one mask is within another
 and-bit : (a b i : ℕ) → bit (bitAnd a b) i ≡ min (bit a i) (bit b i)
@@ -128,9 +137,12 @@ unfolding bit
 and-bit a b i = rw (and-shr a b i, and-step (a / 2 ^ i) (b / 2 ^ i)) (omega arith)
 
 pub within-and : (n f o : ℕ) → bitAnd o f ≡ o → isWithin n f o ≡ true
-within-and n f o e = within-from n f o (λ i l. let h : bit o i ≡ min (bit o i) (bit f i) = ap (λ (x : ℕ). bit x i) (sym e) ∙ and-bit o f i in omega arith)
+within-and n f o e =
+    within-from n f o (λ i l. let h : bit o i ≡ min (bit o i) (bit f i) = ap (λ (x : ℕ). bit x i) (sym e)
+    ∙ and-bit o f i in omega arith)
 
 pub and-within : (n f o : ℕ) → o < 2 ^ n → isWithin n f o ≡ true → bitAnd o f ≡ o
 and-within n f o l h =
     let le : bitAnd o f ≤ o = and-le-l o f in
-    bits-eq n (bitAnd o f) o (omega arith) l (λ i m. and-bit o f i ∙ (let w : bit o i ≤ bit f i = within-at n f o h i m in omega arith))
+    bits-eq n (bitAnd o f) o (omega arith) l
+    (λ i m. and-bit o f i ∙ (let w : bit o i ≤ bit f i = within-at n f o h i m in omega arith))

@@ -1,4 +1,5 @@
--- The cover of a block is the cover over "never comes or is settled": the definitions are the same text. So the laws of covers hold of blocks.
+-- The cover of a block is the cover over "never comes or is settled": the definitions are the same text. So the laws of
+-- covers hold of blocks.
 -- Cited by the operation Cover and by docs/GUARANTEES.md. Assumes nothing.
 use mathlib.Core.Path.{_≡_, refl, sym, ap, _∙_}
 use mathlib.Core.Bool.{Bool, true, false, not, _&&_, _||_}
@@ -11,11 +12,13 @@ use Rattle.netlist.specs.Netlist.{Block, inputCount}
 use Rattle.netlist.specs.Rounds.{isSettled, isExcluded, isSoundAt, settingCount, lowestUnsettled}
 use Rattle.netlist.specs.Assignments.{Assignment, fixes, agrees}
 use Rattle.netlist.specs.Cover.{without, assignments, isSoundUnder, isSound, isMinimal, cover, coverEntries}
-use Rattle.cover_implicants.specs.Over.{soundOver, minimalOver, coverOver, assignmentWords, nothing, EntriesListed, Before}
+use Rattle.cover_implicants.specs.Over.{soundOver, minimalOver, coverOver, assignmentWords, nothing}
+use Rattle.cover_implicants.specs.Over.{EntriesListed, Before}
 use Rattle.cover_implicants.specs.Tables.{settledBy}
 use Rattle.cover_implicants.proofs.ListFacts.{keep-ext}
 use Rattle.cover_implicants.proofs.Cover.{entries-listed, listed-entries, entries-ascend}
-use Rattle.cover_implicants.proofs.Covered.{covered, nothing-sound-least, least-nothing-sound, nothing-sound-cover, cover-nothing-sound}
+use Rattle.cover_implicants.proofs.Covered.{covered, nothing-sound-least, least-nothing-sound}
+use Rattle.cover_implicants.proofs.Covered.{nothing-sound-cover, cover-nothing-sound}
 
 -- two tests that agree on the settings of n inputs have the same cover
 module _ (p q : ℕ → Bool) (n : ℕ) (h : (s : ℕ) → s < 2 ^ n → p s ≡ q s) where
@@ -28,13 +31,15 @@ module _ (p q : ℕ → Bool) (n : ℕ) (h : (s : ℕ) → s < 2 ^ n → p s ≡
   minimal-ext : (a : Assignment) → minimalOver p n a ≡ minimalOver q n a
   unfolding minimalOver
   minimal-ext a =
-      all-ext (λ i. not (fixes a i) || not (soundOver p n (without a i))) (λ i. not (fixes a i) || not (soundOver q n (without a i))) n
+      all-ext (λ i. not (fixes a i) || not (soundOver p n (without a i)))
+      (λ i. not (fixes a i) || not (soundOver q n (without a i))) n
       (λ i l. ap (λ (b : Bool). not (fixes a i) || not b) (sound-ext (without a i)))
 
   pub cover-ext : coverOver p n ≡ coverOver q n
   unfolding coverOver
   cover-ext =
-      keep-ext (λ a. soundOver p n a && minimalOver p n a) (λ a. soundOver q n a && minimalOver q n a) (λ a. rw (sound-ext a, minimal-ext a))
+      keep-ext (λ a. soundOver p n a && minimalOver p n a) (λ a. soundOver q n a && minimalOver q n a)
+      (λ a. rw (sound-ext a, minimal-ext a))
       (assignments n)
 
 module _ (b : Block) where
@@ -74,7 +79,8 @@ module _ (b : Block) where
   settled-covered s l = rw cover-over (covered (isSoundAt b) (inputCount b) s l)
 
   -- one that may come is settled exactly when it agrees with some entry
-  pub counted-covered : (s : ℕ) → s < settingCount b → isExcluded b s ≡ false → isSettled b s ≡ any (λ a. agrees (inputCount b) a s) (cover b)
+  pub counted-covered : (s : ℕ) → s < settingCount b → isExcluded b s ≡ false
+      → isSettled b s ≡ any (λ a. agrees (inputCount b) a s) (cover b)
   unfolding isSoundAt
   counted-covered s l e = rw e at (settled-covered s l)
 
@@ -95,11 +101,14 @@ module _ (b : Block) where
   lowest-sound e = sound-over ∙ least-nothing-sound (isSoundAt b) (inputCount b) e
 
   -- the entries are exactly the sound and minimal assignments, and they ascend
-  pub cover-listed : (i : ℕ) (d : Assignment) → i < length (cover b) → EntriesListed (isSoundAt b) (inputCount b) (getD (cover b) i d)
+  pub cover-listed : (i : ℕ) (d : Assignment) → i < length (cover b)
+      → EntriesListed (isSoundAt b) (inputCount b) (getD (cover b) i d)
   cover-listed = rw cover-over (entries-listed (isSoundAt b) (inputCount b))
 
-  pub listed-cover : (a d : Assignment) → EntriesListed (isSoundAt b) (inputCount b) a → (i : ℕ) × (i < length (cover b)) × (getD (cover b) i d ≡ a)
+  pub listed-cover : (a d : Assignment) → EntriesListed (isSoundAt b) (inputCount b) a
+      → (i : ℕ) × (i < length (cover b)) × (getD (cover b) i d ≡ a)
   listed-cover = rw cover-over (listed-entries (isSoundAt b) (inputCount b))
 
-  pub cover-ascends : (i j : ℕ) (d : Assignment) → i < j → j < length (cover b) → Before (getD (cover b) i d) (getD (cover b) j d)
+  pub cover-ascends : (i j : ℕ) (d : Assignment) → i < j → j < length (cover b)
+      → Before (getD (cover b) i d) (getD (cover b) j d)
   cover-ascends = rw cover-over (entries-ascend (isSoundAt b) (inputCount b))

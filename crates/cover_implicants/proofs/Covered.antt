@@ -1,4 +1,5 @@
--- What the cover over a test of settings covers: exactly the settings that pass; and it is the one assignment that fixes nothing exactly
+-- What the cover over a test of settings covers: exactly the settings that pass; and it is the one assignment that
+-- fixes nothing exactly
 -- when every setting passes. Assumes nothing.
 use mathlib.Core.Path.{_≡_, refl, sym, ap, ap₂, _∙_}
 use mathlib.Core.Logic.{⊎-elim}
@@ -21,8 +22,10 @@ use Rattle.netlist.specs.Cover.{without}
 use Rattle.cover_implicants.specs.Digits.{ternaryDigit, numeral}
 use Rattle.cover_implicants.specs.Over.{soundOver, coverOver, nothing, Consistent, EntriesListed, Before}
 use Rattle.cover_implicants.proofs.Digits.{numeral-lt, digit-numeral}
-use Rattle.cover_implicants.proofs.Agree.{bit-lt, bits-eq, sound-at, sound-from, agrees-at, agrees-from, within-at, within-from}
-use Rattle.cover_implicants.proofs.Cover.{minimal-at, Below, descend, entries-listed, listed-entries, entries-ascend}
+use Rattle.cover_implicants.proofs.Agree.{bit-lt, bits-eq, sound-at, sound-from, agrees-at, agrees-from}
+use Rattle.cover_implicants.proofs.Agree.{within-at, within-from}
+use Rattle.cover_implicants.proofs.Cover.{minimal-at, Below, descend, entries-listed, listed-entries}
+use Rattle.cover_implicants.proofs.Cover.{entries-ascend}
 
 pub bit-zero : (i : ℕ) → bit 0 i ≡ 0
 unfolding bit
@@ -55,7 +58,9 @@ module _ (p : ℕ → Bool) (n : ℕ) where
 
   fixed-sound : (s : ℕ) → s < 2 ^ n → p s ≡ true → soundOver p n (fixed-at s) ≡ true
   unfolding fixed-at
-  fixed-sound s l h = sound-from p n (fixed-at s) (λ t m g. rw (bits-eq n t s m l (λ i b. agrees-at n (fixed-at s) t g i b (full-bit n i b))) h)
+  fixed-sound s l h =
+      sound-from p n (fixed-at s)
+      (λ t m g. rw (bits-eq n t s m l (λ i b. agrees-at n (fixed-at s) t g i b (full-bit n i b))) h)
 
   fixed-agrees : (s : ℕ) → agrees n (fixed-at s) s ≡ true
   unfolding fixed-at
@@ -67,15 +72,18 @@ module _ (p : ℕ → Bool) (n : ℕ) where
     where
       complete : p s ≡ true → any (λ a. agrees n a s) (coverOver p n) ≡ true
       complete h =
-          let r : Below p n s = descend p n (suc (fixed-at s .fixed)) s (fixed-at s) (omega arith) (fixed-legal s l) (fixed-sound s l h) (fixed-agrees s) in
-          let e : (i : ℕ) × (i < length (coverOver p n)) × (getD (coverOver p n) i nothing ≡ r .0) = listed-entries p n (r .0) nothing (r .1) in
+          let r : Below p n s = descend p n (suc (fixed-at s .fixed)) s (fixed-at s) (omega arith) (fixed-legal s l)
+          (fixed-sound s l h) (fixed-agrees s) in
+          let e : (i : ℕ) × (i < length (coverOver p n)) × (getD (coverOver p n) i nothing ≡ r .0) =
+          listed-entries p n (r .0) nothing (r .1) in
           any-from (λ a. agrees n a s) (coverOver p n) (e .0) nothing (e .1) (rw (e .2) (r .2))
 
       right : any (λ a. agrees n a s) (coverOver p n) ≡ true → p s ≡ true
       right h =
           let e : (i : ℕ) × (i < length (coverOver p n)) × (agrees n (getD (coverOver p n) i nothing) s ≡ true) =
           any-at (λ a. agrees n a s) (coverOver p n) nothing h in
-          sound-at p n (getD (coverOver p n) (e .0) nothing) (entries-listed p n (e .0) nothing (e .1) .sound) s l (e .2)
+          sound-at p n (getD (coverOver p n) (e .0) nothing) (entries-listed p n (e .0) nothing (e .1) .sound) s l
+          (e .2)
 
   -- fixing nothing is sound exactly when every setting passes
   nothing-agrees : (s : ℕ) → agrees n nothing s ≡ true
@@ -92,7 +100,9 @@ module _ (p : ℕ → Bool) (n : ℕ) where
 
   -- .. exactly when the search for a setting that does not pass finds none
   pub nothing-sound-least : soundOver p n nothing ≡ true → least (λ s. not (p s)) (2 ^ n) ≡ 2 ^ n
-  nothing-sound-least h = least-is (λ s. not (p s)) (2 ^ n) (2 ^ n) (omega arith) (λ s l. ap not (nothing-sound-at h s l)) (λ l. absurd (omega arith))
+  nothing-sound-least h =
+      least-is (λ s. not (p s)) (2 ^ n) (2 ^ n) (omega arith) (λ s l. ap not (nothing-sound-at h s l))
+      (λ l. absurd (omega arith))
 
   pub least-nothing-sound : least (λ s. not (p s)) (2 ^ n) ≡ 2 ^ n → soundOver p n nothing ≡ true
   least-nothing-sound e = nothing-sound-from (λ s l. not-false (p s) (least-below (λ s. not (p s)) (2 ^ n) s (rw e l)))
@@ -109,7 +119,8 @@ module _ (p : ℕ → Bool) (n : ℕ) where
 
     only-nothing : (a : Assignment) → EntriesListed p n a → a ≡ nothing
     only-nothing a r =
-        let f : a .fixed ≡ 0 = bits-eq n (a .fixed) 0 (r .legal .fixed-lt) (pow-pos n) (λ i l. free a r i l ∙ sym (bit-zero i)) in
+        let f : a .fixed ≡ 0 = bits-eq n (a .fixed) 0 (r .legal .fixed-lt) (pow-pos n)
+        (λ i l. free a r i l ∙ sym (bit-zero i)) in
         let o : a .ones ≡ 0 = bits-eq n (a .ones) 0 (r .legal .ones-lt) (pow-pos n) (λ i l.
         let w : bit (a .ones) i ≤ bit (a .fixed) i = within-at n (a .fixed) (a .ones) (r .legal .inside) i l in
         let z : bit (a .fixed) i ≡ 0 = free a r i l in
@@ -125,7 +136,10 @@ module _ (p : ℕ → Bool) (n : ℕ) where
         at-most : length (coverOver p n) ≤ 1
         at-most =
             ⊎-elim
-            (λ l. absurd (twice (rw (entry-nothing 0 (omega arith), entry-nothing 1 l) at (entries-ascend p n 0 1 nothing (omega arith) l))))
+            (λ l. absurd (twice (rw (
+              entry-nothing 0 (omega arith),
+              entry-nothing 1 l,
+            ) at (entries-ascend p n 0 1 nothing (omega arith) l))))
             (λ g. g) (lt-or-le 1 (length (coverOver p n)))
           where
             twice : Before nothing nothing → ⊥
@@ -134,7 +148,8 @@ module _ (p : ℕ → Bool) (n : ℕ) where
         at-least : 1 ≤ length (coverOver p n)
         at-least =
             let r : Below p n 0 = descend p n 1 0 nothing (omega arith) nothing-legal h (nothing-agrees 0) in
-            let e : (i : ℕ) × (i < length (coverOver p n)) × (getD (coverOver p n) i nothing ≡ r .0) = listed-entries p n (r .0) nothing (r .1) in
+            let e : (i : ℕ) × (i < length (coverOver p n)) × (getD (coverOver p n) i nothing ≡ r .0) =
+            listed-entries p n (r .0) nothing (r .1) in
             let l : e .0 < length (coverOver p n) = e .1 in
             omega arith
 
@@ -148,5 +163,6 @@ module _ (p : ℕ → Bool) (n : ℕ) where
 
   pub cover-nothing-sound : coverOver p n ≡ nothing ∷ [] → soundOver p n nothing ≡ true
   cover-nothing-sound e =
-      let h : soundOver p n (getD (coverOver p n) 0 nothing) ≡ true = entries-listed p n 0 nothing (rw e (omega arith)) .sound in
+      let h : soundOver p n (getD (coverOver p n) 0 nothing) ≡ true =
+      entries-listed p n 0 nothing (rw e (omega arith)) .sound in
       rw e at h

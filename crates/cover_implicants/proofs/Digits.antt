@@ -4,7 +4,8 @@ use mathlib.Core.Logic.{⊎-elim}
 use mathlib.Core.Bool.{cond}
 use Prim.Native.Nat.{ℕ, zero, suc, _+_, _-_, _*_, _/_, _%_, _^_, _≤_, _<_}
 use native.Mathlib.Nat.{pow-zero, pow-suc, not-suc-le-zero, mod-lt, mod-one, mod-eq-of-lt, mul-comm}
-use native.Mathlib.Nat.{mul-assoc, mul-left-comm, add-comm, add-mul, one-le-pow, add-mul-div-left, add-mul-mod-self-right}
+use native.Mathlib.Nat.{mul-assoc, mul-left-comm, add-comm, add-mul, one-le-pow, add-mul-div-left}
+use native.Mathlib.Nat.{add-mul-mod-self-right}
 use native.Mathlib.Omega.{arith}
 use lib.Arith.{digits-lt, digits-div, mod-mul}
 use lib.Pow.{pow-add}
@@ -39,7 +40,8 @@ module _ (b : ℕ) (pos : 0 < b) where
   digits-mod : (k n : ℕ) → numeral b (ternaryDigit b k) n ≡ k % b ^ n
   unfolding numeral ternaryDigit
   digits-mod k zero = rw (pow-zero, mod-one)
-  digits-mod k (suc n) = rw (digits-mod k n, pow-suc, mul-comm (b ^ n) b, mod-mul k pos (one-le-pow n b pos)) (omega arith)
+  digits-mod k (suc n) =
+      rw (digits-mod k n, pow-suc, mul-comm (b ^ n) b, mod-mul k pos (one-le-pow n b pos)) (omega arith)
 
   -- a number is made of its digits
   pub numeral-digit : (k n : ℕ) → k < b ^ n → numeral b (ternaryDigit b k) n ≡ k
@@ -57,11 +59,13 @@ module _ (b : ℕ) (pos : 0 < b) where
       regroup : (y u v w : ℕ) → y * (u * v * w) ≡ u * (y * v * w)
       regroup y u v w = rw (mul-assoc u v w, mul-left-comm y u (v * w)) (ap (λ (z : ℕ). u * z) (sym (mul-assoc y v w)))
 
-  pub digit-numeral : (d : ℕ → ℕ) (n i : ℕ) → ((j : ℕ) → j < n → d j < b) → i < n → ternaryDigit b (numeral b d n) i ≡ d i
+  pub digit-numeral : (d : ℕ → ℕ) (n i : ℕ) → ((j : ℕ) → j < n → d j < b) → i < n
+      → ternaryDigit b (numeral b d n) i ≡ d i
   unfolding numeral ternaryDigit
   digit-numeral d zero i h l = absurd (not-suc-le-zero l)
   digit-numeral d (suc n) i h l =
-      ⊎-elim here (λ ne. below (omega arith) (digit-numeral d n i (λ j m. h j (omega arith)) (omega arith))) (eq-or-ne i n)
+      ⊎-elim here (λ ne. below (omega arith) (digit-numeral d n i (λ j m. h j (omega arith)) (omega arith)))
+      (eq-or-ne i n)
     where
       here : i ≡ n → ternaryDigit b (numeral b d n + d n * b ^ n) i ≡ d i
       here e =
@@ -72,7 +76,8 @@ module _ (b : ℕ) (pos : 0 < b) where
       below : i < n → ternaryDigit b (numeral b d n) i ≡ d i → ternaryDigit b (numeral b d n + d n * b ^ n) i ≡ d i
       below l e =
           let k : n ≡ suc (i + (n - suc i)) = omega arith in
-          ap (λ (z : ℕ). ternaryDigit b (numeral b d n + d n * b ^ z) i) k ∙ digit-below (numeral b d n) (d n) i (n - suc i) ∙ e
+          ap (λ (z : ℕ). ternaryDigit b (numeral b d n + d n * b ^ z) i) k
+          ∙ digit-below (numeral b d n) (d n) i (n - suc i) ∙ e
 
   -- a number with digit i less by c
   pub numeral-less : (d e : ℕ → ℕ) (n i c : ℕ) → i < n → e i + c ≡ d i → ((j : ℕ) → j < n → (j ≡ i → ⊥) → e j ≡ d j)
@@ -80,16 +85,19 @@ module _ (b : ℕ) (pos : 0 < b) where
   unfolding numeral
   numeral-less d e zero i c l h k = absurd (not-suc-le-zero l)
   numeral-less d e (suc n) i c l h k =
-      ⊎-elim here (λ ne. above (omega arith) (numeral-less d e n i c (omega arith) h (λ j m. k j (omega arith)))) (eq-or-ne i n)
+      ⊎-elim here (λ ne. above (omega arith) (numeral-less d e n i c (omega arith) h (λ j m. k j (omega arith))))
+      (eq-or-ne i n)
     where
       here : i ≡ n → numeral b e n + e n * b ^ n + c * b ^ i ≡ numeral b d n + d n * b ^ n
       here q =
-          let f : numeral b e n ≡ numeral b d n = numeral-ext e d n (λ j m. k j (omega arith) (λ r. absurd (omega arith))) in
+          let f : numeral b e n ≡ numeral b d n =
+          numeral-ext e d n (λ j m. k j (omega arith) (λ r. absurd (omega arith))) in
           let g : e n + c ≡ d n = rw q at h in
           let s : e n * b ^ n + c * b ^ n ≡ d n * b ^ n = sym (add-mul (e n) c (b ^ n)) ∙ ap (λ (z : ℕ). z * b ^ n) g in
           rw (f, q) (omega arith)
 
-      above : i < n → numeral b e n + c * b ^ i ≡ numeral b d n → numeral b e n + e n * b ^ n + c * b ^ i ≡ numeral b d n + d n * b ^ n
+      above : i < n → numeral b e n + c * b ^ i ≡ numeral b d n
+          → numeral b e n + e n * b ^ n + c * b ^ i ≡ numeral b d n + d n * b ^ n
       above m q =
           let f : e n ≡ d n = k n (omega arith) (λ r. absurd (omega arith)) in
           rw f (omega arith)
@@ -115,7 +123,8 @@ module _ (b : ℕ) (pos : 0 < b) where
 
     made : numeral b (less (ternaryDigit b k) i c) n + c * b ^ i ≡ k
     made =
-        numeral-less (ternaryDigit b k) (less (ternaryDigit b k) i c) n i c below (rw less-at (omega arith)) (λ j l ne. less-other j ne)
+        numeral-less (ternaryDigit b k) (less (ternaryDigit b k) i c) n i c below (rw less-at (omega arith))
+        (λ j l ne. less-other j ne)
         ∙ numeral-digit k n small
 
     pub lowered-le : c * b ^ i ≤ k

@@ -1,4 +1,5 @@
--- The assignments, and so the cover, as one list over the pairs of masks, in the order in which the code goes through them.
+-- The assignments, and so the cover, as one list over the pairs of masks, in the order in which the code goes through
+-- them.
 -- Assumes nothing.
 use mathlib.Core.Path.{_≡_, sym, ap, _∙_}
 use mathlib.Core.Bool.{Bool, _&&_}
@@ -34,7 +35,14 @@ rows n zero = rw zero-mul
 rows n (suc m) =
     ap joined (map-append (assignmentsAt n) (upTo m) (m ∷ []))
     ∙ joined-append (map (assignmentsAt n) (upTo m)) (assignmentsAt n m ∷ [])
-    ∙ rw (append-nil (assignmentsAt n m), rows n m, run n m, suc-mul m (2 ^ n), tab-add (maskPairAt n) (m * 2 ^ n) (2 ^ n))
+    ∙ rw (
+      append-nil (assignmentsAt n m),
+      rows n m,
+      run n m,
+      suc-mul m (2 ^ n),
+      tab-add (maskPairAt n) (m * 2 ^ n)
+          (2 ^ n),
+    )
     (sym (keep-append (inside n) (tab (maskPairAt n) (m * 2 ^ n)) (tab (λ j. maskPairAt n (m * 2 ^ n + j)) (2 ^ n))))
 
 flat : (n : ℕ) → assignments n ≡ keep (inside n) (tab (maskPairAt n) (2 ^ n * 2 ^ n))

@@ -1,4 +1,5 @@
--- What is proved of covers over any test of settings (Cover, Covered, Blocks: the statements a reader wants), of the tables that the code
+-- What is proved of covers over any test of settings (Cover, Covered, Blocks: the statements a reader wants), of the
+-- tables that the code
 -- keeps, and the steps of its loops.
 pub mod ListFacts
 pub mod Digits

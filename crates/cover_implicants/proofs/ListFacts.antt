@@ -1,4 +1,5 @@
--- Facts on tests and lists that are nobody's in particular: implication, `keep`, `joined`, and the numbers below a bound that pass a
+-- Facts on tests and lists that are nobody's in particular: implication, `keep`, `joined`, and the numbers below a
+-- bound that pass a
 -- test, which ascend. Assumes nothing.
 use mathlib.Core.Path.{_≡_, refl, sym, ap, _∙_}
 use mathlib.Core.Logic.{_⊎_, inl, inr, ⊎-elim}
@@ -30,7 +31,8 @@ module _ {A : Type 0} where
   keep-keep p q (x ∷ xs) = go (q x) (keep-keep p q xs)
     where
       go : (b : Bool) → keep p (keep q xs) ≡ keep (λ x. q x && p x) xs
-          → keep p (cond b (x ∷ keep q xs) (keep q xs)) ≡ cond (b && p x) (x ∷ keep (λ x. q x && p x) xs) (keep (λ x. q x && p x) xs)
+          → keep p (cond b (x ∷ keep q xs) (keep q xs))
+          ≡ cond (b && p x) (x ∷ keep (λ x. q x && p x) xs) (keep (λ x. q x && p x) xs)
       go true e = rw e
       go false e = e
 
@@ -64,7 +66,8 @@ module _ {A B : Type 0} where
   keep-map p g (x ∷ xs) = go (p (g x)) (keep-map p g xs)
     where
       go : (b : Bool) → keep p (map g xs) ≡ map g (keep (λ x. p (g x)) xs)
-          → cond b (g x ∷ keep p (map g xs)) (keep p (map g xs)) ≡ map g (cond b (x ∷ keep (λ x. p (g x)) xs) (keep (λ x. p (g x)) xs))
+          → cond b (g x ∷ keep p (map g xs)) (keep p (map g xs))
+          ≡ map g (cond b (x ∷ keep (λ x. p (g x)) xs) (keep (λ x. p (g x)) xs))
       go true e = ap (λ (r : List B). g x ∷ r) e
       go false e = e
 
@@ -122,7 +125,11 @@ module _ (q : ℕ → Bool) where
       add h e i j lt l =
           ⊎-elim
           (λ (m : j < length (keep q (upTo n))).
-          rw (List·getD-append (keep q (upTo n)) (n ∷ []) 0 j m, List·getD-append (keep q (upTo n)) (n ∷ []) 0 i (omega arith)) (h i j lt m))
+          rw (
+            List·getD-append (keep q (upTo n)) (n ∷ []) 0 j m,
+            List·getD-append (keep q (upTo n)) (n ∷ []) 0 i
+                (omega arith),
+          ) (h i j lt m))
           (λ (m : j ≡ length (keep q (upTo n))).
           rw (getD-at (keep q (upTo n)) n [] 0 j (sym m), List·getD-append (keep q (upTo n)) (n ∷ []) 0 i (omega arith))
           (kept-passes n i (omega arith) .0))
@@ -147,8 +154,12 @@ module _ (q : ℕ → Bool) where
 
       before : Has k (keep q (upTo n)) → Has k (keep q (upTo n) ++ (n ∷ []))
       before r =
-          let l : r .0 < length (keep q (upTo n)) = r .1 in
-          (r .0, rw (length-append (keep q (upTo n)) (n ∷ [])) (omega arith), List·getD-append (keep q (upTo n)) (n ∷ []) 0 (r .0) l ∙ r .2)
+          let l : r .0 < length (keep q (upTo n)) = r .1 in (
+            r .0,
+            rw (length-append (keep q (upTo n)) (n ∷ [])) (omega arith),
+            List·getD-append (keep q (upTo n))
+                (n ∷ []) 0 (r .0) l ∙ r .2,
+          )
 
 -- two tests that agree below n keep the same numbers
 pub keep-below : (p q : ℕ → Bool) (n : ℕ) → ((k : ℕ) → k < n → p k ≡ q k) → keep p (upTo n) ≡ keep q (upTo n)

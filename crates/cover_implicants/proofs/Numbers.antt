@@ -1,4 +1,5 @@
--- The ternary number of an assignment, from the weights of its two masks, and after an input is dropped. Cited by the code's proofs.
+-- The ternary number of an assignment, from the weights of its two masks, and after an input is dropped. Cited by the
+-- code's proofs.
 -- Assumes nothing.
 use mathlib.Core.Path.{_≡_, refl, sym, _∙_}
 use mathlib.Core.Logic.{⊎-elim}
@@ -27,7 +28,8 @@ digit-free a i ne = rw (ne-eqb (bit (a .fixed) i) 1 ne)
 
 digitOf-lt : (a : Assignment) (i : ℕ) → digitOf a i < 3
 digitOf-lt a i =
-    ⊎-elim (λ (e : bit (a .fixed) i ≡ 1). rw (digit-fixed a i e) (let b : bit (a .ones) i < 2 = bit-lt (a .ones) i in omega arith))
+    ⊎-elim (λ (e : bit (a .fixed) i ≡ 1). rw (digit-fixed a i e)
+    (let b : bit (a .ones) i < 2 = bit-lt (a .ones) i in omega arith))
     (λ (ne : bit (a .fixed) i ≡ 1 → ⊥). rw (digit-free a i ne) (omega arith)) (eq-or-ne (bit (a .fixed) i) 1)
 
 pub number-lt : (n : ℕ) (a : Assignment) → ternaryNumber n a < 3 ^ n
@@ -39,11 +41,13 @@ pub number-digit : (n : ℕ) (a : Assignment) (i : ℕ) → i < n → ternaryDig
 unfolding ternaryNumber
 number-digit n a i l = digit-numeral 3 (omega arith) (digitOf a) n i (λ j m. digitOf-lt a j) l
 
-digit-sum : (a : Assignment) (i : ℕ) → bit (a .ones) i ≤ bit (a .fixed) i → digitOf a i + 2 * bit (a .fixed) i ≡ 2 + bit (a .ones) i
+digit-sum : (a : Assignment) (i : ℕ) → bit (a .ones) i ≤ bit (a .fixed) i
+    → digitOf a i + 2 * bit (a .fixed) i ≡ 2 + bit (a .ones) i
 digit-sum a i l =
     let b : bit (a .fixed) i < 2 = bit-lt (a .fixed) i in
     ⊎-elim (λ (e : bit (a .fixed) i ≡ 1). rw (digit-fixed a i e, e) (omega arith))
-    (λ (ne : bit (a .fixed) i ≡ 1 → ⊥). let z : bit (a .fixed) i ≡ 0 = omega arith in rw (digit-free a i ne) (omega arith))
+    (λ (ne : bit (a .fixed) i ≡ 1 → ⊥). let z : bit (a .fixed) i ≡ 0 = omega arith in rw (digit-free a i ne)
+    (omega arith))
     (eq-or-ne (bit (a .fixed) i) 1)
 
 scaled : (d f o w : ℕ) → d + 2 * f ≡ 2 + o → d * w + 2 * (f * w) ≡ 2 * w + o * w
@@ -55,7 +59,8 @@ pub number-weights : (n : ℕ) (a : Assignment) → ((i : ℕ) → i < n → bit
 unfolding ternaryNumber weightOf numeral
 number-weights zero a h = refl
 number-weights (suc n) a h =
-    let i : ternaryNumber n a + 2 * weightOf n (a .fixed) + 1 ≡ 3 ^ n + weightOf n (a .ones) = number-weights n a (λ i l. h i (omega arith)) in
+    let i : ternaryNumber n a + 2 * weightOf n (a .fixed) + 1 ≡ 3 ^ n + weightOf n (a .ones) =
+    number-weights n a (λ i l. h i (omega arith)) in
     let d : digitOf a n * 3 ^ n + 2 * (bit (a .fixed) n * 3 ^ n) ≡ 2 * 3 ^ n + bit (a .ones) n * 3 ^ n =
     scaled (digitOf a n) (bit (a .fixed) n) (bit (a .ones) n) (3 ^ n) (digit-sum a n (h n (omega arith))) in
     rw (pow-suc 3 n) (omega arith)
@@ -77,7 +82,8 @@ number-without n a i ok l e =
     other j m ne =
         let f : bit (without a i .fixed) j ≡ bit (a .fixed) j = without-fixed-other n a i ok l e j m ne in
         ⊎-elim
-        (λ (g : bit (a .fixed) j ≡ 1). digit-fixed a j g ∙ sym (without-ones-other n a i ok l e j m ne) ∙ sym (digit-fixed (without a i) j (f ∙ g)))
+        (λ (g : bit (a .fixed) j ≡ 1). digit-fixed a j g ∙ sym (without-ones-other n a i ok l e j m ne)
+        ∙ sym (digit-fixed (without a i) j (f ∙ g)))
         (λ (g : bit (a .fixed) j ≡ 1 → ⊥). digit-free a j g ∙ sym (digit-free (without a i) j (λ q. g (sym f ∙ q))))
         (eq-or-ne (bit (a .fixed) j) 1)
 

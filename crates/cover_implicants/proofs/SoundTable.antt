@@ -1,4 +1,5 @@
--- The table of soundness: what its byte at an assignment's number says, and how a byte follows from those at smaller numbers.
+-- The table of soundness: what its byte at an assignment's number says, and how a byte follows from those at smaller
+-- numbers.
 -- Cited by the code's proofs. Assumes nothing.
 use mathlib.Core.Path.{_≡_, refl, sym, ap, _∙_}
 use mathlib.Core.Logic.{_⊎_, inl, inr, ⊎-elim}
@@ -44,11 +45,13 @@ module _ (n : ℕ) (d : ℕ → ℕ) (s : ℕ) where
 module _ (p : ℕ → Bool) (n : ℕ) where
   sound-at : (d : ℕ → ℕ) → soundDigits p n d ≡ true → (s : ℕ) → s < 2 ^ n → agreesDigits n d s ≡ true → p s ≡ true
   unfolding soundDigits
-  sound-at d h s l = implies-use (agreesDigits n d s) (p s) (all-below (λ s. not (agreesDigits n d s) || p s) (2 ^ n) s h l)
+  sound-at d h s l =
+      implies-use (agreesDigits n d s) (p s) (all-below (λ s. not (agreesDigits n d s) || p s) (2 ^ n) s h l)
 
   sound-from : (d : ℕ → ℕ) → ((s : ℕ) → s < 2 ^ n → agreesDigits n d s ≡ true → p s ≡ true) → soundDigits p n d ≡ true
   unfolding soundDigits
-  sound-from d h = below-all (λ s. not (agreesDigits n d s) || p s) (2 ^ n) (λ s l. implies-from (agreesDigits n d s) (p s) (h s l))
+  sound-from d h =
+      below-all (λ s. not (agreesDigits n d s) || p s) (2 ^ n) (λ s l. implies-from (agreesDigits n d s) (p s) (h s l))
 
   -- digits that agree below n say the same
   sound-same : (d e : ℕ → ℕ) → ((i : ℕ) → i < n → d i ≡ e i) → soundDigits p n d ≡ soundDigits p n e
@@ -56,7 +59,8 @@ module _ (p : ℕ → Bool) (n : ℕ) where
   sound-same d e h =
       all-ext (λ s. not (agreesDigits n d s) || p s) (λ s. not (agreesDigits n e s) || p s) (2 ^ n)
       (λ s l. ap (λ (b : Bool). not b || p s)
-      (all-ext (λ i. eqb (d i) 2 || eqb (bit s i) (d i)) (λ i. eqb (e i) 2 || eqb (bit s i) (e i)) n (λ i m. rw (h i m))))
+      (all-ext (λ i. eqb (d i) 2 || eqb (bit s i) (d i)) (λ i. eqb (e i) 2 || eqb (bit s i) (e i)) n
+      (λ i m. rw (h i m))))
 
   -- an assignment is sound exactly when its digits are
   sound-digits : (a : Assignment) → soundOver p n a ≡ soundDigits p n (digitOf a)
@@ -64,7 +68,8 @@ module _ (p : ℕ → Bool) (n : ℕ) where
   sound-digits a =
       all-ext (λ s. not (agrees n a s) || p s) (λ s. not (agreesDigits n (digitOf a) s) || p s) (2 ^ n)
       (λ s l. ap (λ (b : Bool). not b || p s)
-      (all-ext (λ i. not (fixes a i) || eqb (bit s i) (bit (a .ones) i)) (λ i. eqb (digitOf a i) 2 || eqb (bit s i) (digitOf a i)) n
+      (all-ext (λ i. not (fixes a i) || eqb (bit s i) (bit (a .ones) i))
+      (λ i. eqb (digitOf a i) 2 || eqb (bit s i) (digitOf a i)) n
       (λ i m. one (fixes a i) (bit s i) (bit (a .ones) i) (bit-lt (a .ones) i))))
     where
       one : (f : Bool) (s o : ℕ) → o < 2 → not f || eqb s o ≡ eqb (cond f o 2) 2 || eqb s (cond f o 2)
@@ -74,22 +79,26 @@ module _ (p : ℕ → Bool) (n : ℕ) where
   -- the byte at an assignment's number is 1 exactly when it is sound
   pub byte-number : (a : Assignment) → soundByte p n (ternaryNumber n a) ≡ byteOf (soundOver p n a)
   unfolding soundByte
-  byte-number a = ap byteOf (sound-same (ternaryDigit 3 (ternaryNumber n a)) (digitOf a) (number-digit n a) ∙ sym (sound-digits a))
+  byte-number a =
+      ap byteOf (sound-same (ternaryDigit 3 (ternaryNumber n a)) (digitOf a) (number-digit n a) ∙ sym (sound-digits a))
 
   -- e is d but at i, where d has 2
   module _ (d e : ℕ → ℕ) (i : ℕ) (free : d i ≡ 2) (same : (j : ℕ) → j < n → (j ≡ i → ⊥) → e j ≡ d j) where
     loosen : (s : ℕ) → agreesDigits n e s ≡ true → agreesDigits n d s ≡ true
     loosen s g =
-        digits-from n d s (λ j l. ⊎-elim (λ (q : j ≡ i). inl (rw q free)) (λ (ne : j ≡ i → ⊥). rw (← same j l ne) (digits-at n e s g j l)) (eq-or-ne j i))
+        digits-from n d s (λ j l. ⊎-elim (λ (q : j ≡ i). inl (rw q free))
+        (λ (ne : j ≡ i → ⊥). rw (← same j l ne) (digits-at n e s g j l)) (eq-or-ne j i))
 
     tighten : (s : ℕ) → bit s i ≡ e i → agreesDigits n d s ≡ true → agreesDigits n e s ≡ true
     tighten s b g =
-        digits-from n e s (λ j l. ⊎-elim (λ (q : j ≡ i). inr (rw q b)) (λ (ne : j ≡ i → ⊥). rw (same j l ne) (digits-at n d s g j l)) (eq-or-ne j i))
+        digits-from n e s (λ j l. ⊎-elim (λ (q : j ≡ i). inr (rw q b))
+        (λ (ne : j ≡ i → ⊥). rw (same j l ne) (digits-at n d s g j l)) (eq-or-ne j i))
 
   -- a free input is fixed either way
   split : (d e f : ℕ → ℕ) (i : ℕ) → d i ≡ 2 → e i ≡ 0 → f i ≡ 1 → ((j : ℕ) → j < n → (j ≡ i → ⊥) → e j ≡ d j)
       → ((j : ℕ) → j < n → (j ≡ i → ⊥) → f j ≡ d j) → soundDigits p n d ≡ soundDigits p n f && soundDigits p n e
-  split d e f i free zero-here one-here he hf = same-test (soundDigits p n d) (soundDigits p n f && soundDigits p n e) apart together
+  split d e f i free zero-here one-here he hf =
+      same-test (soundDigits p n d) (soundDigits p n f && soundDigits p n e) apart together
     where
       apart : soundDigits p n d ≡ true → soundDigits p n f && soundDigits p n e ≡ true
       apart h =
@@ -102,8 +111,10 @@ module _ (p : ℕ → Bool) (n : ℕ) where
           sound-from d (λ s l g.
           let b : bit s i < 2 = bit-lt s i in
           ⊎-elim
-          (λ (q : bit s i ≡ 0). sound-at e (and-right (soundDigits p n f) (soundDigits p n e) h) s l (tighten d e i free he s (q ∙ sym zero-here) g))
-          (λ (q : bit s i ≡ 0 → ⊥). sound-at f (and-left (soundDigits p n f) (soundDigits p n e) h) s l (tighten d f i free hf s (omega arith) g))
+          (λ (q : bit s i ≡ 0). sound-at e (and-right (soundDigits p n f) (soundDigits p n e) h) s l
+          (tighten d e i free he s (q ∙ sym zero-here) g))
+          (λ (q : bit s i ≡ 0 → ⊥). sound-at f (and-left (soundDigits p n f) (soundDigits p n e) h) s l
+          (tighten d f i free hf s (omega arith) g))
           (eq-or-ne (bit s i) 0))
 
   -- where no input is free, one setting agrees
@@ -125,7 +136,8 @@ module _ (p : ℕ → Bool) (n : ℕ) where
           e)
 
   -- the byte of an assignment that fixes every input
-  pub byte-full : (k : ℕ) → ((i : ℕ) → i < n → ternaryDigit 3 k i < 2) → soundByte p n k ≡ byteOf (p (numeral 2 (ternaryDigit 3 k) n))
+  pub byte-full : (k : ℕ) → ((i : ℕ) → i < n → ternaryDigit 3 k i < 2)
+      → soundByte p n k ≡ byteOf (p (numeral 2 (ternaryDigit 3 k) n))
   unfolding soundByte
   byte-full k h = ap byteOf (full (ternaryDigit 3 k) h)
 

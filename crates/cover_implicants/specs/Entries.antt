@@ -91,7 +91,8 @@ pub record Words (marks first out : List ℕ) (n q : ℕ) : Type 0 where
 -- the entries with this first mask are written behind those before it
 pub record RowListed (marks entry exit : List ℕ) (n fixed count : ℕ) : Type 0 where
   pub reached : EntriesReached marks n ((fixed + 1) * 2 ^ n) count
-  pub row : (first : List ℕ) → Words marks first entry n (fixed * 2 ^ n) → Words marks first exit n ((fixed + 1) * 2 ^ n)
+  pub row : (first : List ℕ) → Words marks first entry n (fixed * 2 ^ n)
+      → Words marks first exit n ((fixed + 1) * 2 ^ n)
 
 -- the number of entries, and their words where there is room for them
 pub record EntriesWritten (entries : List Assignment) (entry exit : List ℕ) (count : ℕ) : Type 0 where

@@ -64,4 +64,5 @@ pub record Filled (settled sound : List ℕ) (n s k : ℕ) : Type 0 where
 pub record HalvesJoined (entry exit : List ℕ) (k power m : ℕ) : Type 0 where
   pub same-length : length exit ≡ length entry
   pub kept : (j : ℕ) → j < k → getD exit j 0 ≡ getD entry j 0
-  pub both : (j : ℕ) → j < m → getD exit (k + j) 0 ≡ bitAnd (getD entry (k - power + j) 0) (getD entry (k - 2 * power + j) 0)
+  pub both : (j : ℕ) → j < m
+      → getD exit (k + j) 0 ≡ bitAnd (getD entry (k - power + j) 0) (getD entry (k - 2 * power + j) 0)

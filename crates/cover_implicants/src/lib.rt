@@ -34,7 +34,9 @@ const FEW_ASSIGNMENTS: usize = 6561;
 // settled setting. There are as many masks as settings.
 pub fn cover_entries(settled: &[u8], n: usize, out: &mut [u16]) -> usize
     requires { ⌜ (n ≤ maxInputs) × (2 ^ n ≤ length (now settled)) ⌝ }
-    ensures { λ r. ⌜ EntriesWritten (coverOver (settledBy (now (settled .entry))) n) (now (out .entry)) (now (out .exit)) r ⌝ }
+    ensures { λ r. ⌜
+        EntriesWritten (coverOver (settledBy (now (settled .entry))) n) (now (out .entry)) (now (out .exit)) r
+        ⌝ }
 {
     if are_all_settled(settled, n) {
         return write_nothing(out);
@@ -57,7 +59,9 @@ fn cover_many(
     out: &mut [u16],
 ) -> usize
     requires { ⌜ (n ≤ maxInputs) × (2 ^ n ≤ length (now settled)) ⌝ }
-    ensures { λ r. ⌜ EntriesWritten (coverOver (settledBy (now (settled .entry))) n) (now (out .entry)) (now (out .exit)) r ⌝ }
+    ensures { λ r. ⌜
+        EntriesWritten (coverOver (settledBy (now (settled .entry))) n) (now (out .entry)) (now (out .exit)) r
+        ⌝ }
 {
     cover_within(settled, n, sound, weights, out)
 }
@@ -65,7 +69,9 @@ fn cover_many(
 // `cover_entries` for few inputs, with small tables.
 fn cover_few(settled: &[u8], n: usize, out: &mut [u16]) -> usize
     requires { ⌜ (n ≤ fewInputs) × (2 ^ n ≤ length (now settled)) ⌝ }
-    ensures { λ r. ⌜ EntriesWritten (coverOver (settledBy (now (settled .entry))) n) (now (out .entry)) (now (out .exit)) r ⌝ }
+    ensures { λ r. ⌜
+        EntriesWritten (coverOver (settledBy (now (settled .entry))) n) (now (out .entry)) (now (out .exit)) r
+        ⌝ }
 {
     let mut sound = [0u8; FEW_ASSIGNMENTS];
     let mut weights = [0u32; FEW_SETTINGS];
@@ -80,8 +86,12 @@ fn cover_within(
     weights: &mut [u32],
     out: &mut [u16],
 ) -> usize
-    requires { ⌜ (n ≤ maxInputs) × (2 ^ n ≤ length (now settled)) × (3 ^ n ≤ length (now sound)) × (2 ^ n ≤ length (now weights)) ⌝ }
-    ensures { λ r. ⌜ EntriesWritten (coverOver (settledBy (now (settled .entry))) n) (now (out .entry)) (now (out .exit)) r ⌝ }
+    requires { ⌜
+        (n ≤ maxInputs) × (2 ^ n ≤ length (now settled)) × (3 ^ n ≤ length (now sound)) × (2 ^ n ≤ length (now weights))
+        ⌝ }
+    ensures { λ r. ⌜
+        EntriesWritten (coverOver (settledBy (now (settled .entry))) n) (now (out .entry)) (now (out .exit)) r
+        ⌝ }
 {
     fill_weights(n, weights);
     let size = fill_sound(settled, n, sound);

@@ -134,7 +134,8 @@ made-more {ws} {cells₀} {cells} {count} {at} {p} all room start l m =
       tabled = next 4 (p + 4) (p + cellSize) (omega arith) (omega arith) (omega arith) four;
     }
   where
-    next : {slice : List ℕ} (i q r : ℕ) → q ≡ p + i → r ≡ q + 1 → i < cellSize → Tabled (madeWord ws) count cells₀ slice q
+    next : {slice : List ℕ} (i q r : ℕ) → q ≡ p + i → r ≡ q + 1 → i < cellSize
+        → Tabled (madeWord ws) count cells₀ slice q
         → Tabled (madeWord ws) count cells₀ (set slice q (cellWordAt ws (at + p) i)) r
     next i q r e f k t =
         let word = made-word ws p i (m .whole) (omega (arith, all)) k in

@@ -32,4 +32,5 @@ cellWordAt ws at i = getD (cellWords (getD ws 0 0) (gateAt (getD ws 0 0) ws at))
 unfoldable pub cellPut : List ℕ → ℕ → ℕ → List ℕ → List ℕ
 cellPut ws at to cells =
     let word = cellWordAt ws at in
-    set (set (set (set (set cells to (word 0)) (to + 1) (word 1)) (to + 2) (word 2)) (to + 3) (word 3)) (to + 4) (word 4)
+    set (set (set (set (set cells to (word 0)) (to + 1) (word 1)) (to + 2) (word 2)) (to + 3) (word 3)) (to + 4)
+    (word 4)

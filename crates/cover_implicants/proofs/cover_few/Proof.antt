@@ -8,7 +8,7 @@ use Rattle.cover_implicants.proofs.cover_few.Tie as tie
 
 cover-within-requires : tie.Need-cover-within-requires
 cover-within-requires c κs =
-    let start = c .before .before .before .before .before in
+    let start : tie.Start = search in
     let n = start .args .n in (
       omega (arith, start .pre .0),
       start .pre .1,

@@ -19,8 +19,9 @@ loop-holds c = (omega arith, joined-none (c .args .sound .now) (c .args .k) (c .
 
 loop-again : tie.Need-loop-again Inv-loop μ-loop
 loop-again c =
+    let entry : tie.Start Inv-loop μ-loop = search in
     let loop = c .before .before .before .loop in
-    let pre = c .before .before .before .before .pre in
+    let pre = entry .pre in
     (omega arith, joined-next (loop .inv .1) (pre .0) (omega (arith, loop .inv .1 .same-length, pre .1)) (omega arith))
 
 returns : tie.Need-returns Inv-loop μ-loop
