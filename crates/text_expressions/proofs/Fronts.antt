@@ -1,20 +1,17 @@
 -- What the functions of src/leaves answer, way by way, and what that is at the front of a print. Assumes nothing.
-use mathlib.Core.Path.{_≡_, refl, sym, ap, _∙_}
-use mathlib.Core.Bool.{true, cond}
+use mathlib.Core.Path.{_≡_, refl}
+use mathlib.Core.Bool.{true}
 use mathlib.Core.List.{List, _++_}
 use Prim.Native.Nat.{ℕ, zero, suc, _+_, _-_, _≤_, _<_}
-use lib.ListN.{length, take, getD}
-use lib.Seq.{length-take-le}
-use lib.Dec.{eqb}
+use lib.ListN.{length, getD}
 use borrow.Author.Tests.{ne-eqb, lt-ltb, le-ltb}
-use Rattle.prelude.specs.Lists.{trimmed}
 use Rattle.text_symbols.specs.Packed.{packed, nameFront}
 use Rattle.text_symbols.specs.Search.{indexOf}
 use Rattle.text_expressions.specs.declared.Leaf.{Leaf}
 use Rattle.netlist.specs.Kinds.{isKind, keyword, signatureOf}
 use Rattle.theory_encoding.proofs.Gates.{by-kind}
-use Rattle.text_expressions.specs.Leaves.{kindBehindX, kindHere, wordLength, nameLength, indexHere, earlier}
-use Rattle.text_expressions.specs.Leaves.{nameHere, constantHere, leafHere}
+use Rattle.text_keywords.specs.Keywords.{kindBehindX, kindHere, wordLength}
+use Rattle.text_expressions.specs.Leaves.{nameLength, indexHere, earlier, nameHere, constantHere, leafHere}
 
 pub earlier-first : (u v : ℕ) → (u ≡ 0 → ⊥) → u ≡ earlier u v
 unfolding earlier
@@ -33,33 +30,6 @@ earlier-assoc (suc u) v w = refl
 
 -- ---- a kind's word
 
-module _ (s : List ℕ) where
-  pub kind-and : getD s 0 0 ≡ 97 → 1 ≡ kindHere s
-  unfolding kindHere
-  kind-and e = rw e
-
-  pub kind-or : getD s 0 0 ≡ 111 → 2 ≡ kindHere s
-  unfolding kindHere
-  kind-or e = rw e
-
-  pub kind-x : getD s 0 0 ≡ 120 → kindBehindX (getD s 1 0) ≡ kindHere s
-  unfolding kindHere
-  kind-x e = rw e
-
-  module _ (a : getD s 0 0 ≡ 97 → ⊥) (b : getD s 0 0 ≡ 111 → ⊥) (x : getD s 0 0 ≡ 120 → ⊥) where
-    behind-n : cond (eqb (getD s 1 0) 97) 3 (cond (eqb (getD s 2 0) 116) 0 4) ≡ kindHere s
-    unfolding kindHere
-    behind-n = rw (ne-eqb (getD s 0 0) 97 a, ne-eqb (getD s 0 0) 111 b, ne-eqb (getD s 0 0) 120 x)
-
-    pub kind-nand : getD s 1 0 ≡ 97 → 3 ≡ kindHere s
-    kind-nand e = rw e at behind-n
-
-    pub kind-not : (getD s 1 0 ≡ 97 → ⊥) → getD s 2 0 ≡ 116 → 0 ≡ kindHere s
-    kind-not d e = rw (ne-eqb (getD s 1 0) 97 d, e) at behind-n
-
-    pub kind-nor : (getD s 1 0 ≡ 97 → ⊥) → (getD s 2 0 ≡ 116 → ⊥) → 4 ≡ kindHere s
-    kind-nor d e = rw (ne-eqb (getD s 1 0) 97 d, ne-eqb (getD s 2 0) 116 e) at behind-n
-
 -- at a kind's word it is that kind
 pub kind-back : (rest : List ℕ) (k : ℕ) → isKind k ≡ true → kindHere (keyword k ++ rest) ≡ k
 unfolding kindHere kindBehindX keyword signatureOf
@@ -68,12 +38,6 @@ kind-back rest = by-kind (λ k. kindHere (keyword k ++ rest) ≡ k) refl refl re
 pub word-back : (k : ℕ) → wordLength k ≡ length (keyword k)
 unfolding wordLength
 word-back k = refl
-
--- read off the kind's signature, whose keyword ends in zeros
-pub word-read : (k r : ℕ) (bytes : List ℕ) → bytes ≡ signatureOf k .keyword → r ≤ length bytes
-    → take r bytes ≡ trimmed bytes → r ≡ wordLength k
-unfolding wordLength keyword
-word-read k r bytes e h t = sym (length-take-le r bytes h) ∙ ap length t ∙ rw e refl
 
 -- ---- an operand that is no expression
 

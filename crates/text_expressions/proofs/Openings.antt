@@ -21,7 +21,7 @@ use Rattle.theory_grammar.proofs.ListFacts.{and3}
 use Rattle.theory_grammar.proofs.CompleteTerms.{arity-bounds}
 use Rattle.theory_grammar.proofs.Shorter.{printTerm-append, ending}
 use Rattle.theory_grammar.proofs.Places.{term-measure}
-use Rattle.text_expressions.specs.Leaves.{kindHere, wordLength}
+use Rattle.text_keywords.specs.Keywords.{kindHere, wordLength}
 use Rattle.text_expressions.specs.Walk.{Ends, TermAt, TermsAt}
 use Rattle.text_expressions.proofs.Fronts.{kind-back, word-back}
 

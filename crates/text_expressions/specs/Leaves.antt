@@ -1,32 +1,13 @@
--- What stands at the front of a text, by its bytes alone: the kind of an expression, and an operand that is a name or a
--- constant, looked up in a table of names. On the print of a tree these are the tree's own (proofs/Leaves). Assumes
--- nothing.
+-- What an operand at the front of a text stands for, by its bytes alone: a name, looked up in a table of names, or a
+-- constant. On the print of a tree it is the tree's own. Assumes nothing.
 use Prim.Native.Nat.{ℕ, zero, suc, _+_, _-_}
 use mathlib.Core.Bool.{cond}
 use mathlib.Core.List.{List}
 use lib.ListN.{length, getD}
 use lib.Dec.{eqb, ltb}
-use Rattle.netlist.specs.Kinds.{keyword}
 use Rattle.text_symbols.specs.Packed.{packed, nameFront}
 use Rattle.text_symbols.specs.Search.{indexOf}
 use Rattle.text_expressions.specs.declared.Leaf.{Leaf}
-
--- `xor` or `xnor`, by the byte behind `x`
-unfoldable pub kindBehindX : ℕ → ℕ
-kindBehindX c = cond (eqb c 111) 5 6
-
--- the kind whose word stands here: `and`, `or`, `xor` and `xnor`, `nand`, `not`, `nor`
-unfoldable pub kindHere : List ℕ → ℕ
-kindHere s =
-    cond (eqb (getD s 0 0) 97) 1
-    (cond (eqb (getD s 0 0) 111) 2
-    (cond (eqb (getD s 0 0) 120) (kindBehindX (getD s 1 0))
-    (cond (eqb (getD s 1 0) 97) 3
-    (cond (eqb (getD s 2 0) 116) 0 4))))
-
--- the bytes of a kind's word
-unfoldable pub wordLength : ℕ → ℕ
-wordLength k = length (keyword k)
 
 -- the bytes of the name at the front
 unfoldable pub nameLength : List ℕ → ℕ

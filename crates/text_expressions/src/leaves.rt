@@ -1,74 +1,20 @@
-// What stands at the front of a text: a kind's word, a name, a constant.
+// What an operand at the front of a text stands for: a name, a constant.
 use crate::Leaf;
 use text_symbols::index::find_indexed;
 use text_symbols::pack::name_length;
 use text_symbols::pack::pack_first;
 use words_layout::bytes::byte_at;
-use words_layout::kinds::NOT;
-use words_layout::kinds::ROWS;
-use words_layout::kinds::XOR;
-use words_layout::kinds::signature_of;
 use words_layout::nodes::CONSTANT_0;
 use words_layout::nodes::CONSTANT_1;
-use words_layout::trim::trimmed_length;
 ghost use mathlib.Core.Path.{_≡_};
 ghost use lib.ListN.{length};
 ghost use Rattle.text_symbols.specs.Index.{Indexed};
-ghost use Rattle.text_expressions.specs.Leaves.{kindBehindX, kindHere, wordLength, earlier, nameHere, leafHere};
+ghost use Rattle.text_expressions.specs.Leaves.{earlier, nameHere, leafHere};
 
 // The words of the constants.
 const ZERO: u16 = CONSTANT_0 as u16;
 
 const ONE: u16 = CONSTANT_1 as u16;
-
-// The bytes that tell the keywords apart, from the table of kinds.
-const AND_A: u8 = ROWS[0].keyword[0];
-
-const OR_O: u8 = ROWS[1].keyword[0];
-
-const NAND_A: u8 = ROWS[2].keyword[1];
-
-const NOT_T: u8 = NOT.keyword[2];
-
-const XOR_X: u8 = XOR.keyword[0];
-
-const XOR_O: u8 = XOR.keyword[1];
-
-// The kind of a word of `x` and this byte.
-fn kind_behind_x(c: u8) -> usize
-    ensures { λ r. ⌜ r ≡ kindBehindX c ⌝ }
-{
-    if c == XOR_O { 5 } else { 6 }
-}
-
-// The kind whose word stands here.
-pub fn kind_here(s: &[u8]) -> usize
-    ensures { λ r. ⌜ r ≡ kindHere (now (s .entry)) ⌝ }
-{
-    let c = byte_at(s, 0);
-    if c == AND_A {
-        return 1;
-    }
-    if c == OR_O {
-        return 2;
-    }
-    if c == XOR_X {
-        return kind_behind_x(byte_at(s, 1));
-    }
-    if byte_at(s, 1) == NAND_A {
-        return 3;
-    }
-    if byte_at(s, 2) == NOT_T { 0 } else { 4 }
-}
-
-// The bytes of a kind's word.
-pub fn word_length(kind: usize) -> usize
-    ensures { λ r. ⌜ r ≡ wordLength kind ⌝ }
-{
-    let signature = signature_of(kind);
-    let bytes = signature.keyword;
-    trimmed_length(&bytes)
-}
 
 // The first of two numbers that is not 0.
 fn earlier(first: usize, later: usize) -> usize

@@ -1,9 +1,9 @@
 // The walk over expressions, by recursive descent: the readers of an operand and of an expression call each other; the
 // bytes left fall. A gate is written when its bracket closes (postorder), so that it is numbered behind its inner gates.
 use crate::Found;
-use crate::leaves::kind_here;
 use crate::leaves::leaf_here;
-use crate::leaves::word_length;
+use text_keywords::kind_here;
+use text_keywords::word_length;
 use words_layout::bytes::byte_at;
 use words_layout::limits::MAX_GATES;
 use words_layout::offsets::GATE_SIZE;

@@ -5,22 +5,23 @@ use mathlib.Core.Bool.{Bool, true, false, cond, _&&_}
 use mathlib.Core.List.{List}
 use Prim.Native.Nat.{ℕ, _-_, _≤_, _<_}
 use native.Mathlib.Omega.{arith}
-use lib.ListN.{length, drop, getD, length-drop}
+use lib.ListN.{length, take, drop, getD, length-drop}
 use lib.Seq.{getD-drop}
 use lib.Dec.{eqb, leb}
 use borrow.Author.Tests.{eq-eqb, ne-eqb, eqb-true, le-leb, leb-true}
 use Rattle.prelude.proofs.Tests.{not-true-false, and-left, and-right, and-intro, eq-or-ne}
+use Rattle.prelude.proofs.Elements.{rest-is-drop}
 use Rattle.prelude.specs.Lists.{ascii, is}
-use Rattle.netlist.specs.Limits.{maxDepth}
-use Rattle.netlist.specs.Syntax.{apply}
 use Rattle.netlist.specs.Parse.{stuck, stop, expect}
-use Rattle.text_recogniser.specs.declared.Scan.the-variants.{Next, Bad}
-use Rattle.text_recogniser.specs.Scan.{scanOf, firstByte, inputName, inputReader, neverEnd, neverReader, gateExpression, gateBracket, gateNaming, gateReader}
-use Rattle.text_recogniser.specs.Scan.{outputShown, outputSpace, outputPort, outputReader, lineBehind, lineReader}
-use Rattle.text_recogniser.proofs.First.{byte-taken, byte-left}
-use Rattle.text_recogniser.proofs.Shortens.{Leaves, Shortens, shortens-expect, shortens-bind, shortens-name, shortens-expr, shortens-term}
-use Rattle.text_recogniser.proofs.Continues.{left-short}
-use Rattle.text_recogniser.proofs.LineSteps.{shortens-word, shortens-never-pairs}
+use Rattle.text_scan.specs.declared.Scan.the-variants.{Next, Bad}
+use Rattle.text_scan.specs.Scan.{scanOf, firstByte}
+use Rattle.text_scan.proofs.First.{byte-taken, byte-left}
+use Rattle.text_scan.proofs.Shortens.{Leaves, Shortens, shortens-expect, shortens-bind, shortens-name, shortens-word}
+use Rattle.text_scan.proofs.Continues.{left-short}
+use Rattle.text_recogniser.specs.Scan.{inputName, inputReader, neverEnd, neverReader, gateExpression, gateBracket}
+use Rattle.text_recogniser.specs.Scan.{gateNaming, gateReader, outputShown, outputSpace, outputPort, outputReader}
+use Rattle.text_recogniser.specs.Scan.{lineBehind, lineReader}
+use Rattle.text_recogniser.proofs.LineSteps.{shortens-never-pairs, shortens-expression}
 
 -- ---- by the letter
 
@@ -87,6 +88,14 @@ module _ (phase : ℕ) (s : List ℕ) {b : ℕ} (e : b ≡ getD s 0 0) where
   unfolding lineReader expect stop
   line-none f = byte-left _ _ s 40 e f
 
+-- what is lent to the line's reader, behind the bracket
+abbrev pub restOf : List ℕ → List ℕ
+restOf s = take (length s - 1) (drop 1 s)
+
+pub line-rest : (phase : ℕ) (s : List ℕ) {b : ℕ} → b ≡ getD s 0 0 → b ≡ 40
+    → lineReader phase s ≡ lineBehind phase (restOf s)
+line-rest phase s e f = line-bracket phase s e f ∙ ap (lineBehind phase) (sym (rest-is-drop s 1))
+
 -- the letter
 pub letter-at : (s : List ℕ) → getD (drop 1 s) 0 0 ≡ getD s 1 0
 letter-at s = getD-drop 1 s 0 0
@@ -106,7 +115,7 @@ unfolding gateReader gateNaming gateBracket gateExpression
 shortens-gate-line =
     shortens-expect (ascii "gate ")
     (shortens-bind (shortens-name (firstByte true)) (λ _. shortens-expect (ascii " (")
-    (shortens-bind (shortens-expr apply (shortens-term (maxDepth - 1))) (λ _. shortens-word (ascii ")\n")))))
+    (shortens-bind shortens-expression (λ _. shortens-word (ascii ")\n")))))
 
 shortens-output-line : Shortens outputReader
 unfolding outputReader outputPort outputSpace outputShown

@@ -15,15 +15,19 @@ use Rattle.netlist.specs.Syntax.{Term, Terms, Tree, apply}
 use Rattle.netlist.specs.Parse.{Parsed, got, stuck, Reader, pure, stop, ifNext, expect, onParsed, bind, nameReader, kindReader, termsReader, exprReader}
 use Rattle.netlist.specs.Parse.{termReader, neverPairs, addInput, addNever, addGate, addOutput, inputLine, neverLine, gateLine, outputLine, atEnd, line}
 use Rattle.netlist.specs.Parse.{outputsReader, gatesReader, neversReader, textReader}
-use Rattle.text_recogniser.specs.declared.Scan.{Scan}
-use Rattle.text_recogniser.specs.declared.Scan.the-variants.{Next, Bad}
-use Rattle.text_recogniser.specs.Scan.{scanOf, wordReader, firstByte, inputName, inputReader, neverEnd, neverReader, gateExpression, gateBracket, gateNaming}
-use Rattle.text_recogniser.specs.Scan.{gateReader, outputShown, outputSpace, outputPort, outputReader, lineBehind, lineReader, phaseOf}
-use Rattle.text_recogniser.proofs.First.{byte-taken, byte-left}
-use Rattle.text_recogniser.proofs.Continues.{Continues, thenOf, continues-after-bind, continues-after-expect, continues-word, continues-same, scan-map}
-use Rattle.text_recogniser.proofs.OperandLists.{afterKind}
-use Rattle.text_recogniser.proofs.LineChoice.{chosen-input, chosen-never, chosen-gate, chosen-output, behind-inputs, behind-nevers, behind-gates, line-bracket}
-use Rattle.text_recogniser.proofs.LineChoice.{line-none, letter-at}
+use Rattle.text_scan.specs.declared.Scan.{Scan}
+use Rattle.text_scan.specs.declared.Scan.the-variants.{Next, Bad}
+use Rattle.text_scan.specs.Scan.{scanOf, wordReader, firstByte}
+use Rattle.text_scan.proofs.First.{byte-taken, byte-left}
+use Rattle.text_scan.proofs.Continues.{Continues, thenOf, continues-after-bind, continues-after-expect, continues-word}
+use Rattle.text_scan.proofs.Continues.{continues-same, scan-map}
+use Rattle.text_expression_form.proofs.OperandLists.{afterKind}
+use Rattle.text_recogniser.specs.Scan.{expressionReader, inputName, inputReader, neverEnd, neverReader}
+use Rattle.text_recogniser.specs.Scan.{gateExpression, gateBracket, gateNaming, gateReader, outputShown}
+use Rattle.text_recogniser.specs.Scan.{outputSpace, outputPort, outputReader, lineBehind, lineReader, phaseOf}
+use Rattle.text_recogniser.proofs.LineChoice.{chosen-input, chosen-never, chosen-gate, chosen-output}
+use Rattle.text_recogniser.proofs.LineChoice.{behind-inputs, behind-nevers, behind-gates, line-bracket, line-none}
+use Rattle.text_recogniser.proofs.LineChoice.{letter-at}
 
 -- ---- one line, and then the others
 
@@ -58,7 +62,7 @@ module _ (others : Reader Tree) where
   never-then = continues-after-expect (ascii "never") (continues-after-bind neverPairs (λ ps. continues-end (ascii "\n") others (addNever ps)))
 
   gate-then : Continues (gateLine others stop) gateReader (λ t. scanOf (others t))
-  unfolding gateLine gateReader gateNaming gateBracket gateExpression firstByte expect
+  unfolding gateLine gateReader gateNaming gateBracket gateExpression expressionReader firstByte expect
   gate-then =
       continues-after-expect (ascii "gate ") (continues-after-bind (nameReader isNameStart) (λ s. continues-after-expect (ascii " (")
       (continues-expression (termReader (maxDepth - 1)) _ apply (λ g. continues-end (ascii ")\n") others (addGate g)))))

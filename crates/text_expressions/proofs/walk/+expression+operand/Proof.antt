@@ -23,9 +23,9 @@ use Rattle.text_expressions.proofs.walk.+expression+operand.Lts-express
 use Rattle.text_expressions.proofs.walk.operand.Reads as operand
 use Rattle.text_expressions.proofs.walk.operand.Kinds as operand-kinds
 use Rattle.text_expressions.proofs.walk.+expression+operand.Lts-operand as operand-lts
-use Rattle.text_expressions.proofs.leaves.kind_here.Reads as kind-here-reads
+use Rattle.text_keywords.proofs.kind_here.Reads as kind-here-reads
 use Rattle.text_expressions.proofs.leaves.leaf_here.Reads as leaf-here-reads
-use Rattle.text_expressions.proofs.leaves.word_length.Reads as word-length-reads
+use Rattle.text_keywords.proofs.word_length.Reads as word-length-reads
 use Rattle.text_expressions.proofs.walk.put_gate.Reads as put-gate-reads
 use Rattle.words_layout.proofs.bytes.byte_at.Reads as byte-at-reads
 use Rattle.text_expressions.proofs.walk.+expression+operand.{statement}
