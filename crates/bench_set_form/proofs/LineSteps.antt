@@ -43,7 +43,8 @@ something-left [] n e z = absurd (z (sym e))
 something-left (c ∷ t) n e z = ap Bad e
 
 -- behind the LF: nothing is left, or something
-module _ {answer : Scan} {s : List ℕ} {x : Scan} (a : At answer s x (nothingBehind {A = ℕ} 0)) {n : ℕ} (e : x ≡ Next n) where
+module _ {answer : Scan} {s : List ℕ} {x : Scan} (a : At answer s x (nothingBehind {A = ℕ} 0)) {n : ℕ}
+    (e : x ≡ Next n) where
   pub line-over : n ≡ 0 → Next 0 ≡ answer
   line-over z =
       sym

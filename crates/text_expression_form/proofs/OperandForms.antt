@@ -46,13 +46,15 @@ module _ (depth : ℕ) (s : List ℕ) where
       pub operand-1 : b ≡ 49 → scanOf (termReader depth s) ≡ Next (length s - 1)
       unfolding leafOr pure
       operand-1 f =
-          ap scanOf (leaf-or-inner depth s ∙ if-left _ _ isNameStart s h ∙ byte-left _ _ s 48 e n0 ∙ byte-taken _ _ s 49 e f (omega arith))
+          ap scanOf (leaf-or-inner depth s ∙ if-left _ _ isNameStart s h ∙ byte-left _ _ s 48 e n0
+          ∙ byte-taken _ _ s 49 e f (omega arith))
           ∙ ap Next (length-drop 1 s)
 
       pub operand-inner : (b ≡ 49 → ⊥) → scanOf (termReader depth s) ≡ scanOf (inner depth s)
       unfolding leafOr
       operand-inner n1 =
-          ap scanOf (leaf-or-inner depth s ∙ if-left _ _ isNameStart s h ∙ byte-left _ _ s 48 e n0 ∙ byte-left _ _ s 49 e n1)
+          ap scanOf (leaf-or-inner depth s ∙ if-left _ _ isNameStart s h ∙ byte-left _ _ s 48 e n0
+          ∙ byte-left _ _ s 49 e n1)
 
 pub inner-deepest : (depth : ℕ) (s : List ℕ) → depth ≡ 0 → scanOf (inner depth s) ≡ Bad (length s)
 unfolding inner stop
@@ -61,8 +63,12 @@ inner-deepest depth s e = rw e
 module _ (depth : ℕ) (s : List ℕ) (n : depth ≡ 0 → ⊥) {b : ℕ} (e : b ≡ getD s 0 0) where
   pub inner-other : (b ≡ 40 → ⊥) → scanOf (inner depth s) ≡ Bad (length s)
   unfolding inner expect stop
-  inner-other f = let d : depth ≡ suc (depth - 1) = omega arith in ap (λ (k : ℕ). scanOf (inner k s)) d ∙ ap scanOf (byte-left _ _ s 40 e f)
+  inner-other f =
+      let d : depth ≡ suc (depth - 1) = omega arith in
+      ap (λ (k : ℕ). scanOf (inner k s)) d ∙ ap scanOf (byte-left _ _ s 40 e f)
 
   pub inner-expression : b ≡ 40 → scanOf (inner depth s) ≡ scanOf (exprReader (termReader (depth - 1)) apply (drop 1 s))
   unfolding inner expect
-  inner-expression f = let d : depth ≡ suc (depth - 1) = omega arith in ap (λ (k : ℕ). scanOf (inner k s)) d ∙ ap scanOf (byte-taken _ _ s 40 e f (omega arith))
+  inner-expression f =
+      let d : depth ≡ suc (depth - 1) = omega arith in
+      ap (λ (k : ℕ). scanOf (inner k s)) d ∙ ap scanOf (byte-taken _ _ s 40 e f (omega arith))

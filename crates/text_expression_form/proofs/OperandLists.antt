@@ -23,7 +23,8 @@ use Rattle.text_expression_form.proofs.KindWords.{kind-is, word-handed}
 pub operandThen : Reader Term → Reader Terms → Reader Terms
 operandThen term others = bind term (λ t. bind others (λ ts. pure (cons t ts)))
 
-pub continues-operand : (term : Reader Term) (others : Reader Terms) → Continues (operandThen term others) term (λ t. scanOf (others t))
+pub continues-operand : (term : Reader Term) (others : Reader Terms)
+    → Continues (operandThen term others) term (λ t. scanOf (others t))
 unfolding operandThen
 continues-operand term others = continues-bind term _ _ (λ t s. scan-map others (cons t) s)
 
@@ -31,7 +32,8 @@ module _ (term : Reader Term) (most needed : ℕ) (s : List ℕ) where
   -- no operand may come
   pub list-full : most ≡ 0 → scanOf (termsReader term most needed s) ≡ scanOf (wordReader (ascii ")") s)
   unfolding termsReader pure wordReader
-  list-full e = rw e (continues-word (ascii ")") (pure nil) .goes-on s ∙ sym (continues-word (ascii ")") (pure 0) .goes-on s))
+  list-full e =
+      rw e (continues-word (ascii ")") (pure nil) .goes-on s ∙ sym (continues-word (ascii ")") (pure 0) .goes-on s))
 
   module _ (m : most ≡ 0 → ⊥) {b : ℕ} (e : b ≡ getD s 0 0) where
     pub list-closed : b ≡ 41 → needed ≡ 0 → scanOf (termsReader term most needed s) ≡ Next (length s - 1)
@@ -53,15 +55,19 @@ module _ (term : Reader Term) (most needed : ℕ) (s : List ℕ) where
       unfolding termsReader
       list-spaced = let d : most ≡ suc (most - 1) = omega arith in rw d (go needed)
         where
-          go : (needed : ℕ) → termsReader term (suc (most - 1)) needed s ≡ spaced term (termsReader term (suc (most - 1) - 1) (needed - 1)) s
+          go : (needed : ℕ) → termsReader term (suc (most - 1)) needed s
+              ≡ spaced term (termsReader term (suc (most - 1) - 1) (needed - 1)) s
           go zero = let d : suc (most - 1) - 1 ≡ most - 1 = omega arith in rw d (byte-left _ _ s 41 e f)
-          go (suc n) = let d : suc (most - 1) - 1 ≡ most - 1 = omega arith in let g : suc n - 1 ≡ n = omega arith in rw (d, g)
+          go (suc n) =
+              let d : suc (most - 1) - 1 ≡ most - 1 = omega arith in let g : suc n - 1 ≡ n = omega arith in rw (d, g)
 
       pub list-other : (b ≡ 32 → ⊥) → scanOf (termsReader term most needed s) ≡ Bad (length s)
       unfolding spaced expect stop
       list-other g = ap scanOf (list-spaced ∙ byte-left _ _ s 32 e g)
 
-      pub list-more : b ≡ 32 → scanOf (termsReader term most needed s) ≡ scanOf (operandThen term (termsReader term (most - 1) (needed - 1)) (drop 1 s))
+      pub list-more : b ≡ 32
+          → scanOf (termsReader term most needed s)
+          ≡ scanOf (operandThen term (termsReader term (most - 1) (needed - 1)) (drop 1 s))
       unfolding spaced expect operandThen
       list-more g = ap scanOf (list-spaced ∙ byte-taken _ _ s 32 e g (omega arith))
 
@@ -74,7 +80,8 @@ module _ {A : Type 0} (term : Reader Term) (make : ℕ → Terms → A) where
   abbrev pub operandsOf : ℕ → Reader Terms
   operandsOf k = termsReader term (mostOperands k) (fewestOperands k)
 
-  word-and-operands : (k : ℕ) → Then (expect (keyword k) (afterKind term make k)) (wordReader (keyword k)) (operandsOf k)
+  word-and-operands : (k : ℕ)
+      → Then (expect (keyword k) (afterKind term make k)) (wordReader (keyword k)) (operandsOf k)
   unfolding afterKind
   word-and-operands k =
       record {

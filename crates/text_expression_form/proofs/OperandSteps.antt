@@ -29,7 +29,8 @@ rest-short at s = ap length (rest-is-drop s at) ∙ length-drop at s
 pub record OperandsLeft (term : Reader Term) (s : List ℕ) (most needed i left : ℕ) : Type 0 where
   pub some : i ≤ most
   pub within : left ≤ length s
-  pub is-rest : scanOf (termsReader term most needed s) ≡ scanOf (termsReader term (most - i) (needed - i) (lastOnes left s))
+  pub is-rest : scanOf (termsReader term most needed s)
+      ≡ scanOf (termsReader term (most - i) (needed - i) (lastOnes left s))
 
 pub operands-start : (term : Reader Term) (s : List ℕ) (most needed : ℕ) → OperandsLeft term s most needed 0 (length s)
 operands-start term s most needed =

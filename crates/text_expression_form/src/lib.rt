@@ -1,6 +1,6 @@
 // The form of expressions, by recursive descent (SPECIFICATION 1.3): the readers of an expression, of an operand and of
-// its operands call each other; depth left and bytes left fall. Each takes the rest of the text as its slice and answers
-// how many bytes are left.
+// its operands call each other; depth left and bytes left fall. Each takes the rest of the text as its slice and
+// answers how many bytes are left.
 use text_keywords::kind_here;
 use text_scan::Scan;
 use text_scan::name;

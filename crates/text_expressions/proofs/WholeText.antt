@@ -31,7 +31,7 @@ use Rattle.theory_grammar.proofs.Limits.{WithinLimits, limits-within}
 use Rattle.text_symbols.proofs.TreeCounts.{named-le}
 use Rattle.text_symbols.proofs.TreeTable.{bindings-length}
 use Rattle.text_symbols.proofs.TreeSearch.{bound-names, nodes-length}
-use Rattle.text_expressions.specs.Walk.{Table, declaredNames}
+use Rattle.text_walk.specs.Walk.{Table, declaredNames}
 use Rattle.text_expressions.specs.Lines.{gateForm, outputForm, linesCost, LinesAt, LinesHere, LinesDone}
 use Rattle.text_expressions.specs.Lines.{LinesRead}
 use Rattle.text_expressions.specs.declared.Walked.{Walked}

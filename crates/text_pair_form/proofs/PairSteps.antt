@@ -9,7 +9,8 @@ use lib.Dec.{eqb}
 use Rattle.prelude.specs.Lists.{ascii, is}
 use Rattle.prelude.proofs.Elements.{byte-there}
 use Rattle.netlist.specs.Names.{isNameStart}
-use Rattle.netlist.specs.Parse.{Parsed, Reader, got, stuck, pure, stop, onTest, ifNext, expect, onParsed, bind, nameReader}
+use Rattle.netlist.specs.Parse.{Parsed, Reader, got, stuck, pure, stop, onTest, ifNext, expect, onParsed, bind}
+use Rattle.netlist.specs.Parse.{nameReader}
 use Rattle.netlist.specs.Syntax.{Pair}
 use Rattle.netlist.specs.Parse.{bitReader, pairReader, spacedPair, pairsReader}
 use Rattle.text_scan.specs.declared.Scan.{Scan}
@@ -34,15 +35,18 @@ module _ {A B : Type 0} where
   unfolding pure
   same-pure a b = record { same = λ k s. refl }
 
-  same-if : (test : ℕ → Bool) {R : Reader A} {Q : Reader B} → SameRest R Q → SameRest (ifNext test (λ _. R) stop) (ifNext test (λ _. Q) stop)
+  same-if : (test : ℕ → Bool) {R : Reader A} {Q : Reader B} → SameRest R Q
+      → SameRest (ifNext test (λ _. R) stop) (ifNext test (λ _. Q) stop)
   unfolding ifNext onTest stop
   same-if test {R} {Q} h = record { same = λ k s. go k s }
     where
-      at : (b : Bool) (k : List ℕ → Scan) (d : ℕ) (s : List ℕ) → thenOf (onTest b (λ _. R) stop d s) k ≡ thenOf (onTest b (λ _. Q) stop d s) k
+      at : (b : Bool) (k : List ℕ → Scan) (d : ℕ) (s : List ℕ)
+          → thenOf (onTest b (λ _. R) stop d s) k ≡ thenOf (onTest b (λ _. Q) stop d s) k
       at true k d s = h .same k s
       at false k d s = refl
 
-      go : (k : List ℕ → Scan) (s : List ℕ) → thenOf (ifNext test (λ _. R) stop s) k ≡ thenOf (ifNext test (λ _. Q) stop s) k
+      go : (k : List ℕ → Scan) (s : List ℕ)
+          → thenOf (ifNext test (λ _. R) stop s) k ≡ thenOf (ifNext test (λ _. Q) stop s) k
       go k [] = refl
       go k (d ∷ s) = at (test d) k d s
 
@@ -51,7 +55,8 @@ module _ {A B : Type 0} where
   same-expect [] h = h
   same-expect (c ∷ cs) h = same-if (eqb c) (same-expect cs h)
 
-same-bind : {A B C : Type 0} (R : Reader A) {f : A → Reader B} {g : A → Reader C} → ((a : A) → SameRest (f a) (g a)) → SameRest (bind R f) (bind R g)
+same-bind : {A B C : Type 0} (R : Reader A) {f : A → Reader B} {g : A → Reader C} → ((a : A) → SameRest (f a) (g a))
+    → SameRest (bind R f) (bind R g)
 unfolding bind onParsed
 same-bind {A} R {f} {g} h = record { same = λ k s. go k (R s) }
   where
@@ -63,7 +68,8 @@ same-bind {A} R {f} {g} h = record { same = λ k s. go k (R s) }
 
 shortens-bit : Shortens bitReader
 unfolding bitReader
-shortens-bit = shortens-if (is "0") (λ _. shortens-pure false) (shortens-if (is "1") (λ _. shortens-pure true) shortens-stop)
+shortens-bit =
+    shortens-if (is "0") (λ _. shortens-pure false) (shortens-if (is "1") (λ _. shortens-pure true) shortens-stop)
 
 module _ (s : List ℕ) {b : ℕ} (e : b ≡ getD s 0 0) where
   pub value-0 : b ≡ 48 → Next (length s - 1) ≡ scanOf (bitReader s)
@@ -111,7 +117,8 @@ shortens-pair =
 shortens-spaced : (others : Reader (List Pair)) → Shortens others → Shortens (spacedPair others)
 unfolding spacedPair pairReader
 shortens-spaced others h =
-    shortens-expect (ascii " ") (shortens-bind (shortens-expect (ascii "(") (shortens-bind (shortens-name isNameStart) λ s.
+    shortens-expect (ascii " ") (shortens-bind (shortens-expect (ascii "(")
+    (shortens-bind (shortens-name isNameStart) λ s.
     shortens-expect (ascii " ") (shortens-bind shortens-bit λ v. shortens-expect (ascii ")") (shortens-pure _))))
     (λ p. shortens-bind h (λ ps. shortens-pure (p ∷ ps))))
 
@@ -119,7 +126,8 @@ continues-pair : (others : Reader (List Pair)) → Continues (spacedPair others)
 unfolding spacedPair
 continues-pair others = record {
   goes-on =
-      λ s. continues-after-expect (ascii " ") (continues-bind pairReader _ (λ t. scanOf (others t)) (λ p t. scan-map others (λ ps. p ∷ ps) t)) .goes-on s
+      λ s. continues-after-expect (ascii " ") (continues-bind pairReader _ (λ t. scanOf (others t))
+      (λ p t. scan-map others (λ ps. p ∷ ps) t)) .goes-on s
       ∙ pair-same .same (λ t. scanOf (others t)) s;
 }
 
@@ -136,7 +144,8 @@ list-spaced (suc most) (suc needed) s m e f =
 module _ (most needed : ℕ) (s : List ℕ) where
   pairs-full : most ≡ 0 → scanOf (pairsReader most needed s) ≡ scanOf (wordReader (ascii ")") s)
   unfolding pairsReader pure wordReader
-  pairs-full e = rw e (continues-word (ascii ")") (pure []) .goes-on s ∙ sym (continues-word (ascii ")") (pure 0) .goes-on s))
+  pairs-full e =
+      rw e (continues-word (ascii ")") (pure []) .goes-on s ∙ sym (continues-word (ascii ")") (pure 0) .goes-on s))
 
   module _ (m : 0 < most) {b : ℕ} (e : b ≡ getD s 0 0) where
     pairs-closed : b ≡ 41 → needed ≡ 0 → scanOf (pairsReader most needed s) ≡ Next (length s - 1)
@@ -153,7 +162,8 @@ module _ (most needed : ℕ) (s : List ℕ) where
         rw (d, g) (ap scanOf (byte-left _ _ s 32 e (λ z. omega arith)))
 
     -- where no bracket closes them, a pair comes
-    pairs-more : (b ≡ 41 → ⊥) → scanOf (pairsReader most needed s) ≡ thenOf (pairScan s) (λ t. scanOf (pairsReader (most - 1) (needed - 1) t))
+    pairs-more : (b ≡ 41 → ⊥)
+        → scanOf (pairsReader most needed s) ≡ thenOf (pairScan s) (λ t. scanOf (pairsReader (most - 1) (needed - 1) t))
     pairs-more f = ap scanOf spaced ∙ continues-pair (pairsReader (most - 1) (needed - 1)) .goes-on s
       where
         spaced : pairsReader most needed s ≡ spacedPair (pairsReader (most - 1) (needed - 1)) s
@@ -225,5 +235,6 @@ module _ (s : List ℕ) (most needed i left : ℕ) (p : PairsLeft s most needed 
 pub shortens-pairs : (most needed : ℕ) → Shortens (pairsReader most needed)
 unfolding pairsReader
 shortens-pairs zero needed = shortens-expect (ascii ")") (shortens-pure [])
-shortens-pairs (suc most) zero = shortens-if (is ")") (λ _. shortens-pure []) (shortens-spaced _ (shortens-pairs most zero))
+shortens-pairs (suc most) zero =
+    shortens-if (is ")") (λ _. shortens-pure []) (shortens-spaced _ (shortens-pairs most zero))
 shortens-pairs (suc most) (suc needed) = shortens-spaced _ (shortens-pairs most needed)

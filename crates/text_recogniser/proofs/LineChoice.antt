@@ -28,7 +28,8 @@ use Rattle.text_recogniser.proofs.LineSteps.{shortens-never-pairs, shor
 module _ (phase : ℕ) (t : List ℕ) {c : ℕ} (e : c ≡ getD t 0 0) where
   pub chosen-input : c ≡ 105 → phase ≡ 0 → lineBehind phase t ≡ inputReader t
   unfolding lineBehind
-  chosen-input i p = rw (and-intro (is "i" (getD t 0 0)) (eqb phase 0) (eq-eqb 105 (getD t 0 0) (sym i ∙ e)) (eq-eqb phase 0 p))
+  chosen-input i p =
+      rw (and-intro (is "i" (getD t 0 0)) (eqb phase 0) (eq-eqb 105 (getD t 0 0) (sym i ∙ e)) (eq-eqb phase 0 p))
 
   module _ (n : c ≡ 105 → phase ≡ 0 → ⊥) where
     no-input : is "i" (getD t 0 0) && eqb phase 0 ≡ false
@@ -39,7 +40,12 @@ module _ (phase : ℕ) (t : List ℕ) {c : ℕ} (e : c ≡ getD t 0 0) where
 
     pub chosen-never : c ≡ 110 → phase ≤ 1 → lineBehind phase t ≡ neverReader t
     unfolding lineBehind
-    chosen-never g p = rw (no-input, and-intro (is "n" (getD t 0 0)) (leb phase 1) (eq-eqb 110 (getD t 0 0) (sym g ∙ e)) (le-leb phase 1 p))
+    chosen-never g p =
+        rw (
+          no-input,
+          and-intro (is "n" (getD t 0 0)) (leb phase 1) (eq-eqb 110 (getD t 0 0) (sym g ∙ e))
+              (le-leb phase 1 p),
+        )
 
     module _ (m : c ≡ 110 → phase ≤ 1 → ⊥) where
       no-never : is "n" (getD t 0 0) && leb phase 1 ≡ false
@@ -51,7 +57,12 @@ module _ (phase : ℕ) (t : List ℕ) {c : ℕ} (e : c ≡ getD t 0 0) where
       pub chosen-gate : c ≡ 103 → phase ≤ 2 → lineBehind phase t ≡ gateReader t
       unfolding lineBehind
       chosen-gate g p =
-          rw (no-input, no-never, and-intro (is "g" (getD t 0 0)) (leb phase 2) (eq-eqb 103 (getD t 0 0) (sym g ∙ e)) (le-leb phase 2 p))
+          rw (
+            no-input,
+            no-never,
+            and-intro (is "g" (getD t 0 0)) (leb phase 2) (eq-eqb 103 (getD t 0 0) (sym g ∙ e))
+                (le-leb phase 2 p),
+          )
 
       pub chosen-output : (c ≡ 103 → phase ≤ 2 → ⊥) → lineBehind phase t ≡ outputReader t
       unfolding lineBehind
@@ -104,11 +115,13 @@ letter-at s = getD-drop 1 s 0 0
 
 shortens-input-line : Shortens inputReader
 unfolding inputReader inputName
-shortens-input-line = shortens-expect (ascii "in ") (shortens-bind (shortens-name (firstByte false)) (λ _. shortens-word (ascii ")\n")))
+shortens-input-line =
+    shortens-expect (ascii "in ") (shortens-bind (shortens-name (firstByte false)) (λ _. shortens-word (ascii ")\n")))
 
 shortens-never-line : Shortens neverReader
 unfolding neverReader neverEnd
-shortens-never-line = shortens-expect (ascii "never") (shortens-bind shortens-never-pairs (λ _. shortens-word (ascii "\n")))
+shortens-never-line =
+    shortens-expect (ascii "never") (shortens-bind shortens-never-pairs (λ _. shortens-word (ascii "\n")))
 
 shortens-gate-line : Shortens gateReader
 unfolding gateReader gateNaming gateBracket gateExpression
@@ -127,10 +140,13 @@ shortens-output-line =
 shortens-behind : (phase : ℕ) → Shortens (lineBehind phase)
 unfolding lineBehind
 shortens-behind phase = record {
-  leaves = λ s. go s (is "i" (getD s 0 0) && eqb phase 0) (is "n" (getD s 0 0) && leb phase 1) (is "g" (getD s 0 0) && leb phase 2);
+  leaves =
+      λ s. go s (is "i" (getD s 0 0) && eqb phase 0) (is "n" (getD s 0 0) && leb phase 1)
+      (is "g" (getD s 0 0) && leb phase 2);
 }
   where
-    go : (s : List ℕ) (i n g : Bool) → Leaves s (cond i (inputReader s) (cond n (neverReader s) (cond g (gateReader s) (outputReader s))))
+    go : (s : List ℕ) (i n g : Bool)
+        → Leaves s (cond i (inputReader s) (cond n (neverReader s) (cond g (gateReader s) (outputReader s))))
     go s true n g = shortens-input-line .leaves s
     go s false true g = shortens-never-line .leaves s
     go s false false true = shortens-gate-line .leaves s
@@ -145,8 +161,12 @@ line-shorter phase s {n} h e = ⊎-elim read refused (eq-or-ne (getD s 0 0) 40)
   where
     read : getD s 0 0 ≡ 40 → n < length s
     read f =
-        let l : n ≤ length (drop 1 s) = left-short (shortens-behind phase) (drop 1 s) (e ∙ ap scanOf (line-bracket phase s refl f)) in
+        let l : n ≤ length (drop 1 s) = left-short (shortens-behind phase) (drop 1 s)
+        (e ∙ ap scanOf (line-bracket phase s refl f)) in
         omega (arith, l, length-drop 1 s)
 
     refused : (getD s 0 0 ≡ 40 → ⊥) → n < length s
-    refused f = let q : Next n ≡ Bad (length s) = e ∙ ap scanOf (line-none phase s refl f) in let z : _≡_ {A = ℕ} 0 1 = cc in absurd (omega arith)
+    refused f =
+        let q : Next n ≡ Bad (length s) = e ∙ ap scanOf (line-none phase s refl f) in
+        let z : _≡_ {A = ℕ} 0 1 = cc in
+        absurd (omega arith)

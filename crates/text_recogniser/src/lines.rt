@@ -11,7 +11,8 @@ use words_layout::limits::MAX_DEPTH;
 ghost use mathlib.Core.Path.{_≡_};
 ghost use Rattle.netlist.specs.Parse.{neverPairs};
 ghost use Rattle.text_scan.specs.Scan.{scanOf, scanBehind};
-ghost use Rattle.text_recogniser.specs.Scan.{expressionReader, inputReader, neverReader, gateReader, outputReader};
+ghost use Rattle.text_recogniser.specs.Scan.{expressionReader, inputReader, neverReader, gateReader};
+ghost use Rattle.text_recogniser.specs.Scan.{outputReader};
 ghost use Rattle.text_recogniser.specs.Scan.{lineReader, phaseOf};
 
 // The levels of expressions that may stand inside the expression of a line.

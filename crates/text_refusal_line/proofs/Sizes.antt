@@ -1,4 +1,5 @@
--- What fits into a slice of a given room: refusals, results that are short enough, and the largest block that Read gives. Assumes nothing.
+-- What fits into a slice of a given room: refusals, results that are short enough, and the largest block that Read
+-- gives. Assumes nothing.
 use mathlib.Core.Path.{_≡_, refl, sym, ap, _∙_}
 use mathlib.Core.Bool.{Bool, true, false}
 use mathlib.Core.Option.{Option, none, some}
@@ -58,7 +59,8 @@ module _ (room : ℕ) where
     parsed-fits text (stuck left) = refused-fits _
     parsed-fits text (got t rest) =
         if-fits (isOverLimit t) _ _
-        (λ o. at-fits (firstDuplicate t) _ _ (at-fits (firstUndeclared t) _ _ (counted-fits (encode (blockOf t)) (read-length t o))))
+        (λ o. at-fits (firstDuplicate t) _ _
+        (at-fits (firstUndeclared t) _ _ (counted-fits (encode (blockOf t)) (read-length t o))))
 
     pub read-fits : (text : List ℕ) → Fits room (readText text)
     unfolding readText

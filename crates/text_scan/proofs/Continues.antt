@@ -1,5 +1,6 @@
--- A reader that first does what another does, and then goes on: what the code knows of a reader when it has called another. Where the
--- first has read, the second goes on with the last bytes; where it is stuck, so is the whole. Assumes nothing.
+-- A reader that first does what another does, and then goes on: what the code knows of a reader when it has called
+-- another. Where the first has read, the second goes on with the last bytes; where it is stuck, so is the whole.
+-- Assumes nothing.
 use mathlib.Core.Path.{_≡_, refl, sym, ap, _∙_}
 use mathlib.Core.Bool.{Bool, true, false}
 use mathlib.Core.List.{List, [], _∷_}
@@ -23,7 +24,8 @@ pub record Continues {A B : Type 0} (whole : Reader B) (first : Reader A) (k : L
   pub goes-on : (s : List ℕ) → scanOf (whole s) ≡ thenOf (first s) k
 
 module _ {A B : Type 0} where
-  pub continues-bind : (first : Reader A) (next : A → Reader B) (k : List ℕ → Scan) → ((a : A) (t : List ℕ) → scanOf (next a t) ≡ k t)
+  pub continues-bind : (first : Reader A) (next : A → Reader B) (k : List ℕ → Scan)
+      → ((a : A) (t : List ℕ) → scanOf (next a t) ≡ k t)
       → Continues (bind first next) first k
   unfolding bind onParsed
   continues-bind first next k h = record { goes-on = λ s. go (first s) }
@@ -67,16 +69,19 @@ module _ {A B : Type 0} where
   continues-pure a next = record { goes-on = λ s. refl }
 
 -- a word, and then
-pub continues-word : {B : Type 0} (w : List ℕ) (next : Reader B) → Continues (expect w next) (wordReader w) (λ t. scanOf (next t))
+pub continues-word : {B : Type 0} (w : List ℕ) (next : Reader B)
+    → Continues (expect w next) (wordReader w) (λ t. scanOf (next t))
 unfolding wordReader
 continues-word w next = continues-after-expect w (continues-pure 0 next)
 
 -- a reader whose value is not used, and then
-pub continues-skip : {A B : Type 0} (R : Reader A) (next : Reader B) → Continues (bind R (λ _. next)) R (λ t. scanOf (next t))
+pub continues-skip : {A B : Type 0} (R : Reader A) (next : Reader B)
+    → Continues (bind R (λ _. next)) R (λ t. scanOf (next t))
 continues-skip R next = continues-bind R (λ _. next) (λ t. scanOf (next t)) (λ _ _. refl)
 
 -- where what follows is the same
-pub continues-same : {A B : Type 0} {whole : Reader B} {first : Reader A} {k j : List ℕ → Scan} → Continues whole first k → ((t : List ℕ) → k t ≡ j t)
+pub continues-same : {A B : Type 0} {whole : Reader B} {first : Reader A} {k j : List ℕ → Scan}
+    → Continues whole first k → ((t : List ℕ) → k t ≡ j t)
     → Continues whole first j
 continues-same {A} {B} {whole} {first} {k} {j} c h = record { goes-on = λ s. c .goes-on s ∙ go (first s) }
   where
@@ -85,7 +90,8 @@ continues-same {A} {B} {whole} {first} {k} {j} c h = record { goes-on = λ s. c 
     go (stuck left) = refl
 
 -- the value of a reader plays no part in its scan
-pub scan-map : {A B : Type 0} (R : Reader A) (f : A → B) (s : List ℕ) → scanOf (bind R (λ a. pure (f a)) s) ≡ scanOf (R s)
+pub scan-map : {A B : Type 0} (R : Reader A) (f : A → B) (s : List ℕ)
+    → scanOf (bind R (λ a. pure (f a)) s) ≡ scanOf (R s)
 unfolding bind onParsed pure
 scan-map {A} R f s = go (R s)
   where
@@ -104,7 +110,8 @@ left-short {A} {R} h s {n} e = go (R s) (h .leaves s) e
     go (stuck left) l e = let z : _≡_ {A = ℕ} 0 1 = cc in omega arith
 
 -- the call has read: what follows goes on with what is left
-pub then-read : {A : Type 0} {R : Reader A} (k : List ℕ → Scan) → Shortens R → (s : List ℕ) {n : ℕ} → Next n ≡ scanOf (R s) → thenOf (R s) k ≡ k (lastOnes n s)
+pub then-read : {A : Type 0} {R : Reader A} (k : List ℕ → Scan) → Shortens R → (s : List ℕ) {n : ℕ}
+    → Next n ≡ scanOf (R s) → thenOf (R s) k ≡ k (lastOnes n s)
 then-read {A} {R} k h s {n} e = go (R s) (h .leaves s) e
   where
     go : (p : Parsed A) → Leaves s p → Next n ≡ scanOf p → thenOf p k ≡ k (lastOnes n s)

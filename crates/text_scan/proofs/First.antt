@@ -16,7 +16,8 @@ there test [] z h = not-both h z
 there test (c ∷ s) z h = omega arith
 
 module _ {A : Type 0} (first : ℕ → Reader A) (second : Reader A) where
-  pub if-taken : (test : ℕ → Bool) (s : List ℕ) → test 0 ≡ false → test (getD s 0 0) ≡ true → ifNext test first second s ≡ first (getD s 0 0) (drop 1 s)
+  pub if-taken : (test : ℕ → Bool) (s : List ℕ) → test 0 ≡ false → test (getD s 0 0) ≡ true
+      → ifNext test first second s ≡ first (getD s 0 0) (drop 1 s)
   unfolding ifNext onTest
   if-taken test [] z h = not-both h z
   if-taken test (c ∷ s) z h = rw h
@@ -27,7 +28,8 @@ module _ {A : Type 0} (first : ℕ → Reader A) (second : Reader A) where
   if-left test (c ∷ s) h = rw h
 
   -- the same, where the byte is compared with another
-  pub byte-taken : (s : List ℕ) {b : ℕ} (c : ℕ) → b ≡ getD s 0 0 → b ≡ c → 0 < c → ifNext (eqb c) first second s ≡ first (getD s 0 0) (drop 1 s)
+  pub byte-taken : (s : List ℕ) {b : ℕ} (c : ℕ) → b ≡ getD s 0 0 → b ≡ c → 0 < c
+      → ifNext (eqb c) first second s ≡ first (getD s 0 0) (drop 1 s)
   byte-taken s c e f h = if-taken (eqb c) s (ne-eqb c 0 (λ z. omega arith)) (eq-eqb c (getD s 0 0) (sym f ∙ e))
 
   pub byte-left : (s : List ℕ) {b : ℕ} (c : ℕ) → b ≡ getD s 0 0 → (b ≡ c → ⊥) → ifNext (eqb c) first second s ≡ second s

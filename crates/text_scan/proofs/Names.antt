@@ -24,7 +24,8 @@ module _ (u : Bool) (s : List ℕ) where
   pub name-there : firstByte u (getD s 0 0) ≡ true → 0 < length s
   name-there h = there (firstByte u) s (no-first u) h
 
-  pub name-first : firstByte u (getD s 0 0) ≡ true → scanOf (nameReader (firstByte u) s) ≡ scanOf (nameBytes 7 (drop 1 s))
+  pub name-first : firstByte u (getD s 0 0) ≡ true
+      → scanOf (nameReader (firstByte u) s) ≡ scanOf (nameBytes 7 (drop 1 s))
   unfolding nameReader nameAfter
   name-first h =
       ap scanOf (if-taken _ _ (firstByte u) s (no-first u) h)

@@ -1,4 +1,5 @@
--- A reader leaves the end of the text that it was given, and is stuck inside it: kept by each way to make a reader, so true of all of them. Assumes nothing.
+-- A reader leaves the end of the text that it was given, and is stuck inside it: kept by each way to make a reader, so
+-- true of all of them. Assumes nothing.
 use mathlib.Core.Path.{_≡_, refl, ap, _∙_}
 use mathlib.Core.Bool.{Bool, true, false}
 use mathlib.Core.List.{List, [], _∷_}
@@ -10,7 +11,8 @@ use lib.Seq.{drop-drop}
 use lib.Dec.{eqb}
 use Rattle.netlist.specs.Limits.{maxName}
 use Rattle.netlist.specs.Names.{isNameByte}
-use Rattle.netlist.specs.Parse.{Parsed, got, stuck, Reader, pure, stop, onTest, ifNext, expect, onParsed, bind, nameBytes, nameAfter, nameReader}
+use Rattle.netlist.specs.Parse.{Parsed, got, stuck, Reader, pure, stop, onTest, ifNext, expect, onParsed, bind}
+use Rattle.netlist.specs.Parse.{nameBytes, nameAfter, nameReader}
 use Rattle.text_scan.specs.Scan.{lastOnes, wordReader}
 
 -- the second text is the end of the first
@@ -23,7 +25,9 @@ pub tail-refl : (s : List ℕ) → Tail s s
 tail-refl s = record { taken = 0; counts = omega arith; is-end = refl }
 
 tail-cons : (c : ℕ) {s rest : List ℕ} → Tail s rest → Tail (c ∷ s) rest
-tail-cons c {s} {rest} t = let e : t .taken + length rest ≡ length s = t .counts in record { taken = suc (t .taken); counts = omega arith; is-end = t .is-end }
+tail-cons c {s} {rest} t =
+    let e : t .taken + length rest ≡ length s = t .counts in record
+    { taken = suc (t .taken); counts = omega arith; is-end = t .is-end }
 
 tail-trans : {s t u : List ℕ} → Tail s t → Tail t u → Tail s u
 tail-trans {s} {t} {u} p q =
@@ -81,7 +85,8 @@ module _ {A : Type 0} where
   shortens-expect (c ∷ cs) h = let r = shortens-expect cs h in shortens-if (eqb c) (λ _. r) shortens-stop
 
 module _ {A B : Type 0} where
-  pub shortens-bind : {first : Reader A} {next : A → Reader B} → Shortens first → ((a : A) → Shortens (next a)) → Shortens (bind first next)
+  pub shortens-bind : {first : Reader A} {next : A → Reader B} → Shortens first → ((a : A) → Shortens (next a))
+      → Shortens (bind first next)
   unfolding bind onParsed
   shortens-bind {first} {next} f g = record { leaves = λ s. go s (first s) (f .leaves s) }
     where
@@ -100,7 +105,9 @@ shortens-name-bytes (suc most) =
 
 pub shortens-name : (start : ℕ → Bool) → Shortens (nameReader start)
 unfolding nameReader nameAfter
-shortens-name start = shortens-if start (λ c. shortens-bind (shortens-name-bytes (maxName - 1)) (λ cs. shortens-pure (c ∷ cs))) shortens-stop
+shortens-name start =
+    shortens-if start (λ c. shortens-bind (shortens-name-bytes (maxName - 1)) (λ cs. shortens-pure (c ∷ cs)))
+    shortens-stop
 
 pub shortens-word : (w : List ℕ) → Shortens (wordReader w)
 unfolding wordReader

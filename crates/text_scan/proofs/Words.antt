@@ -1,4 +1,5 @@
--- Words and names along a text: what one byte more tells. The loops of `bytes::word` and `names::name_bytes` go by these. Assumes nothing.
+-- Words and names along a text: what one byte more tells. The loops of `bytes::word` and `names::name_bytes` go by
+-- these. Assumes nothing.
 use mathlib.Core.Path.{_≡_, refl, sym, ap, _∙_}
 use mathlib.Core.Bool.{true, false}
 use mathlib.Core.List.{List, _∷_}
@@ -75,4 +76,5 @@ module _ (most : ℕ) (s : List ℕ) (i : ℕ) where
   unfolding nameBytes pure
   name-other l h =
       let m : most - i ≡ suc (most - suc i) = omega arith in
-      rw m (ap scanOf (if-left _ _ isNameByte (drop i s) (ap isNameByte (first-at s i) ∙ h)) ∙ ap Next (length-drop i s))
+      rw m (ap scanOf (if-left _ _ isNameByte (drop i s) (ap isNameByte (first-at s i) ∙ h))
+      ∙ ap Next (length-drop i s))

@@ -1,6 +1,6 @@
--- The cycle of calls {expression, operand, operands}. Bytes left fall: each measure is twice the length of the text, one
--- more for an expression, whose operands may begin where it does. Each answer is that of netlist's reader, one law for
--- each way through the code. Assumes nothing.
+-- The cycle of calls {expression, operand, operands}. Bytes left fall: each measure is twice the length of the text,
+-- one more for an expression, whose operands may begin where it does. Each answer is that of netlist's reader, one law
+-- for each way through the code. Assumes nothing.
 use Prim.Native.Nat.{ℕ, _<_}
 use borrow.Fn.Kinds.{In}
 use borrow.Fn.PlainCycle.{Measures, is, falls, and}
@@ -157,7 +157,8 @@ module _ (t : ℕ) where
       let placed : Placed = search in
       let told : expression-lts.After-found (expression-claims t) (expression-at t) expression.Post = search in
       let most : expression-lts.After-most-operands (expression-claims t) (expression-at t) expression.Post = search in
-      let fewest : expression-lts.After-fewest-operands (expression-claims t) (expression-at t) expression.Post = search in
+      let fewest : expression-lts.After-fewest-operands (expression-claims t) (expression-at t)
+      expression.Post = search in
       let term = termReader (a .args .depth) in
       expression-read term apply (a .args .s .now) (kind .kind-here .ensures) (word .kind-word .ensures)
       (found-next (operandsOf term apply (kind .kind-here .result)) (a .args .s .now) (told .found .given .1)
@@ -347,7 +348,8 @@ module _ (t : ℕ) where
       let b : Spaced = search in
       omega (arith, space b, turn (b .before .before) .loop .inv .within)
 
-  operands-part-operand-start : operands-lts.Need-part-operand-start (operands-claims t) (operands-at t) operands.Post Inv μ
+  operands-part-operand-start : operands-lts.Need-part-operand-start (operands-claims t) (operands-at t) operands.Post
+      Inv μ
   operands-part-operand-start c =
       let b : Spaced = search in
       omega (arith, space b, turn (b .before .before) .loop .inv .within)
@@ -356,8 +358,16 @@ module _ (t : ℕ) where
   operands-operand-requires c κs =
       let b : Spaced = search in
       let a = begun (b .before .before) in
-      let l = turn (b .before .before) .loop in
-      (omega (arith, rest-short (length (a .args .s .now) - l .left + 1) (a .args .s .now), space b, l .inv .within, a .pre .0), tt)
+      let l = turn (b .before .before) .loop in (
+        omega (
+          arith,
+          rest-short (length (a .args .s .now) - l .left + 1) (a .args .s .now),
+          space b,
+          l .inv .within,
+          a .pre .0,
+        ),
+        tt,
+      )
 
   -- it is read
   abbrev Tried : Type 0

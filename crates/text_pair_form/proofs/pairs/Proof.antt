@@ -81,7 +81,8 @@ returns-4 c =
     let over : tie.After-loop Inv-loop μ-loop = search in
     let a = over .before .before .before .args in
     let l = over .before .loop in
-    pairs-end (a .s .now) (a .most) (a .needed) (l .i) (l .left) (l .inv) (over .loop-test .left) (c .then-word .ensures)
+    pairs-end (a .s .now) (a .most) (a .needed) (l .i) (l .left) (l .inv) (over .loop-test .left)
+    (c .then-word .ensures)
 
 pub pairs-spec : {M : Type 1} → statement M
 pairs-spec =

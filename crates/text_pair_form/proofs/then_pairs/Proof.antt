@@ -15,7 +15,8 @@ returns-2 c =
     let a : tie.Start = search in
     let told : tie.After-found = search in
     let placed : tie.After-place-of = search in
-    found-next (pairsReader (a .args .most) (a .args .needed)) (a .args .s .now) (told .found .given .1) (placed .place-of .ensures) (c .pairs .ensures)
+    found-next (pairsReader (a .args .most) (a .args .needed)) (a .args .s .now) (told .found .given .1)
+    (placed .place-of .ensures) (c .pairs .ensures)
 
 pub then-pairs-spec : {M : Type 1} → statement M
 then-pairs-spec =

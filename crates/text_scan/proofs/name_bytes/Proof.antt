@@ -1,6 +1,5 @@
--- `text_scan::name_bytes` meets its contract. The loop's invariant: the answer on the whole is the answer on what is left of the text and of
--- the bytes that may come.
--- Assumes nothing.
+-- `text_scan::name_bytes` meets its contract. The loop's invariant: the answer on the whole is the answer on what is
+-- left of the text and of the bytes that may come. Assumes nothing.
 use Rattle.text_scan.proofs.name_bytes.Statement.{statement}
 use Rattle.text_scan.proofs.name_bytes.Tie as tie
 use Prim.Native.Nat.{_-_, _≤_, _<_}
@@ -26,7 +25,7 @@ loop-holds : tie.Need-loop-holds Inv-loop μ-loop
 loop-holds c = (omega arith, rw (sub-zero (c .before .args .most)))
 
 sub-result : tie.Need-sub-result Inv-loop μ-loop
-sub-result c = c .before .before .before .before .loop .inv .0
+sub-result c = let l : tie.At-loop Inv-loop μ-loop = search in l .loop .inv .0
 
 returns : tie.Need-returns Inv-loop μ-loop
 returns c =
@@ -41,7 +40,9 @@ returns c =
     sym (b .loop .inv .1 ∙ name-other (a .most) (a .s .now) (b .loop .i) (at-loop-test .loop-test .taken) h)
 
 add-i : tie.Need-add-i Inv-loop μ-loop
-add-i c = omega (arith, c .before .before .before .loop-test .taken, c .before .before .before .before .before .before .fits .most)
+add-i c =
+    let start : tie.Start Inv-loop μ-loop = search in
+    omega (arith, c .before .before .before .loop-test .taken, start .fits .most)
 
 loop-again : tie.Need-loop-again Inv-loop μ-loop
 loop-again c =
@@ -62,7 +63,8 @@ sub-result-2 c = c .before .loop .inv .0
 
 returns-2 : tie.Need-returns-2 Inv-loop μ-loop
 returns-2 c = let a = c .before .before .before .args in
-    sym (c .before .loop .inv .1 ∙ name-over (a .most) (a .s .now) (c .before .loop .i) (c .before .loop .inv .0) (c .loop-test .left))
+    sym (c .before .loop .inv .1
+    ∙ name-over (a .most) (a .s .now) (c .before .loop .i) (c .before .loop .inv .0) (c .loop-test .left))
 
 pub name-bytes-spec : {M : Type 1} → statement M
 name-bytes-spec =

@@ -1,5 +1,5 @@
--- `text_scan::word` meets its contract. The loop's invariant: the answer on the whole is the answer on what is left of the word and of the text.
--- Assumes nothing.
+-- `text_scan::word` meets its contract. The loop's invariant: the answer on the whole is the answer on what is left of
+-- the word and of the text. Assumes nothing.
 use Rattle.text_scan.proofs.word.Statement.{statement}
 use Rattle.text_scan.proofs.word.Tie as tie
 use Prim.Native.Nat.{_-_, _≤_}
@@ -23,11 +23,12 @@ sub-t7 c = c .before .before .loop .inv .1
 
 returns : tie.Need-returns Inv-loop μ-loop
 returns c =
-    sym (c .before .before .loop .inv .2 ∙ word-short (c .before .before .before .args .bytes .now) (c .before .before .before .args .s .now)
+    sym (c .before .before .loop .inv .2
+    ∙ word-short (c .before .before .before .args .bytes .now) (c .before .before .before .args .s .now)
     (c .before .before .loop .i) (c .before .loop-test .taken) (c .if1 .taken))
 
 sub-t13 : tie.Need-sub-t13 Inv-loop μ-loop
-sub-t13 c = c .before .before .before .before .before .loop .inv .1
+sub-t13 c = let l : tie.At-loop Inv-loop μ-loop = search in l .loop .inv .1
 
 returns-2 : tie.Need-returns-2 Inv-loop μ-loop
 returns-2 c =
@@ -35,7 +36,9 @@ returns-2 c =
     let stage = at-if1 .before in
     let b = stage in
     let a = b .before .before .args in
-    sym (b .before .loop .inv .2 ∙ word-other (a .bytes .now) (a .s .now) (b .before .loop .i) (b .loop-test .taken) (at-if1 .if1 .left) (c .if2 .taken))
+    sym (b .before .loop .inv .2
+    ∙ word-other (a .bytes .now) (a .s .now) (b .before .loop .i) (b .loop-test .taken) (at-if1 .if1 .left)
+    (c .if2 .taken))
 
 loop-again : tie.Need-loop-again Inv-loop μ-loop
 loop-again c =
@@ -43,7 +46,9 @@ loop-again c =
     let stage = at-if1 .before in
     let b = stage in
     let a = b .before .before .args in
-    let e = b .before .loop .inv .2 ∙ word-same (a .bytes .now) (a .s .now) (b .before .loop .i) (b .loop-test .taken) (at-if1 .if1 .left) (c .if2 .left) in
+    let e = b .before .loop .inv .2
+    ∙ word-same (a .bytes .now) (a .s .now) (b .before .loop .i) (b .loop-test .taken) (at-if1 .if1 .left)
+    (c .if2 .left) in
     (omega arith, omega arith, rw (add-one (b .before .loop .i)) e)
 
 sub-t15 : tie.Need-sub-t15 Inv-loop μ-loop
@@ -51,7 +56,8 @@ sub-t15 c = c .before .loop .inv .1
 
 returns-3 : tie.Need-returns-3 Inv-loop μ-loop
 returns-3 c = let a = c .before .before .args in
-    sym (c .before .loop .inv .2 ∙ word-over (a .bytes .now) (a .s .now) (c .before .loop .i) (c .loop-test .left) (c .before .loop .inv .1))
+    sym (c .before .loop .inv .2
+    ∙ word-over (a .bytes .now) (a .s .now) (c .before .loop .i) (c .loop-test .left) (c .before .loop .inv .1))
 
 pub word-spec : {M : Type 1} → statement M
 word-spec =

@@ -60,7 +60,8 @@ returns-2 c =
     let letter : tie.Then2 = search in
     let allowed : tie.Then3 = search in
     c .input-line .ensures
-    ∙ sym (ap scanOf (chosen-input (phase b) (rest b) (b .byte-at2 .ensures) (letter .if2 .taken) (allowed .if3 .taken)))
+    ∙ sym (ap scanOf (chosen-input (phase b) (rest b) (b .byte-at2 .ensures) (letter .if2 .taken)
+    (allowed .if3 .taken)))
     ∙ behind b
 
 returns-3 : tie.Need-returns-3

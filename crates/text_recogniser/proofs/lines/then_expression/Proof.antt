@@ -1,5 +1,5 @@
--- `text_recogniser::lines::then_expression` meets its contract: it answers a bad byte as it was found, and else reads what is left.
--- Assumes nothing.
+-- `text_recogniser::lines::then_expression` meets its contract: it answers a bad byte as it was found, and else reads
+-- what is left. Assumes nothing.
 use borrow.Author.Needs.{needs}
 use Rattle.text_recogniser.specs.Scan.{expressionReader}
 use Rattle.text_scan.proofs.Chain.{found-bad, found-next}

@@ -1,5 +1,5 @@
--- `text_recogniser::lines::then_never_pairs` meets its contract: it answers a bad byte as it was found, and else reads what is left.
--- Assumes nothing.
+-- `text_recogniser::lines::then_never_pairs` meets its contract: it answers a bad byte as it was found, and else reads
+-- what is left. Assumes nothing.
 use borrow.Author.Needs.{needs}
 use Rattle.netlist.specs.Parse.{neverPairs}
 use Rattle.text_recogniser.proofs.LineSteps.{never-bound}
