@@ -4,7 +4,7 @@ use mathlib.Core.Bool.{Bool, true, false}
 use mathlib.Core.List.{List, [], _∷_}
 use Prim.Native.Nat.{ℕ, zero, suc, _+_, _-_, _≤_, _<_}
 use native.Mathlib.Omega.{arith}
-use lib.ListN.{length, drop, getD, length-drop}
+use lib.ListN.{length, getD, length-drop}
 use lib.Dec.{eqb}
 use Rattle.prelude.specs.Lists.{ascii, is}
 use Rattle.prelude.proofs.Elements.{byte-there}

@@ -9,7 +9,7 @@ use Rattle.prelude.specs.Lists.{ascii}
 use Rattle.prelude.proofs.Elements.{rest-is-drop}
 use Rattle.netlist.specs.Limits.{maxDepth}
 use Rattle.netlist.specs.Syntax.{apply}
-use Rattle.netlist.specs.Parse.{nameReader, termReader, pairsReader, neverPairs}
+use Rattle.netlist.specs.Parse.{nameReader, pairsReader, neverPairs}
 use Rattle.text_scan.specs.declared.Scan.{Scan}
 use Rattle.text_scan.specs.Scan.{scanOf, wordReader, firstByte}
 use Rattle.text_scan.proofs.Shortens.{Shortens, shortens-name}

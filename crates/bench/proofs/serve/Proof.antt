@@ -1,6 +1,6 @@
 -- `bench::serve` meets its contract: what is ready stays so from read to read. The measure is the number of turns that
 -- are left. Assumes nothing.
-use mathlib.Core.Path.{refl, sym}
+use mathlib.Core.Path.{sym}
 use native.Mathlib.Omega.{arith}
 use borrow.Author.Needs.{needs}
 use lib.Seq.{length-take-le}

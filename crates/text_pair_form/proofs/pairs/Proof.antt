@@ -2,10 +2,7 @@
 -- the bytes left.
 -- Assumes nothing.
 use borrow.Author.Needs.{needs}
-use mathlib.Core.List.{List}
-use mathlib.Core.Path.{_≡_}
-use Prim.Native.Nat.{ℕ, _-_}
-use lib.ListN.{length, getD}
+use Prim.Native.Nat.{_-_}
 use Rattle.text_pair_form.proofs.PairSteps.{PairsLeft, pairs-start, pairs-end, left-there, left-closed}
 use Rattle.text_pair_form.proofs.PairSteps.{left-needed, left-bad, left-next}
 use Rattle.text_pair_form.proofs.pairs.Statement.{statement}
