@@ -82,6 +82,7 @@ struct Rooms {
     written: Circuit,
     order: Order,
     simulation: Simulation,
+    module: verilog::Room,
 }
 
 impl Rooms {
@@ -89,7 +90,7 @@ impl Rooms {
         self.original.read(original, &mut self.simulation)?;
         let circuit = &mut self.written;
         circuit.begin();
-        read(written, form, circuit).map_err(Difference::Unreadable)?;
+        read(written, form, circuit, &mut self.module).map_err(Difference::Unreadable)?;
         let theirs = Read {
             circuit,
             text: written,
@@ -100,10 +101,15 @@ impl Rooms {
     }
 }
 
-fn read(written: &[u8], form: Form, circuit: &mut Circuit) -> Result<(), String> {
+fn read(
+    written: &[u8],
+    form: Form,
+    circuit: &mut Circuit,
+    module: &mut verilog::Room,
+) -> Result<(), String> {
     match form.language {
         Language::Netlist => netlist::read(written, form.loops, circuit),
-        Language::Verilog => verilog::read(written, form.loops, circuit),
+        Language::Verilog => verilog::read(written, form.loops, circuit, module),
         Language::Blif => blif::read(written, form.loops, circuit),
         Language::Cells => cells::read(written, circuit),
     }

@@ -19,11 +19,17 @@ const WIRE: u64 = key_of(b"wire");
 const ASSIGN: u64 = key_of(b"assign");
 
 /// Reads a module; `loops`: whether a gate may read its own net or one that is driven below it.
-pub fn read(text: &[u8], loops: bool, circuit: &mut Circuit) -> Result<(), String> {
+pub fn read(
+    text: &[u8],
+    loops: bool,
+    circuit: &mut Circuit,
+    room: &mut Room,
+) -> Result<(), String> {
+    room.listed.clear();
+    room.declared.clear();
     let mut module = Module {
         text: Cursor::of(text),
-        listed: Vec::new(),
-        declared: Vec::new(),
+        room,
         circuit,
     };
     module.whole().ok_or_else(|| {
@@ -55,11 +61,17 @@ impl Declared {
     }
 }
 
-struct Module<'a> {
-    text: Cursor<'a>,
+/// What a module declares, in room that stays from one to the next.
+#[derive(Default)]
+pub struct Room {
     listed: Vec<Net>,
     /// By the number of the name.
     declared: Vec<Option<Declared>>,
+}
+
+struct Module<'a> {
+    text: Cursor<'a>,
+    room: &'a mut Room,
     circuit: &'a mut Circuit,
 }
 
@@ -73,12 +85,11 @@ impl Module<'_> {
         self.name()?;
         self.text.must(b" (")?;
         if !self.text.takes(b");\n") {
-            let mut listed = Vec::new();
             self.list(|module| {
-                listed.push(module.name()?);
+                let name = module.name()?;
+                module.room.listed.push(name);
                 Some(())
             })?;
-            self.listed = listed;
             self.text.must(b");\n")?;
         }
         while self.text.takes(b"  ") {
@@ -142,11 +153,11 @@ impl Module<'_> {
         if role == Role::Input {
             new.nets().for_each(|net| self.circuit.drive(net));
         }
-        if self.declared.len() < self.circuit.nets.count() {
+        if self.room.declared.len() < self.circuit.nets.count() {
             let more = 2 * self.circuit.nets.count();
-            self.declared.resize(more, None);
+            self.room.declared.resize(more, None);
         }
-        let known = self.declared[name as usize].replace(new);
+        let known = self.room.declared[name as usize].replace(new);
         known.is_none().then_some(())
     }
 
@@ -172,7 +183,7 @@ impl Module<'_> {
     #[inline(always)]
     fn net(&mut self) -> Option<Net> {
         let name = self.name()? as usize;
-        let Declared { first, width, .. } = (*self.declared.get(name)?)?;
+        let Declared { first, width, .. } = (*self.room.declared.get(name)?)?;
         let Some(width) = width else {
             return Some(first);
         };
@@ -208,8 +219,9 @@ impl Module<'_> {
 
     /// The ports in the order in which the module lists them, the bits of a vector from 0 on.
     fn ports(self, loops: bool) -> Result<(), String> {
-        let (circuit, mut declared, text) = (self.circuit, self.declared, self.text.text());
-        for name in self.listed {
+        let (circuit, text) = (self.circuit, self.text.text());
+        let Room { listed, declared } = self.room;
+        for &mut name in listed {
             let named = declared.get_mut(name as usize).and_then(Option::take);
             let Some(port) = named.filter(|declared| declared.role != Role::Wire) else {
                 let name = circuit.nets.label(name).told(text);
