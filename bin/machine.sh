@@ -1,6 +1,6 @@
 # Sourced by progress.sh and .ci/run: how many of rt's jobs (a crate that is proved, an edit that is tried) this machine has room for, and
 # where their temporary files go.
-job_memory=3000 # megabytes; 2,800 were seen
+job_memory=1500 # megabytes: most jobs take up to 1,300; those that take up to 2,800, exports and the programs, never come many at a time
 job_files=600   # megabytes: a crate's check copies thousands of files of what it is built on
 
 # The memory that is free, in megabytes: the machine's, or less where this process may have less.
@@ -11,12 +11,12 @@ free_memory() {
   echo $((limit && limit < free ? limit : free))
 }
 
-# How many jobs at a time so much memory is enough for: FREE A_JOB, in megabytes. rt goes by batches and waits for each: with six at a time
+# How many jobs at a time so much memory is enough for: FREE A_JOB, in megabytes. rt goes by batches and waits for each: with ten at a time
 # two processors are rarely idle.
 jobs_within() {
   local jobs=$(($1 / $2)) most
   most=$(nproc)
-  if ((most < 6)); then most=6; fi
+  if ((most < 10)); then most=10; fi
   echo $((jobs < 1 ? 1 : jobs > most ? most : jobs))
 }
 

@@ -95,7 +95,7 @@ typedef struct unloop_span {
     size_t length;
 } unloop_span;
 
-/* Read: text to block; count: the block's words. 1, 2, 3, 4, 5, 11. Stack: 160 KiB. */
+/* Read: text to block; count: the block's words. 1, 2, 3, 4, 5, 11. Stack: 128 KiB. */
 unloop_reply unloop_read(const uint8_t *text, size_t text_length, uint16_t *block, size_t block_length);
 
 /* Write: block to text, ASCII without a zero at its end; gate j is called _ and j in decimal; count: bytes. 6, 11. Stack: 16 KiB. */

@@ -10,12 +10,19 @@ mod difference;
 mod interface;
 mod netlist;
 mod nets;
+mod order;
+mod original;
 mod simulation;
 mod verilog;
 
 pub use difference::{Difference, Shown};
 
 use circuit::Circuit;
+use interface::Read;
+use order::Order;
+use original::Original;
+use simulation::Simulation;
+use std::cell::RefCell;
 
 /// What a text is written in.
 #[derive(Debug, Clone, Copy, PartialEq, Eq)]
@@ -60,17 +67,50 @@ impl Form<'_> {
 /// assert_eq!(wrong.to_string(), "with s = 0 it shows y = 1, and the original simulated again shows y = 0");
 /// ```
 pub fn agrees(original: &[u8], written: &[u8], form: Form) -> Result<(), Difference> {
-    let ours = netlist::read(original, true).map_err(Difference::Original)?;
-    let theirs = read(written, form).map_err(Difference::Unreadable)?;
-    interface::same(&ours, &theirs, form)?;
-    simulation::same(&ours, &theirs)
+    ROOMS.with_borrow_mut(|rooms| rooms.agree(original, written, form))
 }
 
-fn read<'a>(written: &'a [u8], form: Form) -> Result<Circuit<'a>, String> {
+thread_local! {
+    static ROOMS: RefCell<Rooms> = RefCell::default();
+}
+
+/// What a look fills, which stays from one text to the next: so nothing is allocated for each, and an original that several texts are made of
+/// is read and simulated once.
+#[derive(Default)]
+struct Rooms {
+    original: Original,
+    written: Circuit,
+    order: Order,
+    simulation: Simulation,
+    module: verilog::Room,
+}
+
+impl Rooms {
+    fn agree(&mut self, original: &[u8], written: &[u8], form: Form) -> Result<(), Difference> {
+        self.original.read(original, &mut self.simulation)?;
+        let circuit = &mut self.written;
+        circuit.begin();
+        read(written, form, circuit, &mut self.module).map_err(Difference::Unreadable)?;
+        let theirs = Read {
+            circuit,
+            text: written,
+        };
+        interface::same(self.original.as_read(), theirs, form)?;
+        let rooms = (&mut self.simulation, &mut self.order);
+        self.original.shows_the_same(&self.written, rooms)
+    }
+}
+
+fn read(
+    written: &[u8],
+    form: Form,
+    circuit: &mut Circuit,
+    module: &mut verilog::Room,
+) -> Result<(), String> {
     match form.language {
-        Language::Netlist => netlist::read(written, form.loops),
-        Language::Verilog => verilog::read(written, form.loops),
-        Language::Blif => blif::read(written, form.loops),
-        Language::Cells => cells::read(written),
+        Language::Netlist => netlist::read(written, form.loops, circuit),
+        Language::Verilog => verilog::read(written, form.loops, circuit, module),
+        Language::Blif => blif::read(written, form.loops, circuit),
+        Language::Cells => cells::read(written, circuit),
     }
 }

@@ -31,7 +31,7 @@ if [ "$2" = --version ]; then ! grep -qx "missing $1" fails; exit; fi
 package=
 for word; do case $word in */Cargo.toml) package=${word%/Cargo.toml} ;; esac; done
 call="${0##*/}${package:+ $1 $package}"
-case $* in *--test=other*) call+=' --test=other' ;; --others) call+=' --others' ;; esac
+case $* in *--test=other*) call+=' --test=other' ;; --others | --library) call+=" $1" ;; esac
 echo "$call" >> calls
 ! grep -qx "$call" fails
 "#;
@@ -65,7 +65,7 @@ const IN_ORDER: [&str; 11] = [
     "cargo fmt tests",
     "cargo fmt perf",
     "rt ci",
-    "rt staticlib exports",
+    "levels --library",
     "probes",
     "cargo clippy rust",
     "cargo clippy tests",
@@ -118,7 +118,7 @@ fn failures() {
         "rt fmt",
         "cargo fmt tests",
         "rt ci",
-        "rt staticlib",
+        "levels --library",
         "probes",
         "cargo clippy rust",
         "cargo clippy perf",

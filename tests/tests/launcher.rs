@@ -508,7 +508,7 @@ fn machine(scratch: &Scratch, line: &str) -> String {
     String::from_utf8(ended.stdout).unwrap()
 }
 
-/// As many jobs as there is memory for, one at least, and six at most where there are not more processors.
+/// As many jobs as there is memory for, one at least, and ten at most where there are not more processors.
 #[test]
 fn jobs_follow_the_memory() {
     let scratch = repository();
@@ -521,7 +521,7 @@ fn jobs_follow_the_memory() {
         (11_999, 3),
         (12_000, 4),
         (18_000, 6),
-        (99_999, 6),
+        (99_999, 10),
     ] {
         let line = format!("jobs_within {megabytes} 3000");
         assert_eq!(machine(&scratch, &line), format!("{jobs}\n"), "{megabytes}");

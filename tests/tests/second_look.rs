@@ -421,6 +421,8 @@ fn texts_that_are_spoiled_otherwise() {
         (Language::Netlist, "(nand a b)", "(nand b)"),
         (Language::Verilog, "nand (_0, a, b)", "nand (_0, a, _1)"),
         (Language::Verilog, "nand (_0, a, b)", "nand (_0, a, c)"),
+        (Language::Verilog, "nand (_0, a, b)", "nand (_0, a, a:)"),
+        (Language::Verilog, "nand (_0, a, b)", "nand (_0, a, 0)"),
         (Language::Verilog, "(a, b, y, z)", "(b, a, y, z)"),
         (Language::Verilog, "assign z = a", "assign z = y"),
         (Language::Verilog, "  assign z = a;\n", ""),
@@ -438,6 +440,18 @@ fn texts_that_are_spoiled_otherwise() {
         (Language::Blif, ".names a b _0\n11 0", ".names a b _0\n10 0"),
         (Language::Blif, ".names a b _0\n11 0", ".names a b _0\n11 1"),
         (Language::Blif, ".names a b _0\n11 0", ".names a b _0\n1- 0"),
+        (Language::Blif, ".names a b _0\n11 0", ".names a b _0\n11!0"),
+        (
+            Language::Blif,
+            ".names a b _0\n11 0",
+            ".names a b _0\n11 00",
+        ),
+        (
+            Language::Blif,
+            ".names a b _0\n11 0",
+            ".names a b _0\n11 0\n11 1",
+        ),
+        (Language::Blif, ".names a b _0", ".names a b  _0"),
         (Language::Blif, ".inputs a b", ".inputs b a"),
         (Language::Blif, ".outputs y z", ".outputs y"),
         (Language::Blif, ".names _0 _1", ".latch _0 _1"),
@@ -451,6 +465,9 @@ fn texts_that_are_spoiled_otherwise() {
         (Language::Cells, "\n2 65534", "\n2 65535"),
         (Language::Cells, "\n2 65534", "\n2 x"),
         (Language::Cells, " 21845", " 43690"),
+        (Language::Cells, " 21845", " 0021845"),
+        (Language::Cells, " 21845", " 2184:"),
+        (Language::Cells, " 21845", " 87381"),
         (Language::Cells, " 21845", ""),
     ] {
         let text = String::from_utf8(written(&rendering, language)).unwrap();
@@ -466,6 +483,61 @@ fn texts_that_are_spoiled_otherwise() {
             same,
             "{from} -> {to}: {looked:?}\n{spoiled}"
         );
+    }
+}
+
+/// Names of pins that differ in their last letter alone, or of which one is the other and a sign behind it: a gate that reads one of them
+/// twice is told from one that reads both.
+#[test]
+fn names_that_are_nearly_the_same() {
+    let original = b"(in a)\n(in b)\n(gate p (and a b))\n(out y p)\n";
+    let (told, words) = read(original, BLOCK_WORDS);
+    assert_eq!(told.number, 0);
+    let rendering = copied(&Block::from_words(&words));
+    let made = unloop::Block::from_words(rendering.to_words()).expect("a block");
+    let letters = "abcdefghijklmnopqrst";
+    let by_length = (1..letters.len()).map(|length| {
+        let name = &letters[..length];
+        (name.to_string(), name[..length - 1].to_string() + "z")
+    });
+    let signs = [";", ")", ":", "[", "]", "\\", "."];
+    let with_a_sign = signs.map(|sign| (format!("x{sign}"), "x".to_string()));
+    let digits = [("1".to_string(), "0".to_string())];
+    for (first, second) in by_length.chain(with_a_sign).chain(digits) {
+        let mut labels = unloop::Labels::from(&unloop::module_name("m"));
+        let pins = [("a", &first), ("b", &second)];
+        labels.names.inputs = pins
+            .map(|(pin, name)| (pin.to_string(), name.clone()))
+            .to_vec();
+        for language in [Language::Verilog, Language::Blif] {
+            let text = match language {
+                Language::Verilog => unloop::verilog(&made, labels.clone()),
+                _ => unloop::blif(&made, labels.clone()),
+            };
+            let form = Form {
+                pins: &labels.names.inputs,
+                ..Form::rendering(language)
+            };
+            assert_eq!(agrees(original, text.as_bytes(), form), Ok(()), "{text}");
+            let mut lines: Vec<String> = text.lines().map(str::to_string).collect();
+            let gate = lines
+                .iter_mut()
+                .find(|line| line.contains("_0") && line.contains(&first));
+            let gate = gate.expect("a gate's line");
+            *gate = match language {
+                Language::Verilog => {
+                    let start = gate.find(", ").unwrap();
+                    let (net, pin) = (gate[..start].to_string(), &gate[start + 2..]);
+                    let pin = &pin[..pin.find(", ").unwrap()];
+                    format!("{net}, {pin}, {pin});")
+                }
+                _ => format!(".names {first} {first} _0"),
+            };
+            let spoiled = lines.join("\n") + "\n";
+            let looked = agrees(original, spoiled.as_bytes(), form);
+            let found = matches!(looked, Err(Difference::Value { .. }));
+            assert!(found, "{looked:?}\n{spoiled}");
+        }
     }
 }
 

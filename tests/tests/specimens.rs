@@ -45,6 +45,13 @@ fn specimen_2() {
     assert_eq!(unloop(b"(in a)"), b"(refused 2 6)\n");
 }
 
+/// 9.2: a text as long as a text may be, and one byte longer: 1 comes before 2.
+#[test]
+fn texts_at_the_limit() {
+    refused(&"\0".repeat(61_441), 1, 0);
+    refused(&"\0".repeat(61_440), 2, 0);
+}
+
 #[test]
 fn specimen_3() {
     refused("(in a)\n(in a)\n", 4, 11);

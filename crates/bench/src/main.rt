@@ -1,18 +1,18 @@
-// The program `bench`: moves bytes from standard input to `bench_session`, and the answers to standard output. What is there
-// is read and answered at once, so that it serves a terminal and a pipe. A proved loop has to end, and nothing says
-// that the input does: the loop over reads counts down from a number that no run uses up.
-use bench_session::ANSWER_BYTES;
-use bench_session::LINE_BYTES;
-use bench_session::State;
+// The program `bench`: moves bytes from standard input to `bench_session`, and the answers to standard output. What is
+// there is read and answered at once, so that it serves a terminal and a pipe. A proved loop has to end, and nothing
+// says that the input does: the loop over reads counts down from a number that no run uses up.
 use bench_session::feed;
 use bench_session::finish;
-use bench_session::is_over;
-use bench_session::start;
+use bench_state::ANSWER_BYTES;
+use bench_state::LINE_BYTES;
+use bench_state::State;
+use bench_state::is_over;
+use bench_state::start;
 use graph_gates::GRAPH_WORDS;
 use graph_gates::fanout::FANOUT_WORDS;
 use words_layout::limits::BLOCK_WORDS;
 use words_layout::limits::MAX_TEXT;
-ghost use Rattle.bench_session.specs.Session.{Unprepared, SessionReady, SessionRoom};
+ghost use Rattle.bench_state.specs.Session.{Unprepared, SessionReady, SessionRoom};
 
 // What serving some input came to: the state after it, and whether to read on.
 struct Served {
@@ -32,7 +32,8 @@ fn serve_piece(
     out: &mut [u8],
 ) -> State
     requires { ⌜ SessionReady state (now text) (now words) (now graph) (now fanout) (now line) (now out) ⌝ }
-    ensures { λ r. ⌜ SessionReady r (now (text .exit)) (now (words .exit)) (now (graph .exit)) (now (fanout .exit)) (now (line .exit)) (now (out .exit)) ⌝ }
+    ensures { λ r. ⌜ SessionReady r (now (text .exit)) (now (words .exit)) (now (graph .exit)) (now (fanout .exit))
+        (now (line .exit)) (now (out .exit)) ⌝ }
 {
     let mut state = state;
     let mut at = 0;
@@ -56,8 +57,9 @@ fn serve_some(
     out: &mut [u8],
 ) -> Served
     requires { ⌜ SessionReady state (now text) (now words) (now graph) (now fanout) (now line) (now out) ⌝ }
-    ensures { λ r. ⌜ SessionReady (r .state) (now (text .exit)) (now (words .exit)) (now (graph .exit)) (now (fanout .exit)) (now
-        (line .exit)) (now (out .exit)) ⌝ }
+    ensures { λ r. ⌜ SessionReady (r .state) (now (text .exit)) (now (words .exit)) (now (graph .exit))
+        (now (fanout .exit))
+        (now (line .exit)) (now (out .exit)) ⌝ }
 {
     let mut piece = io::buffer();
     let n = io::count(libc::read(0, &mut piece), &piece);

@@ -1,5 +1,3 @@
--- Laws that the proofs of this crate cite: the room for an answer, what the netlist's end and a line's end give, the
--- bytes of a piece.
-pub mod Answers
-pub mod Steps
-pub mod Bytes
+-- Laws that the proofs of this crate cite: the cases of the state, and the bytes of a piece. Assumes nothing.
+mod Steps
+mod Bytes

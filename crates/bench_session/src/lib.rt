@@ -1,73 +1,23 @@
-// The bench in pieces of its input: the state goes in by value and comes back, the buffers are lent. `start` gives the
-// first state, `feed` takes a piece of input up to the first answer in it, `finish` answers what is left at the input's
-// end. A block is tested and prepared once, when it is read: `graph` and `fanout` are room for what is prepared.
-// Whatever the pieces, what is written is the bench's output (`pieces-bench` in crates/bench_stream).
+// The bench in pieces of its input: the state goes in by value and comes back, the buffers are lent. `feed` takes a
+// piece of input up to the first answer in it, `finish` answers what is left at the input's end. A block is tested and
+// prepared once, when it is read: `graph` and `fanout` are room for what is prepared. Whatever the pieces, what is
+// written is the bench's output (`pieces-bench` in crates/bench_stream).
+use bench_line_part::end_line;
+use bench_line_part::line_byte;
+use bench_netlist_part::end_netlist;
+use bench_netlist_part::netlist_byte;
+use bench_state::Fed;
+use bench_state::State;
 use graph_gates::GRAPH_WORDS;
 use graph_gates::fanout::FANOUT_WORDS;
-use netlist_part::end_netlist;
-use netlist_part::netlist_byte;
-use set_lines::end_line;
-use set_lines::line_byte;
-use words_layout::limits::MAX_INPUTS;
-use words_layout::limits::MAX_NAME;
-use words_layout::limits::MAX_OUTPUTS;
-ghost use mathlib.Core.Path.{_≡_};
-ghost use lib.ListN.{length};
 ghost use Rattle.bench_stream.specs.Runs.{turn, ending};
-ghost use Rattle.bench_session.specs.Session.{runOf, hasEnded, SessionReady, Fresh, AnswerWritten, SessionStepped, Advanced};
-
-mod netlist_part;
-mod set_lines;
-
-// The bytes of a line that are held: `(set`, a pair for each input, `)`, LF, and one more, which shows that the line is
-// longer. Room for the buffer `line`.
-pub const LINE_BYTES: usize = 4 + (MAX_NAME + 5) * MAX_INPUTS + 2 + 1;
-
-// The bytes of the longest answer: `(show`, a pair for each output, `)` and LF. Room for the buffer `out`.
-pub const ANSWER_BYTES: usize = 5 + (MAX_NAME + 5) * MAX_OUTPUTS + 2;
-
-// Where a run stands.
-pub enum State {
-    // In the netlist: the bytes of it that are held, and whether the next one stands at its beginning or behind an LF.
-    Netlist { length: usize, fresh: bool },
-    // In the set lines: the block's words, and the bytes of the line that are held.
-    Lines { words: usize, length: usize },
-    // Behind a refused netlist.
-    Ended,
-}
-
-// The next state, and how many bytes of an answer stand in the buffer.
-pub struct Fed {
-    pub state: State,
-    pub written: usize,
-}
+ghost use Rattle.bench_state.specs.Session.{runOf, SessionReady, AnswerWritten, SessionStepped, Advanced};
 
 // The next state, how many bytes of an answer stand in the buffer, and how many bytes of the piece were taken.
 pub struct Progress {
     pub state: State,
     pub taken: usize,
     pub written: usize,
-}
-
-// The state before the first byte.
-pub fn start() -> State
-    ensures { λ r. ⌜ Fresh r ⌝ }
-{
-    State::Netlist {
-        length: 0,
-        fresh: true,
-    }
-}
-
-// Whether the run is over before its input ends: behind a refused netlist nothing is written any more.
-pub fn is_over(state: State) -> bool
-    ensures { λ r. ⌜ r ≡ hasEnded state ⌝ }
-{
-    if let State::Ended = state {
-        true
-    } else {
-        false
-    }
 }
 
 // Feeds one byte of input.
@@ -82,8 +32,10 @@ fn feed_byte(
     out: &mut [u8],
 ) -> Fed
     requires { ⌜ SessionReady state (now text) (now words) (now graph) (now fanout) (now line) (now out) ⌝ }
-    ensures { λ r. ⌜ SessionStepped (turn (runOf state (now (text .entry)) (now (words .entry)) (now (line .entry))) byte) (r .state) (now (text .exit))
-        (now (words .exit)) (now (graph .exit)) (now (fanout .exit)) (now (line .exit)) (now (out .exit)) (r .written) ⌝ }
+    ensures { λ r. ⌜ SessionStepped (turn (runOf state (now (text .entry)) (now (words .entry)) (now (line .entry)))
+        byte) (r .state) (now (text .exit))
+        (now (words .exit)) (now (graph .exit)) (now (fanout .exit)) (now (line .exit)) (now (out .exit))
+        (r .written) ⌝ }
 {
     match state {
         State::Netlist { length, fresh } => {
@@ -113,8 +65,10 @@ pub fn feed(
     out: &mut [u8],
 ) -> Progress
     requires { ⌜ SessionReady state (now text) (now words) (now graph) (now fanout) (now line) (now out) ⌝ }
-    ensures { λ r. ⌜ Advanced (runOf state (now (text .entry)) (now (words .entry)) (now (line .entry))) (now (piece .entry)) (r .state)
-        (now (text .exit)) (now (words .exit)) (now (graph .exit)) (now (fanout .exit)) (now (line .exit)) (now (out .exit)) (r .taken) (r .written) ⌝ }
+    ensures { λ r. ⌜ Advanced (runOf state (now (text .entry)) (now (words .entry)) (now (line .entry)))
+        (now (piece .entry)) (r .state)
+        (now (text .exit)) (now (words .exit)) (now (graph .exit)) (now (fanout .exit)) (now (line .exit))
+        (now (out .exit)) (r .taken) (r .written) ⌝ }
 {
     let mut state = state;
     let mut taken = 0;
@@ -143,7 +97,8 @@ pub fn finish(
     out: &mut [u8],
 ) -> usize
     requires { ⌜ SessionReady state (now text) (now words) (now graph) (now fanout) (now line) (now out) ⌝ }
-    ensures { λ r. ⌜ AnswerWritten (ending (runOf state (now (text .entry)) (now (words .entry)) (now (line .entry)))) (now (out .exit)) r ⌝ }
+    ensures { λ r. ⌜ AnswerWritten (ending (runOf state (now (text .entry)) (now (words .entry)) (now (line .entry))))
+        (now (out .exit)) r ⌝ }
 {
     match state {
         State::Netlist { length, fresh: _ } => end_netlist(length, text, words, graph, fanout, out),

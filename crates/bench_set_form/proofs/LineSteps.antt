@@ -1,7 +1,7 @@
 -- Set lines: one law for each way through the code that reads them. Assumes nothing.
 use mathlib.Core.Path.{_≡_, refl, sym, ap, _∙_}
 use mathlib.Core.List.{List, [], _∷_}
-use Prim.Native.Nat.{ℕ, suc, _-_}
+use Prim.Native.Nat.{ℕ, suc, _-_, _≤_}
 use native.Mathlib.Nat.{le-refl}
 use native.Mathlib.Omega.{arith}
 use lib.ListN.{length}
@@ -12,44 +12,68 @@ use Rattle.netlist.specs.SetLine.{setLineReader}
 use Rattle.netlist.specs.declared.Refusal.the-variants.{SyntaxError}
 use Rattle.words_refusals.specs.declared.Test.the-variants.{Passed, Failed}
 use Rattle.words_refusals.specs.Tests.{testAt}
-use Rattle.text_recogniser.specs.declared.Scan.{Scan}
-use Rattle.text_recogniser.specs.declared.Scan.the-variants.{Next, Bad}
-use Rattle.text_recogniser.specs.Scan.{scanOf, badOf, wordReader}
-use Rattle.text_recogniser.proofs.Shortens.{Leaves, tail-refl, Shortens, shortens-expect, shortens-bind}
-use Rattle.text_recogniser.proofs.Continues.{Continues, continues-bind, continues-word, continues-same}
-use Rattle.text_recogniser.proofs.PairSteps.{shortens-pairs}
-use Rattle.bench_set_form.specs.Line.{firstBadInSetLine, lineLast}
+use Rattle.text_scan.specs.declared.Scan.{Scan}
+use Rattle.text_scan.specs.declared.Scan.the-variants.{Next, Bad}
+use Rattle.text_scan.specs.Scan.{scanOf, scanBehind, lastOnes, badOf, wordReader}
+use Rattle.text_scan.proofs.ListFacts.{length-last}
+use Rattle.text_scan.proofs.Shortens.{Leaves, tail-refl, Shortens, shortens-expect, shortens-bind}
+use Rattle.text_scan.proofs.Continues.{continues-bind, continues-word, continues-same}
+use Rattle.text_scan.proofs.Chain.{Then, word-then, At}
+use Rattle.text_pair_form.proofs.PairSteps.{shortens-pairs}
+use Rattle.bench_set_form.specs.Line.{firstBadInSetLine}
 
-pub last-word : Continues lineLast (wordReader (ascii "\n")) (λ t. scanOf {A = ℕ} (nothingBehind 0 t))
+-- the LF that ends a set line
+unfoldable pub lineLast : Reader ℕ
+lineLast = expect (ascii "\n") (nothingBehind 0)
+
+pub last-word : Then lineLast (wordReader (ascii "\n")) (nothingBehind {A = ℕ} 0)
 unfolding lineLast
-last-word = continues-word (ascii "\n") (nothingBehind 0)
+last-word = word-then (ascii "\n") (nothingBehind 0)
 
 nothing-scan : {A B : Type 0} (a : A) (b : B) (t : List ℕ) → scanOf (nothingBehind a t) ≡ scanOf (nothingBehind b t)
 nothing-scan a b [] = refl
 nothing-scan a b (c ∷ t) = refl
 
-pub nothing-left : (t : List ℕ) (n : ℕ) → length t ≡ n → n ≡ 0 → scanOf {A = ℕ} (nothingBehind 0 t) ≡ Next 0
+nothing-left : (t : List ℕ) (n : ℕ) → length t ≡ n → n ≡ 0 → scanOf {A = ℕ} (nothingBehind 0 t) ≡ Next 0
 nothing-left [] n e z = refl
 nothing-left (c ∷ t) n e z = absurd (omega arith)
 
-pub something-left : (t : List ℕ) (n : ℕ) → length t ≡ n → (n ≡ 0 → ⊥) → scanOf {A = ℕ} (nothingBehind 0 t) ≡ Bad n
+something-left : (t : List ℕ) (n : ℕ) → length t ≡ n → (n ≡ 0 → ⊥) → scanOf {A = ℕ} (nothingBehind 0 t) ≡ Bad n
 something-left [] n e z = absurd (z (sym e))
 something-left (c ∷ t) n e z = ap Bad e
+
+-- behind the LF: nothing is left, or something
+module _ {answer : Scan} {s : List ℕ} {x : Scan} (a : At answer s x (nothingBehind {A = ℕ} 0)) {n : ℕ}
+    (e : x ≡ Next n) where
+  pub line-over : n ≡ 0 → Next 0 ≡ answer
+  line-over z =
+      sym
+      (a .is-rest ∙ ap (scanBehind (nothingBehind {A = ℕ} 0) s) e
+      ∙ nothing-left (lastOnes n s) n (length-last n s (omega arith)) z)
+
+  pub line-goes-on : n ≤ length s → (n ≡ 0 → ⊥) → Bad n ≡ answer
+  line-goes-on h z =
+      sym
+      (a .is-rest ∙ ap (scanBehind (nothingBehind {A = ℕ} 0) s) e
+      ∙ something-left (lastOnes n s) n (length-last n s h) z)
 
 module _ (most : ℕ) where
   -- behind `(set`
   unfoldable pub setPairs : Reader (List Pair)
   setPairs = bind (pairsReader most 0) (λ ps. expect (ascii "\n") (nothingBehind ps))
 
-  pub set-word : Continues (setLineReader most) (wordReader (ascii "(set")) (λ t. scanOf (setPairs t))
+  pub set-word : Then (setLineReader most) (wordReader (ascii "(set")) setPairs
   unfolding setLineReader setPairs
-  set-word = continues-word (ascii "(set") (bind (pairsReader most 0) (λ ps. expect (ascii "\n") (nothingBehind ps)))
+  set-word = word-then (ascii "(set") (bind (pairsReader most 0) (λ ps. expect (ascii "\n") (nothingBehind ps)))
 
-  pub set-pairs : Continues setPairs (pairsReader most 0) (λ t. scanOf (lineLast t))
+  pub set-pairs : Then setPairs (pairsReader most 0) lineLast
   unfolding setPairs lineLast
-  set-pairs = continues-bind (pairsReader most 0) _ _ (λ ps t.
-      continues-same (continues-word (ascii "\n") (nothingBehind ps)) (nothing-scan ps 0) .goes-on t
-      ∙ sym (last-word .goes-on t))
+  set-pairs = record {
+    goes = continues-bind (pairsReader most 0) _ _ (λ ps t.
+        continues-same (continues-word (ascii "\n") (nothingBehind ps)) (nothing-scan ps 0) .goes-on t
+        ∙ sym (last-word .goes .goes-on t));
+    shorter = shortens-pairs most 0;
+  }
 
   pub line-passed : (line : List ℕ) {r : Scan} {n : ℕ} → r ≡ scanOf (setLineReader most line) → r ≡ Next n
       → Passed ≡ testAt (firstBadInSetLine most line) SyntaxError

@@ -1,2 +1,2 @@
--- What the contracts of this crate add to the definitions of `netlist` and of crates/text_recogniser.
+-- What the contracts of this crate add to the definitions of `netlist` and of crates/text_scan.
 pub mod Line

@@ -26,9 +26,9 @@ use Rattle.netlist.specs.Names.{isNameByte, isLetter, isDigit, isUnderscore}
 use Rattle.netlist.specs.Syntax.{Pair, printPair, isLegalPair, printLines}
 use Rattle.netlist.specs.SetLine.{printSetLine, isLegalSetLine}
 use Rattle.netlist.specs.Bench.{givenValues}
-use Rattle.text_symbols.specs.Packed.{packed, nameFront}
+use Rattle.text_names.specs.Packed.{packed, nameFront}
 use Rattle.theory_fixpoint.proofs.Values.{code-le}
-use Rattle.text_symbols.specs.Search.{indexOf}
+use Rattle.text_names.specs.Search.{indexOf}
 use Rattle.graph_simulation.specs.Rounded.{Bytes}
 use Rattle.text_pairs.specs.PairBytes.{givenCode, inputCode}
 use Rattle.text_pairs.specs.Tables.{PairsAt, PairRoom, PairsTabled, InputsAre}

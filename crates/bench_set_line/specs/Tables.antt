@@ -18,7 +18,7 @@ use Rattle.words_refusals.specs.declared.Test.{Test}
 use Rattle.words_refusals.specs.declared.Test.the-variants.{Passed, Failed}
 use Rattle.words_refusals.specs.Tests.{testAt}
 use Rattle.graph_simulation.specs.Rounded.{Starting}
-use Rattle.text_symbols.specs.Packed.{packed, nameFront}
+use Rattle.text_names.specs.Packed.{packed, nameFront}
 use Rattle.text_pairs.specs.Tables.{PairsTabled, InputsAre}
 
 -- the place of the first pair's space, behind the word

@@ -1,6 +1,6 @@
 // The names of a block's inputs as numbers.
+use text_names::pack::pack;
 use text_pieces::name_bytes;
-use text_symbols::pack::pack;
 use words_layout::offsets::INPUTS_AT;
 use words_layout::offsets::NAME_SIZE;
 ghost use mathlib.Core.Path.{_≡_};

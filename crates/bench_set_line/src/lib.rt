@@ -44,9 +44,11 @@ fn read_tables(
     inputs: &[u64],
     values: &mut [u8; PLACES],
 ) -> Test
-    requires { ⌜ SetTablesReady (now words) (now names) (now places) (now codes) count (now inputs) × Blank (now values) ⌝ }
+    requires { ⌜ SetTablesReady (now words) (now names) (now places) (now codes) count (now inputs)
+        × Blank (now values) ⌝ }
     ensures { λ r. ⌜ ((ps : List Pair)
-        → TablesFor (now (words .entry)) ps (now (names .entry)) (now (places .entry)) (now (codes .entry)) count (now (inputs .entry))
+        → TablesFor (now (words .entry)) ps (now (names .entry)) (now (places .entry)) (now (codes .entry)) count
+        (now (inputs .entry))
         → LineRead (now (words .entry)) ps r (now (values .exit))) ⌝ }
 {
     let n = inputs_of(words);
@@ -76,7 +78,8 @@ fn read_with(
 ) -> Test
     requires { ⌜ InForm (now words) (now line) × Blank (now values) ⌝ }
     requires { ⌜ SetTableRoom (now names) (now places) (now codes) (now inputs) ⌝ }
-    ensures { λ r. ⌜ ((ps : List Pair) → LineFor (now (words .entry)) ps (now (line .entry)) → LineRead (now (words .entry)) ps r (now (values .exit))) ⌝ }
+    ensures { λ r. ⌜ ((ps : List Pair) → LineFor (now (words .entry)) ps (now (line .entry))
+        → LineRead (now (words .entry)) ps r (now (values .exit))) ⌝ }
 {
     let count = fill_pairs(line, PAIRS_AT, names, places, codes);
     fill_inputs(words, inputs_of(words), inputs);
@@ -86,7 +89,8 @@ fn read_with(
 // Reads the pairs of a line in form: makes room for the tables of at most MAX_INPUTS pairs.
 fn read_pairs(words: &[u16], line: &[u8], values: &mut [u8; PLACES]) -> Test
     requires { ⌜ InForm (now words) (now line) × Blank (now values) ⌝ }
-    ensures { λ r. ⌜ ((ps : List Pair) → LineFor (now (words .entry)) ps (now (line .entry)) → LineRead (now (words .entry)) ps r (now (values .exit))) ⌝ }
+    ensures { λ r. ⌜ ((ps : List Pair) → LineFor (now (words .entry)) ps (now (line .entry))
+        → LineRead (now (words .entry)) ps r (now (values .exit))) ⌝ }
 {
     let mut names = [0u64; MAX_INPUTS];
     let mut places = [0usize; MAX_INPUTS];
@@ -115,7 +119,8 @@ fn answer_with(
     out: &mut [u8],
 ) -> Answer
     requires { ⌜ BlockReady (now words) (now table) (now graph) (now fanout) × Blank (now values) ⌝ }
-    ensures { λ r. ⌜ Promise (answerLine (now (words .entry)) (now (line .entry)) (length (now (out .entry)))) (now (out .entry)) r (now (out .exit)) ⌝ }
+    ensures { λ r. ⌜ Promise (answerLine (now (words .entry)) (now (line .entry)) (length (now (out .entry))))
+        (now (out .entry)) r (now (out .exit)) ⌝ }
 {
     let tested = test_set_line(line, inputs_of(words));
     let Test::Passed = tested else {
@@ -139,7 +144,8 @@ pub fn answer_line(
     out: &mut [u8],
 ) -> Answer
     requires { ⌜ BlockReady (now words) (now table) (now graph) (now fanout) ⌝ }
-    ensures { λ r. ⌜ Promise (answerLine (now (words .entry)) (now (line .entry)) (length (now (out .entry)))) (now (out .entry)) r (now (out .exit)) ⌝ }
+    ensures { λ r. ⌜ Promise (answerLine (now (words .entry)) (now (line .entry)) (length (now (out .entry))))
+        (now (out .entry)) r (now (out .exit)) ⌝ }
 {
     let mut values = [UNDEFINED; PLACES];
     answer_with(words, table, graph, fanout, line, &mut values, out)

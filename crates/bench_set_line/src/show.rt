@@ -53,7 +53,8 @@ fn put_port(
 ) -> usize
     requires { ⌜ PortOf (now words) from o ⌝ }
     requires { ⌜ Short (portPiece (now words) from (now values) o) at ⌝ }
-    ensures { λ r. ⌜ Appended (portPiece (now (words .entry)) from (now (values .entry)) o) (now (text .entry)) at (now (text .exit)) r ⌝ }
+    ensures { λ r. ⌜ Appended (portPiece (now (words .entry)) from (now (values .entry)) o) (now (text .entry)) at
+        (now (text .exit)) r ⌝ }
 {
     let port = from + OUTPUT_SIZE * o;
     let value = shown_value(words, inputs_of(words), port, values);
@@ -74,7 +75,8 @@ fn put_ports(
 ) -> usize
     requires { ⌜ PortsOf (now words) from k ⌝ }
     requires { ⌜ Short (pieces (portPiece (now words) from (now values)) k) at ⌝ }
-    ensures { λ r. ⌜ Appended (pieces (portPiece (now (words .entry)) from (now (values .entry))) k) (now (text .entry)) at (now (text .exit)) r ⌝ }
+    ensures { λ r. ⌜ Appended (pieces (portPiece (now (words .entry)) from (now (values .entry))) k) (now (text .entry))
+        at (now (text .exit)) r ⌝ }
 {
     let mut end = at;
     let mut o = 0;
@@ -88,7 +90,8 @@ fn put_ports(
 // Appends `(show`, the ports and LF.
 fn put_show(text: &mut [u8], words: &[u16], values: &[u8; PLACES]) -> usize
     requires { ⌜ isMalformed (now words) ≡ false ⌝ }
-    ensures { λ r. ⌜ Appended (showText (now (words .entry)) (now (values .entry))) (now (text .entry)) 0 (now (text .exit)) r ⌝ }
+    ensures { λ r. ⌜ Appended (showText (now (words .entry)) (now (values .entry))) (now (text .entry)) 0
+        (now (text .exit)) r ⌝ }
 {
     let from = outputs_at(words);
     let k = outputs_of(words);
@@ -100,7 +103,8 @@ fn put_show(text: &mut [u8], words: &[u16], values: &[u8; PLACES]) -> usize
 // Refusal 11, and the show line. The first pass is over a text of one byte, and only measures.
 fn show_settled(words: &[u16], values: &[u8; PLACES], out: &mut [u8]) -> Answer
     requires { ⌜ isMalformed (now words) ≡ false ⌝ }
-    ensures { λ r. ⌜ Promise (inRoom (length (now (out .entry))) (counted (showText (now (words .entry)) (now (values .entry)))))
+    ensures { λ r. ⌜ Promise (inRoom (length (now (out .entry)))
+        (counted (showText (now (words .entry)) (now (values .entry)))))
         (now (out .entry)) r (now (out .exit)) ⌝ }
 {
     let mut small = [0u8; 1];
@@ -124,7 +128,8 @@ pub fn show(
 ) -> Answer
     requires { ⌜ BlockReady (now words) (now table) (now graph) (now fanout) × Unsettled (now values) ⌝ }
     ensures { λ r. ⌜ ((x : List Value) → Starting x (now (values .entry))
-        → Promise (inRoom (length (now (out .entry))) (counted (showLine (decode (now (words .entry))) x))) (now (out .entry)) r (now (out .exit))) ⌝ }
+        → Promise (inRoom (length (now (out .entry))) (counted (showLine (decode (now (words .entry))) x)))
+        (now (out .entry)) r (now (out .exit))) ⌝ }
 {
     settle_prepared(table, graph, fanout, gates_of(words), values);
     show_settled(words, values, out)

@@ -1,5 +1,5 @@
--- The theorems: a line that is held in part is answered as the whole one, a block that was read is not torn, and the
--- outputs of the
+-- The theorems: a line that is held in part is answered as the whole one, a block that was read is not malformed, and
+-- the outputs of the
 -- pieces, joined, are `bench` of the pieces joined.
 pub mod LongLines
 pub mod ReadBlocks

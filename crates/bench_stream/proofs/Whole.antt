@@ -1,5 +1,5 @@
--- What Read gives is not torn: the block of a legal tree that is within the limits, declares nothing twice and uses
--- nothing undeclared is
+-- What Read gives is not malformed: the block of a legal tree that is within the limits, declares nothing twice and
+-- uses nothing undeclared is
 -- well-formed. Assumes nothing.
 use Prim.Native.Nat.{ℕ, zero, suc, _+_, _≤_}
 use mathlib.Core.Path.{_≡_, refl, sym, ap, ap₂, _∙_}
@@ -426,7 +426,7 @@ module _ (t : Tree) (legal : isLegalTree t ≡ true) (within : isOverLimit t ≡
         nodesThere = all-map _ _ (t .outputs) ∙ shown-there (blockOf t) (bindings t) bound-there (t .outputs) _ (k .1);
       }
 
--- What Read gives is not torn.
+-- What Read gives is not malformed.
 pub read-whole : (text ws : List ℕ) (count detail : ℕ) → readText text ≡ done ws count detail → isMalformed ws ≡ false
 read-whole text ws count detail e =
     let a = read-accepted text ws count detail e in

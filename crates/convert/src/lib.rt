@@ -27,7 +27,8 @@ fn convert_rendered(words: &[u16], out: &mut [u8]) -> usize
 // Renders a block and writes the text of the rendering, or the refusal's line; gives its length.
 fn convert_block(words: &[u16], copies: &mut [u16], out: &mut [u8]) -> usize
     requires { ⌜ (maxBlock ≤ length (now copies)) × (maxWritten ≤ length (now out)) ⌝ }
-    ensures { λ r. ⌜ Shown (chained (renderWords (now (words .entry))) writeWords) (now (out .entry)) (now (out .exit)) r ⌝ }
+    ensures { λ r. ⌜ Shown (chained (renderWords (now (words .entry))) writeWords) (now (out .entry)) (now (out .exit))
+        r ⌝ }
 {
     match render(words, copies) {
         Answer::Refused(why) => tell(why, out),
@@ -37,7 +38,8 @@ fn convert_block(words: &[u16], copies: &mut [u16], out: &mut [u8]) -> usize
 
 // Reads a text, renders its block and writes the rendering's text, or the refusal's line; gives its length.
 fn convert_with(text: &[u8], block: &mut [u16], copies: &mut [u16], out: &mut [u8]) -> usize
-    requires { ⌜ (maxBlock ≤ length (now block)) × (maxBlock ≤ length (now copies)) × (maxWritten ≤ length (now out)) ⌝ }
+    requires { ⌜ (maxBlock ≤ length (now block)) × (maxBlock ≤ length (now copies))
+        × (maxWritten ≤ length (now out)) ⌝ }
     ensures { λ r. ⌜ Converted (now (text .entry)) (now (out .entry)) (now (out .exit)) r ⌝ }
 {
     match read(text, block) {

@@ -1,4 +1,5 @@
--- As many pairs of masks are entries as numbers are left in the table: each entry has its number, and each number its pair. Cited by the laws of the
+-- As many pairs of masks are entries as numbers are left in the table: each entry has its number, and each number its
+-- pair. Cited by the laws of the
 -- whole cover. Assumes nothing.
 --   keep-less, keep-injects   one number fewer passes; what maps into the numbers that pass, no two alike, is no more
 --   number-injects            the number of an assignment determines its pair
@@ -18,14 +19,14 @@ use borrow.Author.Tests.{eq-eqb, ne-eqb}
 use Rattle.prelude.specs.Lists.{keep, upTo}
 use Rattle.prelude.proofs.Tests.{eq-or-ne, and-left, and-right, and-intro}
 use Rattle.netlist.specs.Assignments.{bit, Assignment}
-use Rattle.cover_implicants.specs.Digits.{ternaryDigit, numeral}
-use Rattle.cover_implicants.specs.Over.{masks}
-use Rattle.cover_implicants.specs.Tables.{digitOf, ternaryNumber}
-use Rattle.cover_implicants.specs.Entries.{maskPairAt, withinAt, soundAt, entryBy, entriesBelow, entriesBy}
-use Rattle.cover_implicants.proofs.ListFacts.{keep-below, keep-upTo-suc}
-use Rattle.cover_implicants.proofs.Digits.{digit-lt, digit-numeral, numeral-lt, numeral-ext, numeral-digit}
-use Rattle.cover_implicants.proofs.Agree.{bit-lt, bits-eq, within-at, within-from}
-use Rattle.cover_implicants.proofs.Numbers.{digit-fixed, digit-free, number-lt, number-digit}
+use Rattle.theory_cover.specs.Digits.{ternaryDigit, numeral}
+use Rattle.theory_cover.specs.Over.{masks}
+use Rattle.theory_cover.specs.Tables.{digitOf, ternaryNumber}
+use Rattle.theory_cover.specs.Entries.{maskPairAt, withinAt, soundAt, entryBy, entriesBelow, entriesBy}
+use Rattle.theory_cover.proofs.ListFacts.{keep-below, keep-upTo-suc}
+use Rattle.theory_cover.proofs.Digits.{digit-lt, digit-numeral, numeral-lt, numeral-ext, numeral-digit}
+use Rattle.theory_cover.proofs.Agree.{bit-lt, bits-eq, within-at, within-from}
+use Rattle.theory_cover.proofs.Numbers.{digit-fixed, digit-free, number-lt, number-digit}
 
 -- how many numbers below n pass
 abbrev passing : (ℕ → Bool) → ℕ → ℕ
@@ -62,7 +63,8 @@ keep-less t x (suc n) l e = ⊎-elim last (λ ne. before ne (keep-less t x n (om
   where
     last : x ≡ n → passing t (suc n) ≡ suc (passing (but t x) (suc n))
     last q =
-        let k : keep t (upTo n) ≡ keep (but t x) (upTo n) = keep-below t (but t x) n (λ k m. sym (but-other t x k (λ r. absurd (omega arith)))) in
+        let k : keep t (upTo n) ≡ keep (but t x) (upTo n) =
+        keep-below t (but t x) n (λ k m. sym (but-other t x k (λ r. absurd (omega arith)))) in
         passing-yes t n (rw (← q) e) ∙ ap (λ (xs : List ℕ). suc (length xs)) k
         ∙ ap suc (sym (passing-no (but t x) n (rw (← q) (but-same t x))))
 
@@ -85,14 +87,18 @@ keep-injects zero n t u f into apart = omega arith
 keep-injects (suc m) n t u f into apart =
     go (λ v i. keep-injects m n t v f i (λ q r l k. apart q r (omega arith) (omega arith))) (t m) refl
   where
-    go : ((v : ℕ → Bool) → Into m n t v f → passing t m ≤ passing v n) → (b : Bool) → t m ≡ b → passing t (suc m) ≤ passing u n
+    go : ((v : ℕ → Bool) → Into m n t v f → passing t m ≤ passing v n) → (b : Bool) → t m ≡ b
+        → passing t (suc m) ≤ passing u n
     go rec false h = rw (passing-no t m h) (rec u (λ q l. into q (omega arith)))
     go rec true h =
         let here = into m (omega arith) h in
         let i : passing t m ≤ passing (but u (f m)) n =
         rec (but u (f m)) (λ q l e.
-        let there = into q (omega arith) e in
-        (there .0, but-other u (f m) (f q) (λ s. let z : q ≡ m = apart q m (omega arith) (omega arith) e h s in absurd (omega arith)) ∙ there .1)) in
+        let there = into q (omega arith) e in (
+          there .0,
+          but-other u (f m) (f q)
+              (λ s. let z : q ≡ m = apart q m (omega arith) (omega arith) e h s in absurd (omega arith)) ∙ there .1,
+        )) in
         let j : passing u n ≡ suc (passing (but u (f m)) n) = keep-less u (f m) n (here .0) (here .1) in
         rw (passing-yes t m h, j) (omega arith)
 
@@ -114,11 +120,14 @@ module _ (n : ℕ) (a b : Assignment) (inside-a : (i : ℕ) → i < n → bit (a
       ⊎-elim
       (λ (p : bit (a .fixed) i ≡ 1).
       let x : digitOf a i ≡ bit (a .ones) i = digit-fixed a i p in
-      ⊎-elim (λ (q : bit (b .fixed) i ≡ 1). let y : digitOf b i ≡ bit (b .ones) i = digit-fixed b i q in (omega arith, omega arith))
-      (λ (q : bit (b .fixed) i ≡ 1 → ⊥). let y : digitOf b i ≡ 2 = digit-free b i q in absurd (omega arith)) (eq-or-ne (bit (b .fixed) i) 1))
+      ⊎-elim (λ (q : bit (b .fixed) i ≡ 1). let y : digitOf b i ≡ bit
+      (b .ones) i = digit-fixed b i q in (omega arith, omega arith))
+      (λ (q : bit (b .fixed) i ≡ 1 → ⊥). let y : digitOf b i ≡ 2 = digit-free b i q in absurd (omega arith))
+      (eq-or-ne (bit (b .fixed) i) 1))
       (λ (p : bit (a .fixed) i ≡ 1 → ⊥).
       let x : digitOf a i ≡ 2 = digit-free a i p in
-      ⊎-elim (λ (q : bit (b .fixed) i ≡ 1). let y : digitOf b i ≡ bit (b .ones) i = digit-fixed b i q in absurd (omega arith))
+      ⊎-elim (λ (q : bit (b .fixed) i ≡ 1). let y : digitOf b i ≡ bit (b .ones) i = digit-fixed b i q in absurd
+      (omega arith))
       (λ (q : bit (b .fixed) i ≡ 1 → ⊥). (omega arith, omega arith)) (eq-or-ne (bit (b .fixed) i) 1))
       (eq-or-ne (bit (a .fixed) i) 1)
 
@@ -126,10 +135,13 @@ number-injects : (n q r : ℕ) → q < 2 ^ n * 2 ^ n → r < 2 ^ n * 2 ^ n → w
     → ternaryNumber n (maskPairAt n q) ≡ ternaryNumber n (maskPairAt n r) → q ≡ r
 unfolding withinAt maskPairAt
 number-injects n q r l m h k e =
-    let s = same-bits n (maskPairAt n q) (maskPairAt n r) (within-at n (q / 2 ^ n) (q % 2 ^ n) h) (within-at n (r / 2 ^ n) (r % 2 ^ n) k) e in
+    let s = same-bits n (maskPairAt n q) (maskPairAt n r) (within-at n (q / 2 ^ n) (q % 2 ^ n) h)
+    (within-at n (r / 2 ^ n) (r % 2 ^ n) k) e in
     let f : q / 2 ^ n ≡ r / 2 ^ n =
-    bits-eq n (q / 2 ^ n) (r / 2 ^ n) (div-lt-iff-lt-mul (pow-pos n) .1 l) (div-lt-iff-lt-mul (pow-pos n) .1 m) (λ i b. s i b .0) in
-    let o : q % 2 ^ n ≡ r % 2 ^ n = bits-eq n (q % 2 ^ n) (r % 2 ^ n) (mod-lt q (pow-pos n)) (mod-lt r (pow-pos n)) (λ i b. s i b .1) in
+    bits-eq n (q / 2 ^ n) (r / 2 ^ n) (div-lt-iff-lt-mul (pow-pos n) .1 l) (div-lt-iff-lt-mul (pow-pos n) .1 m)
+    (λ i b. s i b .0) in
+    let o : q % 2 ^ n ≡ r % 2 ^ n =
+    bits-eq n (q % 2 ^ n) (r % 2 ^ n) (mod-lt q (pow-pos n)) (mod-lt r (pow-pos n)) (λ i b. s i b .1) in
     sym (div-add-mod' q (2 ^ n)) ∙ rw (f, o) (div-add-mod' r (2 ^ n))
 
 -- the pair of a number: an input is fixed where the digit is not 2, and at 1 where it is 1
@@ -184,13 +196,15 @@ module _ (n k : ℕ) where
       let d : ternaryDigit 3 k i < 3 = digit-lt 3 (omega arith) k i in (
         rw (ne-eqb (ternaryDigit 3 k i) 2 ne),
         ⊎-elim (λ (e : ternaryDigit 3 k i ≡ 1). rw (eq-eqb (ternaryDigit 3 k i) 1 e) (sym e))
-            (λ (no-one : ternaryDigit 3 k i ≡ 1 → ⊥). rw (ne-eqb (ternaryDigit 3 k i) 1 no-one) (omega arith)) (eq-or-ne (ternaryDigit 3 k i) 1),
+            (λ (no-one : ternaryDigit 3 k i ≡ 1 → ⊥). rw (ne-eqb (ternaryDigit 3 k i) 1 no-one) (omega arith))
+            (eq-or-ne (ternaryDigit 3 k i) 1),
       )
 
   inside : (i : ℕ) → i < n → bit onesOf i ≤ bit fixedOf i
   inside i l =
       rw (ones-bit i l, fixed-bit i l)
-      (⊎-elim (λ (e : ternaryDigit 3 k i ≡ 2). omega (arith, at-two i e)) (λ (ne : ternaryDigit 3 k i ≡ 2 → ⊥). omega (arith, at-less i ne, ones-lt i))
+      (⊎-elim (λ (e : ternaryDigit 3 k i ≡ 2). omega (arith, at-two i e))
+      (λ (ne : ternaryDigit 3 k i ≡ 2 → ⊥). omega (arith, at-less i ne, ones-lt i))
       (eq-or-ne (ternaryDigit 3 k i) 2))
 
   digit-back : (i : ℕ) → i < n → digitOf (masks fixedOf onesOf) i ≡ ternaryDigit 3 k i
@@ -205,7 +219,11 @@ module _ (n k : ℕ) where
 
   masks-lt : (fixedOf < 2 ^ n) × (onesOf < 2 ^ n)
   unfolding fixedOf onesOf
-  masks-lt = (numeral-lt 2 (omega arith) (fixedDigit k) n (λ i l. fixed-lt i), numeral-lt 2 (omega arith) (oneDigit k) n (λ i l. ones-lt i))
+  masks-lt = (
+    numeral-lt 2 (omega arith) (fixedDigit k) n (λ i l. fixed-lt i),
+    numeral-lt 2 (omega arith) (oneDigit k) n
+        (λ i l. ones-lt i),
+  )
 
   pair-lt : pairOf < 2 ^ n * 2 ^ n
   unfolding pairOf
@@ -223,7 +241,8 @@ module _ (n k : ℕ) where
   unfolding ternaryNumber
   pair-number l =
       rw pair-is
-      (numeral-ext 3 (omega arith) (digitOf (masks fixedOf onesOf)) (ternaryDigit 3 k) n digit-back ∙ numeral-digit 3 (omega arith) k n l)
+      (numeral-ext 3 (omega arith) (digitOf (masks fixedOf onesOf)) (ternaryDigit 3 k) n digit-back ∙ numeral-digit 3
+      (omega arith) k n l)
 
 -- as many entries as numbers that are left
 pub entries-left : (marks : List ℕ) (n : ℕ) → length (entriesBy marks n) ≡ length (keep (soundAt marks) (upTo (3 ^ n)))
@@ -234,7 +253,11 @@ entries-left marks n =
     there : length (keep (entryBy marks n) (upTo (2 ^ n * 2 ^ n))) ≤ length (keep (soundAt marks) (upTo (3 ^ n)))
     there =
         keep-injects (2 ^ n * 2 ^ n) (3 ^ n) (entryBy marks n) (soundAt marks) (λ q. ternaryNumber n (maskPairAt n q))
-        (λ q l e. (number-lt n (maskPairAt n q), and-right (withinAt n q) (soundAt marks (ternaryNumber n (maskPairAt n q))) e))
+        (λ q l e. (
+          number-lt n (maskPairAt n q),
+          and-right (withinAt n q)
+              (soundAt marks (ternaryNumber n (maskPairAt n q))) e,
+        ))
         (λ q r l m e f s.
         number-injects n q r l m (and-left (withinAt n q) (soundAt marks (ternaryNumber n (maskPairAt n q))) e)
         (and-left (withinAt n r) (soundAt marks (ternaryNumber n (maskPairAt n r))) f) s)
@@ -244,7 +267,9 @@ entries-left marks n =
         keep-injects (3 ^ n) (2 ^ n * 2 ^ n) (soundAt marks) (entryBy marks n) (pairOf n)
         (λ k l e. (
           pair-lt n k,
-          and-intro (withinAt n (pairOf n k)) (soundAt marks (ternaryNumber n (maskPairAt n (pairOf n k)))) (pair-within n k)
+          and-intro (withinAt n (pairOf n k)) (soundAt marks (ternaryNumber n (maskPairAt n (pairOf n k))))
+              (pair-within n k)
               (rw (pair-number n k l) e),
         ))
-        (λ k j l m e f s. sym (pair-number n k l) ∙ ap (λ (q : ℕ). ternaryNumber n (maskPairAt n q)) s ∙ pair-number n j m)
+        (λ k j l m e f s. sym (pair-number n k l) ∙ ap (λ (q : ℕ). ternaryNumber n (maskPairAt n q)) s
+        ∙ pair-number n j m)

@@ -1,4 +1,5 @@
--- Why `is_minimal` and `keep_minimal` are right: laws over plain lists and numbers, one for each way through the code. Assumes nothing.
+-- Why `is_minimal` and `keep_minimal` are right: laws over plain lists and numbers, one for each way through the code.
+-- Assumes nothing.
 use mathlib.Core.Path.{_≡_, refl, sym, ap, _∙_}
 use mathlib.Core.Logic.{⊎-elim}
 use mathlib.Core.Bool.{Bool, true, false, cond, not, _&&_}
@@ -14,12 +15,12 @@ use borrow.Author.Tests.{eq-eqb, ne-eqb}
 use Rattle.prelude.specs.Lists.{all, keep, upTo}
 use Rattle.prelude.proofs.Tests.{eq-or-ne}
 use Rattle.prelude.proofs.Quantifiers.{all-next, all-not, all-ext}
-use Rattle.cover_implicants.specs.Digits.{ternaryDigit, numeral}
-use Rattle.cover_implicants.specs.Entries.{soundAt, neededAt, minimalAt, isLeft, entriesBy, OnlyMinimal}
-use Rattle.cover_implicants.proofs.ListFacts.{keep-below, keep-upTo-suc}
+use Rattle.theory_cover.specs.Digits.{ternaryDigit, numeral}
+use Rattle.theory_cover.specs.Entries.{soundAt, neededAt, minimalAt, isLeft, entriesBy, OnlyMinimal}
+use Rattle.theory_cover.proofs.ListFacts.{keep-below, keep-upTo-suc}
 use Rattle.cover_implicants.proofs.Bounds.{power-next}
 use Rattle.cover_implicants.proofs.Counting.{entries-left}
-use Rattle.cover_implicants.proofs.Digits.{digit-lt, numeral-lt, numeral-less, numeral-digit}
+use Rattle.theory_cover.proofs.Digits.{digit-lt, numeral-lt, numeral-less, numeral-digit}
 
 -- k with a 2 at digit i is still a number of n digits
 raised : ℕ → ℕ → ℕ → ℕ
@@ -43,7 +44,8 @@ module _ (n k i : ℕ) (small : k < 3 ^ n) (l : i < n) where
   raised-lt =
       let d : ternaryDigit 3 k i < 3 = digit-lt 3 (omega arith) k i in
       let e : numeral 3 (ternaryDigit 3 k) n + (2 - ternaryDigit 3 k i) * 3 ^ i ≡ numeral 3 (raised k i) n =
-      numeral-less 3 (omega arith) (raised k i) (ternaryDigit 3 k) n i (2 - ternaryDigit 3 k i) l (rw raised-at (omega arith))
+      numeral-less 3 (omega arith) (raised k i) (ternaryDigit 3 k) n i (2 - ternaryDigit 3 k i) l
+      (rw raised-at (omega arith))
       (λ j m ne. sym (raised-other j ne)) in
       let f : numeral 3 (ternaryDigit 3 k) n ≡ k = numeral-digit 3 (omega arith) k n small in
       let g : numeral 3 (raised k i) n < 3 ^ n = numeral-lt 3 (omega arith) (raised k i) n (λ j m. raised-digit-lt j) in
@@ -94,7 +96,8 @@ module _ {sound : List ℕ} {n k rest power i : ℕ} (s : Scanned sound n k rest
     not-minimal e =
         sym (all-not (neededAt sound k) n i l (needed-is ∙ rw (eq-eqb (getD sound (k + (2 - rest % 3) * power) 0) 1 e)))
 
-pub scan-all : {sound : List ℕ} {n k rest power i : ℕ} → Scanned sound n k rest power i → n ≤ i → true ≡ minimalAt sound n k
+pub scan-all : {sound : List ℕ} {n k rest power i : ℕ} → Scanned sound n k rest power i → n ≤ i
+    → true ≡ minimalAt sound n k
 unfolding minimalAt
 scan-all {sound} {n} {k} {rest} {power} {i} s l =
     sym (ap (λ (m : ℕ). all (neededAt sound k) (upTo m)) (let e : n ≡ i = omega (arith, s .within) in e) ∙ s .so-far)
@@ -141,7 +144,8 @@ module _ {sound marks : List ℕ} {n k count : ℕ} (w : OnlyMinimal sound marks
             (ap (λ (c : ℕ). c + 1) (w .counted));
       }
 
-  pub minimal-cleared : k < length marks → minimalAt marks n k ≡ false → OnlyMinimal sound (set marks k 0) n (k + 1) count
+  pub minimal-cleared : k < length marks → minimalAt marks n k ≡ false
+      → OnlyMinimal sound (set marks k 0) n (k + 1) count
   unfolding soundAt isLeft
   minimal-cleared b e =
       let f : isLeft sound n k ≡ false = rw (← same-minimal, e) (last (soundAt sound k)) in
@@ -158,6 +162,8 @@ module _ {sound marks : List ℕ} {n k count : ℕ} (w : OnlyMinimal sound marks
       last false = refl
 
 -- as many are counted as there are entries
-pub minimal-counted : {sound marks : List ℕ} {n count : ℕ} → OnlyMinimal sound marks n (3 ^ n) count → count ≡ length (entriesBy marks n)
+pub minimal-counted : {sound marks : List ℕ} {n count : ℕ} → OnlyMinimal sound marks n (3 ^ n) count
+    → count ≡ length (entriesBy marks n)
 minimal-counted {sound} {marks} {n} w =
-    w .counted ∙ sym (ap length (keep-below (soundAt marks) (isLeft sound n) (3 ^ n) (w .left))) ∙ sym (entries-left marks n)
+    w .counted ∙ sym (ap length (keep-below (soundAt marks) (isLeft sound n) (3 ^ n) (w .left)))
+    ∙ sym (entries-left marks n)

@@ -1,11 +1,13 @@
--- How the table of soundness grows: `join_halves` byte by byte, `add_setting` input by input, `fill_sound` setting by setting. Laws over plain lists and
+-- How the table of soundness grows: `join_halves` byte by byte, `add_setting` input by input, `fill_sound` setting by
+-- setting. Laws over plain lists and
 -- numbers. Assumes nothing.
 use mathlib.Core.Path.{_≡_, refl, sym, ap, _∙_}
 use mathlib.Core.Logic.{⊎-elim}
 use mathlib.Core.Bool.{Bool}
 use mathlib.Core.List.{List}
 use Prim.Native.Nat.{ℕ, suc, _+_, _-_, _*_, _/_, _%_, _^_, _≤_, _<_}
-use native.Mathlib.Nat.{not-suc-le-zero, pow-suc, mul-assoc, mul-comm, add-mul, div-one, div-div-eq-div-mul, div-eq-of-lt, one-le-pow}
+use native.Mathlib.Nat.{not-suc-le-zero, pow-suc, mul-assoc, mul-comm, add-mul, div-one, div-div-eq-div-mul}
+use native.Mathlib.Nat.{div-eq-of-lt, one-le-pow}
 use native.Mathlib.Nat.{div-lt-iff-lt-mul}
 use native.Mathlib.Numerals.{add-one}
 use native.Mathlib.Omega.{arith}
@@ -18,21 +20,24 @@ use borrow.Author.Tests.{eq-eqb, ne-eqb}
 use Rattle.prelude.proofs.Tests.{eq-or-ne, lt-or-le}
 use Rattle.netlist.specs.Limits.{maxInputs}
 use Rattle.netlist.specs.Assignments.{bit}
-use Rattle.cover_implicants.specs.Digits.{ternaryDigit, numeral}
-use Rattle.cover_implicants.specs.Tables.{settledBy, soundByte, byteOf, weightOf, Filled, HalvesJoined}
-use Rattle.cover_implicants.proofs.Agree.{bit-lt}
+use Rattle.theory_cover.specs.Digits.{ternaryDigit, numeral}
+use Rattle.theory_cover.specs.Tables.{settledBy, soundByte, byteOf, weightOf, Filled, HalvesJoined}
+use Rattle.theory_cover.proofs.Agree.{bit-lt}
 use Rattle.cover_implicants.proofs.Bounds.{power-next}
-use Rattle.cover_implicants.proofs.Digits.{numeral-ext, numeral-digit, digit-numeral}
-use Rattle.cover_implicants.proofs.Numbers.{weight-lt}
-use Rattle.cover_implicants.proofs.SoundTable.{byte-full, byte-free}
-use Rattle.cover_implicants.proofs.Weights.{weight-half, weight-shift, weight-next, weight-top, weight-none, weight-power}
+use Rattle.theory_cover.proofs.Digits.{numeral-ext, numeral-digit, digit-numeral}
+use Rattle.theory_cover.proofs.Numbers.{weight-lt}
+use Rattle.theory_cover.proofs.SoundTable.{byte-full, byte-free}
+use Rattle.cover_implicants.proofs.Weights.{weight-half, weight-shift, weight-next, weight-top, weight-none}
+use Rattle.cover_implicants.proofs.Weights.{weight-power}
 
 pub joined-none : (entry : List ℕ) (k power : ℕ) → HalvesJoined entry entry k power 0
 joined-none entry k power = record { same-length = refl; kept = λ j l. refl; both = λ j l. absurd (not-suc-le-zero l) }
 
 -- one byte more: both bytes that it is made of stand below k
-pub joined-next : {entry exit : List ℕ} {k power m : ℕ} → HalvesJoined entry exit k power m → 2 * power ≤ k → k + power ≤ length exit → m < power
-    → HalvesJoined entry (set exit (k + m) (bitAnd (getD exit (k - power + m) 0) (getD exit (k - 2 * power + m) 0))) k power (m + 1)
+pub joined-next : {entry exit : List ℕ} {k power m : ℕ} → HalvesJoined entry exit k power m → 2 * power ≤ k
+    → k + power ≤ length exit → m < power
+    → HalvesJoined entry (set exit (k + m)
+    (bitAnd (getD exit (k - power + m) 0) (getD exit (k - 2 * power + m) 0))) k power (m + 1)
 joined-next {entry} {exit} {k} {power} {m} w l r h = record {
   same-length = simp length-set (w .same-length);
   kept = λ j b. getD-set-other exit (k + m) j _ 0 (λ e. omega arith) ∙ w .kept j b;
@@ -41,7 +46,8 @@ joined-next {entry} {exit} {k} {power} {m} w l r h = record {
       (λ (e : j ≡ m).
       rw (
         e,
-        getD-set-same exit (k + m) (bitAnd (getD exit (k - power + m) 0) (getD exit (k - 2 * power + m) 0)) 0 (omega arith),
+        getD-set-same exit (k + m) (bitAnd (getD exit (k - power + m) 0) (getD exit (k - 2 * power + m) 0)) 0
+            (omega arith),
         w .kept (k - power + m) (omega arith),
         w .kept (k - 2 * power + m) (omega arith),
       ))
@@ -53,16 +59,19 @@ joined-next {entry} {exit} {k} {power} {m} w l r h = record {
 module _ (n s : ℕ) (l : s < 2 ^ n) where
   setting-digit : (i : ℕ) → i < n → ternaryDigit 3 (weightOf n s) i ≡ bit s i
   unfolding weightOf
-  setting-digit i m = digit-numeral 3 (omega arith) (bit s) n i (λ j b. let c : bit s j < 2 = bit-lt s j in omega arith) m
+  setting-digit i m =
+      digit-numeral 3 (omega arith) (bit s) n i (λ j b. let c : bit s j < 2 = bit-lt s j in omega arith) m
 
   setting-digits : numeral 2 (ternaryDigit 3 (weightOf n s)) n ≡ s
   unfolding bit ternaryDigit
   setting-digits =
-      numeral-ext 2 (omega arith) (ternaryDigit 3 (weightOf n s)) (ternaryDigit 2 s) n setting-digit ∙ numeral-digit 2 (omega arith) s n l
+      numeral-ext 2 (omega arith) (ternaryDigit 3 (weightOf n s)) (ternaryDigit 2 s) n setting-digit
+      ∙ numeral-digit 2 (omega arith) s n l
 
   setting-byte : (p : ℕ → Bool) → soundByte p n (weightOf n s) ≡ byteOf (p s)
   setting-byte p =
-      byte-full p n (weightOf n s) (λ i m. rw (setting-digit i m) (bit-lt s i)) ∙ ap (λ (x : ℕ). byteOf (p x)) setting-digits
+      byte-full p n (weightOf n s) (λ i m. rw (setting-digit i m) (bit-lt s i))
+      ∙ ap (λ (x : ℕ). byteOf (p x)) setting-digits
 
 -- a setting's byte, by its flag
 module _ (settled : List ℕ) (s : ℕ) where
@@ -74,7 +83,8 @@ module _ (settled : List ℕ) (s : ℕ) where
   unfolding settledBy byteOf
   byte-none ne = rw (ne-eqb (getD settled s 0) 1 ne)
 
--- the bytes below `end` are right; the setting's lowest i inputs are at 1, and `end` is where the assignments with these inputs free end
+-- the bytes below `end` are right; the setting's lowest i inputs are at 1, and `end` is where the assignments with
+-- these inputs free end
 pub record Joining (settled sound : List ℕ) (n setting end power i : ℕ) : Type 0 where
   pub few : n ≤ maxInputs
   pub settings : 2 ^ n ≤ length settled
@@ -109,7 +119,8 @@ module _ {settled sound : List ℕ} {n s k : ℕ} (f : Filled settled sound n s 
     right = λ j b.
         ⊎-elim
         (λ (q : j ≡ k).
-        rw (q, getD-set-same sound k v 0 (omega (arith, f .room, setting-below)), setting-number) (e ∙ sym (setting-byte n s l (settledBy settled))))
+        rw (q, getD-set-same sound k v 0 (omega (arith, f .room, setting-below)), setting-number)
+        (e ∙ sym (setting-byte n s l (settledBy settled))))
         (λ (ne : j ≡ k → ⊥). getD-set-other sound k j v 0 ne ∙ f .right j (omega arith)) (eq-or-ne j k);
   }
 
@@ -147,13 +158,18 @@ module _ {settled sound : List ℕ} {n s end power i : ℕ} (w : Joining settled
     above-lt =
         let l : i < n = joining-in in
         let m : n - i ≡ suc (n - suc i) = omega arith in
-        let two : 2 ^ (n - suc i) * 2 ^ (i + 1) ≡ 2 ^ n = sym (pow-add 2 (n - suc i) (i + 1)) ∙ ap (λ (k : ℕ). 2 ^ k) (omega arith) in
-        let three : 3 ^ (n - suc i) * 3 ^ (i + 1) ≡ 3 ^ n = sym (pow-add 3 (n - suc i) (i + 1)) ∙ ap (λ (k : ℕ). 3 ^ k) (omega arith) in
-        let y : s / 2 ^ i / 2 < 2 ^ (n - suc i) = rw (← half) (div-lt-iff-lt-mul (pow-pos (i + 1)) .1 (rw two (w .legal))) in
-        let e : weightOf (n - i) (s / 2 ^ i / 2) ≡ weightOf (n - suc i) (s / 2 ^ i / 2) = rw m (weight-top (n - suc i) (s / 2 ^ i / 2) y) in
+        let two : 2 ^ (n - suc i) * 2 ^ (i + 1) ≡ 2 ^ n =
+        sym (pow-add 2 (n - suc i) (i + 1)) ∙ ap (λ (k : ℕ). 2 ^ k) (omega arith) in
+        let three : 3 ^ (n - suc i) * 3 ^ (i + 1) ≡ 3 ^ n =
+        sym (pow-add 3 (n - suc i) (i + 1)) ∙ ap (λ (k : ℕ). 3 ^ k) (omega arith) in
+        let y : s / 2 ^ i / 2 < 2 ^ (n - suc i) =
+        rw (← half) (div-lt-iff-lt-mul (pow-pos (i + 1)) .1 (rw two (w .legal))) in
+        let e : weightOf (n - i) (s / 2 ^ i / 2) ≡ weightOf (n - suc i) (s / 2 ^ i / 2) =
+        rw m (weight-top (n - suc i) (s / 2 ^ i / 2) y) in
         let h : weightOf (n - suc i) (s / 2 ^ i / 2) < 3 ^ (n - suc i) = weight-lt (n - suc i) (s / 2 ^ i / 2) in
         let f : 0 < 3 ^ (i + 1) = one-le-pow (i + 1) 3 (omega arith) in
-        let g : weightOf (n - suc i) (s / 2 ^ i / 2) * 3 ^ (i + 1) + (3 ^ (i + 1) - 1) < 3 ^ (n - suc i) * 3 ^ (i + 1) = digits-lt h (omega arith) in
+        let g : weightOf (n - suc i) (s / 2 ^ i / 2) * 3 ^ (i + 1) + (3 ^ (i + 1) - 1) < 3 ^ (n - suc i) * 3 ^ (i + 1) =
+        digits-lt h (omega arith) in
         let k : 3 ^ (i + 1) ≡ 3 ^ i * 3 = rw (add-one i) (pow-suc 3 i) in
         rw (e, ← k) (omega arith)
 
@@ -169,7 +185,8 @@ module _ {settled sound : List ℕ} {n s end power i : ℕ} (w : Joining settled
         let d : j / 3 ^ i ≡ above * 3 + 2 = ap (λ (x : ℕ). x / 3 ^ i) e ∙ digits-div (above * 3 + 2) l' in
         omega arith
 
-    pub joining-next : {exit : List ℕ} → HalvesJoined sound exit end power power → Joining settled exit n s (end + power) (power * 3) (i + 1)
+    pub joining-next : {exit : List ℕ} → HalvesJoined sound exit end power power
+        → Joining settled exit n s (end + power) (power * 3) (i + 1)
     unfolding above
     joining-next {exit} q = record {
       few = w .few;
@@ -183,7 +200,18 @@ module _ {settled sound : List ℕ} {n s end power i : ℕ} (w : Joining settled
           let a : above ≡ weightOf (n - i) (s / 2 ^ i / 2) = refl in
           let l : i < n = joining-in in
           let m : suc (n - (i + 1)) ≡ n - i = omega arith in
-          rw (half, m, add-one i, pow-suc 3 i, w .power-is, end-is, spread above 2 (3 ^ i), ← a, add-mul above 1 (3 ^ i * 3))
+          rw (
+            half,
+            m,
+            add-one i,
+            pow-suc 3 i,
+            w .power-is,
+            end-is,
+            spread above 2 (3 ^ i),
+            ← a,
+            add-mul above 1
+                (3 ^ i * 3),
+          )
           (omega arith);
       right = λ j l. ⊎-elim (λ b. q .kept j b ∙ w .right j b) (λ (b : end ≤ j). new j b l) (lt-or-le j end);
     }
@@ -213,7 +241,8 @@ module _ {settled sound : List ℕ} {n s end power i : ℕ} (w : Joining settled
   }
 
 -- before the first setting, and after the last
-pub filled-none : (settled sound : List ℕ) (n : ℕ) → n ≤ maxInputs → 2 ^ n ≤ length settled → 3 ^ n ≤ length sound → Filled settled sound n 0 0
+pub filled-none : (settled sound : List ℕ) (n : ℕ) → n ≤ maxInputs → 2 ^ n ≤ length settled → 3 ^ n ≤ length sound
+    → Filled settled sound n 0 0
 filled-none settled sound n few settings room = record {
   few = few;
   settings = settings;

@@ -15,14 +15,16 @@ use Rattle.prelude.proofs.Tab.{length-tab, tab-add}
 use Rattle.prelude.proofs.Lists.{joined-append, keep-append}
 use Rattle.prelude.proofs.Slices.{set-placed}
 use Rattle.netlist.specs.Assignments.{Assignment}
-use Rattle.cover_implicants.specs.Entries.{maskPairAt, withinAt, NextPair, entryBy, entriesBelow, entriesBy, EntriesReached, Words, EntriesWritten}
-use Rattle.cover_implicants.specs.Over.{assignmentWords, nothing}
-use Rattle.cover_implicants.proofs.ListFacts.{keep-le, keep-upTo-suc}
+use Rattle.theory_cover.specs.Entries.{maskPairAt, withinAt, NextPair, entryBy, entriesBelow, entriesBy}
+use Rattle.theory_cover.specs.Entries.{EntriesReached, Words, EntriesWritten}
+use Rattle.theory_cover.specs.Over.{assignmentWords, nothing}
+use Rattle.theory_cover.proofs.ListFacts.{keep-le, keep-upTo-suc}
 use Rattle.cover_implicants.proofs.PairWalk.{first-pair}
 
 module _ (table : List ℕ) (n q : ℕ) where
   -- one pair more: an entry, or none
-  entries-add : entryBy table n q ≡ true → entriesBelow table n (q + 1) ≡ entriesBelow table n q ++ (maskPairAt n q ∷ [])
+  entries-add : entryBy table n q ≡ true
+      → entriesBelow table n (q + 1) ≡ entriesBelow table n q ++ (maskPairAt n q ∷ [])
   unfolding entriesBelow
   entries-add e =
       rw (add-one q, keep-upTo-suc (entryBy table n) q, e)
@@ -49,11 +51,13 @@ module _ (table : List ℕ) (n q : ℕ) where
   count-le : (m : ℕ) → length (entriesBelow table n q) ≤ length (entriesBelow table n (q + m))
   count-le m = rw (entries-more m, length-append (entriesBelow table n q) (later m)) (omega arith)
 
-  same-count : (m : ℕ) → length (entriesBelow table n (q + m)) ≤ length (entriesBelow table n q) → entriesBelow table n (q + m) ≡ entriesBelow table n q
+  same-count : (m : ℕ) → length (entriesBelow table n (q + m)) ≤ length (entriesBelow table n q)
+      → entriesBelow table n (q + m) ≡ entriesBelow table n q
   same-count m h =
       let l : length (entriesBelow table n (q + m)) ≡ length (entriesBelow table n q) + length (later m) =
       ap length (entries-more m) ∙ length-append (entriesBelow table n q) (later m) in
-      entries-more m ∙ ap (λ (xs : List Assignment). entriesBelow table n q ++ xs) (empty (later m) (omega arith)) ∙ append-nil (entriesBelow table n q)
+      entries-more m ∙ ap (λ (xs : List Assignment). entriesBelow table n q ++ xs) (empty (later m) (omega arith))
+      ∙ append-nil (entriesBelow table n q)
     where
       empty : (xs : List Assignment) → length xs ≤ 0 → xs ≡ []
       empty [] l = refl
@@ -61,7 +65,8 @@ module _ (table : List ℕ) (n q : ℕ) where
 
 -- the pairs passed over on the way to the next assignment are no entries
 module _ (table : List ℕ) (n : ℕ) where
-  over : (k d : ℕ) → ((x : ℕ) → k ≤ x → x < k + d → entryBy table n x ≡ false) → entriesBelow table n (k + d) ≡ entriesBelow table n k
+  over : (k d : ℕ) → ((x : ℕ) → k ≤ x → x < k + d → entryBy table n x ≡ false)
+      → entriesBelow table n (k + d) ≡ entriesBelow table n k
   over k zero h = ap (entriesBelow table n) (omega arith)
   over k (suc d) h =
       ap (entriesBelow table n) (omega arith)
@@ -82,14 +87,17 @@ module _ (table : List ℕ) (n : ℕ) where
 pub entries-few : (table : List ℕ) (n : ℕ) → length (entriesBy table n) ≤ 2 ^ n * 2 ^ n
 unfolding entriesBy entriesBelow
 entries-few table n =
-    let l : length (keep (entryBy table n) (upTo (2 ^ n * 2 ^ n))) ≤ length (upTo (2 ^ n * 2 ^ n)) = keep-le (entryBy table n) (upTo (2 ^ n * 2 ^ n)) in
-    rw (length-map (keep (entryBy table n) (upTo (2 ^ n * 2 ^ n))) (maskPairAt n)) (rw (length-tab (λ k. k) (2 ^ n * 2 ^ n)) at l)
+    let l : length (keep (entryBy table n) (upTo (2 ^ n * 2 ^ n))) ≤ length (upTo (2 ^ n * 2 ^ n)) =
+    keep-le (entryBy table n) (upTo (2 ^ n * 2 ^ n)) in
+    rw (length-map (keep (entryBy table n) (upTo (2 ^ n * 2 ^ n))) (maskPairAt n))
+    (rw (length-tab (λ k. k) (2 ^ n * 2 ^ n)) at l)
 
 wordsOf-append : (xs ys : List Assignment) → assignmentWords (xs ++ ys) ≡ assignmentWords xs ++ assignmentWords ys
 unfolding assignmentWords
 wordsOf-append xs ys =
     ap joined (map-append (λ (a : Assignment). a .fixed ∷ a .ones ∷ []) xs ys)
-    ∙ joined-append (map (λ (a : Assignment). a .fixed ∷ a .ones ∷ []) xs) (map (λ (a : Assignment). a .fixed ∷ a .ones ∷ []) ys)
+    ∙ joined-append (map (λ (a : Assignment). a .fixed ∷ a .ones ∷ []) xs)
+    (map (λ (a : Assignment). a .fixed ∷ a .ones ∷ []) ys)
 
 pub length-words : (xs : List Assignment) → length (assignmentWords xs) ≡ 2 * length xs
 unfolding assignmentWords
@@ -99,14 +107,16 @@ length-words (x ∷ xs) = let i : length (assignmentWords xs) ≡ 2 * length xs 
 -- before the first row
 pub reached-first : (marks : List ℕ) (n : ℕ) → EntriesReached marks n (0 * 2 ^ n) 0
 unfolding entriesBelow
-reached-first marks n = rw (zero-mul (2 ^ n)) (record { within = omega arith; legal = λ l. first-pair n; counted = refl })
+reached-first marks n =
+    rw (zero-mul (2 ^ n)) (record { within = omega arith; legal = λ l. first-pair n; counted = refl })
 
 pub words-first : (marks first : List ℕ) (n : ℕ) → Words marks first first n (0 * 2 ^ n)
 unfolding entriesBelow assignmentWords
 words-first marks first n = rw (zero-mul (2 ^ n)) (record { same-length = refl; words = refl })
 
 -- at an entry one more is counted, of all that there are
-pub one-more : {marks : List ℕ} {n q count : ℕ} → EntriesReached marks n q count → q < 2 ^ n * 2 ^ n → entryBy marks n q ≡ true
+pub one-more : {marks : List ℕ} {n q count : ℕ} → EntriesReached marks n q count → q < 2 ^ n * 2 ^ n
+    → entryBy marks n q ≡ true
     → count + 1 ≤ length (entriesBy marks n)
 unfolding entriesBy
 one-more {marks} {n} {q} w l e =
@@ -125,7 +135,8 @@ module _ {marks : List ℕ} {n q r count : ℕ} (w : EntriesReached marks n q co
     counted = rw (entries-jump marks n x, entries-skip marks n q e) (w .counted);
   }
 
-  pub words-skip : entryBy marks n q ≡ false → {first out : List ℕ} → Words marks first out n q → Words marks first out n r
+  pub words-skip : entryBy marks n q ≡ false → {first out : List ℕ} → Words marks first out n q
+      → Words marks first out n r
   words-skip e {first} {out} v = record {
     same-length = v .same-length;
     words = rw (entries-jump marks n x, entries-skip marks n q e) (v .words);
@@ -145,10 +156,12 @@ module _ {marks : List ℕ} {n q r count : ℕ} (w : EntriesReached marks n q co
     next-words : assignmentWords (entriesBelow marks n r) ≡ so-far ++ (q / 2 ^ n ∷ []) ++ (q % 2 ^ n ∷ [])
     unfolding so-far assignmentWords maskPairAt
     next-words =
-        ap assignmentWords (entries-jump marks n x ∙ entries-add marks n q e) ∙ wordsOf-append (entriesBelow marks n q) (maskPairAt n q ∷ [])
+        ap assignmentWords (entries-jump marks n x ∙ entries-add marks n q e)
+        ∙ wordsOf-append (entriesBelow marks n q) (maskPairAt n q ∷ [])
         ∙ sym (append-assoc so-far (q / 2 ^ n ∷ []) (q % 2 ^ n ∷ []))
 
-    pub words-add : {fixed ones : ℕ} {first out : List ℕ} → fixed ≡ q / 2 ^ n → ones ≡ q % 2 ^ n → 2 * length (entriesBy marks n) ≤ length out
+    pub words-add : {fixed ones : ℕ} {first out : List ℕ} → fixed ≡ q / 2 ^ n → ones ≡ q % 2 ^ n
+        → 2 * length (entriesBy marks n) ≤ length out
         → Words marks first out n q → Words marks first (set (set out (2 * count) fixed) (2 * count + 1) ones) n r
     unfolding so-far
     words-add {fixed} {ones} {first} {out} f o room v =
@@ -156,7 +169,8 @@ module _ {marks : List ℕ} {n q r count : ℕ} (w : EntriesReached marks n q co
         let m : count + 1 ≤ length (entriesBy marks n) = one-more w (omega (arith, x .above, x .end)) e in
         let once : set out (2 * count) (q / 2 ^ n) ≡ placed (so-far ++ (q / 2 ^ n ∷ [])) first =
         rw (v .words, ← a) (set-placed so-far first (length so-far) (q / 2 ^ n) refl (omega (arith, v .same-length))) in
-        let here : length (so-far ++ (q / 2 ^ n ∷ [])) ≡ 2 * count + 1 = length-append so-far (q / 2 ^ n ∷ []) ∙ omega arith in
+        let here : length (so-far ++ (q / 2 ^ n ∷ [])) ≡ 2 * count + 1 =
+        length-append so-far (q / 2 ^ n ∷ []) ∙ omega arith in
         record {
           same-length = simp length-set (v .same-length);
           words =
@@ -185,7 +199,8 @@ module _ {marks : List ℕ} {n q count : ℕ} (w : EntriesReached marks n q coun
       (lt-or-le q (2 ^ n * 2 ^ n))
 
 -- .. so there is a row left where not all are counted
-pub row-left : {marks : List ℕ} {n f count : ℕ} → EntriesReached marks n (f * 2 ^ n) count → count < length (entriesBy marks n) → f < 2 ^ n
+pub row-left : {marks : List ℕ} {n f count : ℕ} → EntriesReached marks n (f * 2 ^ n) count
+    → count < length (entriesBy marks n) → f < 2 ^ n
 row-left {marks} {n} {f} w l =
     ⊎-elim (λ h. h)
     (λ (h : 2 ^ n ≤ f).
@@ -195,17 +210,28 @@ row-left {marks} {n} {f} w l =
     (lt-or-le f (2 ^ n))
 
 -- `write_entries`: there is room, or there is not
-pub with-room : {entries : List Assignment} {entry exit : List ℕ} {count : ℕ} → count ≡ length entries → 2 * count ≤ length entry
+pub with-room : {entries : List Assignment} {entry exit : List ℕ} {count : ℕ} → count ≡ length entries
+    → 2 * count ≤ length entry
     → exit ≡ placed (assignmentWords entries) entry
     → EntriesWritten entries entry exit count
-with-room {entries} {entry} c r e = record { counted = c; written = rw (le-leb (2 * length entries) (length entry) (rw (← c) r)) e }
+with-room {entries} {entry} c r e =
+    record {
+      counted = c;
+      written = rw (le-leb (2 * length entries) (length entry) (rw (← c) r)) e;
+    }
 
-pub without-room : {entries : List Assignment} {entry : List ℕ} {count : ℕ} → count ≡ length entries → length entry < 2 * count
+pub without-room : {entries : List Assignment} {entry : List ℕ} {count : ℕ} → count ≡ length entries
+    → length entry < 2 * count
     → EntriesWritten entries entry entry count
-without-room {entries} {entry} c r = record { counted = c; written = rw (lt-leb (2 * length entries) (length entry) (rw (← c) r)) }
+without-room {entries} {entry} c r =
+    record {
+      counted = c;
+      written = rw (lt-leb (2 * length entries) (length entry) (rw (← c) r));
+    }
 
 -- `write_nothing`: the same for the one entry that fixes nothing
-pub nothing-written : (entry : List ℕ) → 2 ≤ length entry → EntriesWritten (nothing ∷ []) entry (set (set entry 0 0) 1 0) 1
+pub nothing-written : (entry : List ℕ) → 2 ≤ length entry
+    → EntriesWritten (nothing ∷ []) entry (set (set entry 0 0) 1 0) 1
 unfolding assignmentWords
 nothing-written entry l = with-room refl l (zeros entry l)
   where

@@ -1,4 +1,5 @@
--- The walk over the pairs of masks that are assignments (`next_ones`). Cited by its proof, and by the loops that walk. Assumes nothing.
+-- The walk over the pairs of masks that are assignments (`next_ones`). Cited by its proof, and by the loops that walk.
+-- Assumes nothing.
 --   row-in, row-out         which pairs of one first mask are assignments
 --   next-in-row, next-row   the next pair has the same first mask, or the next one
 use mathlib.Core.Path.{_≡_, sym, ap, _∙_}
@@ -11,8 +12,8 @@ use lib.Bits.{bitAnd, and-zero-l, and-le-r}
 use lib.Pow.{pow-pos}
 use Rattle.prelude.proofs.Tests.{not-true-false}
 use Rattle.netlist.specs.Assignments.{isWithin}
-use Rattle.cover_implicants.specs.Entries.{maskPairAt, withinAt, PairBelow, NextPair}
-use Rattle.cover_implicants.proofs.Agree.{within-and, and-within}
+use Rattle.theory_cover.specs.Entries.{maskPairAt, withinAt, PairBelow, NextPair}
+use Rattle.theory_cover.proofs.Agree.{within-and, and-within}
 use Rattle.cover_implicants.proofs.Subsets.{Subset, NextSubset, next-subset}
 
 -- the pairs with first mask f
@@ -29,15 +30,19 @@ module _ (n f j : ℕ) (l : j < 2 ^ n) where
 
 -- the first pair
 pub first-pair : (n : ℕ) → withinAt n 0 ≡ true
-first-pair n = ap (withinAt n) (let z : 0 * 2 ^ n ≡ 0 = zero-mul (2 ^ n) in omega arith) ∙ row-in n 0 0 (pow-pos n) (and-zero-l 0)
+first-pair n =
+    ap (withinAt n) (let z : 0 * 2 ^ n ≡ 0 = zero-mul (2 ^ n) in omega arith) ∙ row-in n 0 0 (pow-pos n) (and-zero-l 0)
 
 -- after the pair with masks f and o
-module _ {n f o count : ℕ} (fixed-lt : f < 2 ^ n) (ones-lt : o < 2 ^ n) (p : PairBelow n (f * 2 ^ n + o)) (c : count ≡ 2 ^ n) where
+module _ {n f o count : ℕ} (fixed-lt : f < 2 ^ n) (ones-lt : o < 2 ^ n) (p : PairBelow n (f * 2 ^ n + o))
+    (c : count ≡ 2 ^ n) where
   inside : Subset f o
   inside = and-within n f o ones-lt (sym (row n f o ones-lt) ∙ p .within)
 
   row-ends : f * 2 ^ n + 2 ^ n ≤ 2 ^ n * 2 ^ n
-  row-ends = let h : f * 2 ^ n + (2 ^ n - 1) < 2 ^ n * 2 ^ n = digits-lt fixed-lt (omega (arith, pow-pos n)) in omega (arith, pow-pos n)
+  row-ends =
+      let h : f * 2 ^ n + (2 ^ n - 1) < 2 ^ n * 2 ^ n = digits-lt fixed-lt (omega (arith, pow-pos n)) in
+      omega (arith, pow-pos n)
 
   -- a later pair of the row that is an assignment
   later : (x : ℕ) → f * 2 ^ n + o < x → x < f * 2 ^ n + 2 ^ n → (Subset f (x - f * 2 ^ n) → ⊥) → withinAt n x ≡ false

@@ -1,4 +1,5 @@
--- The assignments with one first mask, in the order of their second masks: their numbers, and whether they are left in the table. Cited by the proofs of
+-- The assignments with one first mask, in the order of their second masks: their numbers, and whether they are left in
+-- the table. Cited by the proofs of
 -- `row_base` and `is_left`, and of the loops. Assumes nothing.
 use mathlib.Core.Path.{_≡_}
 use mathlib.Core.List.{List}
@@ -9,13 +10,13 @@ use lib.Arith.{digits-lt, digits-div, digits-mod}
 use lib.Dec.{eqb}
 use lib.ListN.{getD}
 use Rattle.netlist.specs.Limits.{maxInputs}
-use Rattle.cover_implicants.specs.Over.{masks}
-use Rattle.cover_implicants.specs.Tables.{ternaryNumber, weightOf}
-use Rattle.cover_implicants.specs.Entries.{maskPairAt, withinAt, PairBelow, soundAt, entryBy, Row, EntriesReached}
-use Rattle.cover_implicants.proofs.Agree.{within-at}
+use Rattle.theory_cover.specs.Over.{masks}
+use Rattle.theory_cover.specs.Tables.{ternaryNumber, weightOf}
+use Rattle.theory_cover.specs.Entries.{maskPairAt, withinAt, PairBelow, soundAt, entryBy, Row, EntriesReached}
+use Rattle.theory_cover.proofs.Agree.{within-at}
 use Rattle.cover_implicants.proofs.Bounds.{three-fits}
-use Rattle.cover_implicants.proofs.Covered.{bit-zero}
-use Rattle.cover_implicants.proofs.Numbers.{number-lt, number-weights}
+use Rattle.theory_cover.proofs.Covered.{bit-zero}
+use Rattle.theory_cover.proofs.Numbers.{number-lt, number-weights}
 use Rattle.cover_implicants.proofs.Weights.{weight-none}
 
 -- `row_base`: the weight of a mask is less than half of 3^n
@@ -27,7 +28,8 @@ row-fits n fixed =
     omega arith
 
 -- `is_left`, at the pair `fixed`, `ones`
-module _ {marks weights : List ℕ} {n base fixed ones : ℕ} (w : Row marks weights n base fixed) (m : ones < 2 ^ n) (p : PairBelow n (fixed * 2 ^ n + ones)) where
+module _ {marks weights : List ℕ} {n base fixed ones : ℕ} (w : Row marks weights n base fixed) (m : ones < 2 ^ n)
+    (p : PairBelow n (fixed * 2 ^ n + ones)) where
   pair-is : maskPairAt n (fixed * 2 ^ n + ones) ≡ masks fixed ones
   unfolding maskPairAt
   pair-is = rw (digits-div fixed m, digits-mod fixed m)
@@ -41,15 +43,19 @@ module _ {marks weights : List ℕ} {n base fixed ones : ℕ} (w : Row marks wei
       rw (pair-is, w .weighed .right ones m) (omega (arith, w .base-is))
 
   pub number-below : (base + getD weights ones 0 < 3 ^ n) × (3 ^ n ≤ 3 ^ maxInputs)
-  number-below =
-      (rw number-is (number-lt n (maskPairAt n (fixed * 2 ^ n + ones))), three-fits {i = n} {n = n} (omega arith) (w .weighed .few))
+  number-below = (
+    rw number-is (number-lt n (maskPairAt n (fixed * 2 ^ n + ones))),
+    three-fits {i = n} {n = n} (omega arith)
+        (w .weighed .few),
+  )
 
   pub left-is : eqb (getD marks (base + getD weights ones 0) 0) 1 ≡ entryBy marks n (fixed * 2 ^ n + ones)
   unfolding entryBy soundAt
   left-is = rw (p .within, number-is)
 
 -- in a row each pair reached is an assignment
-pub row-below : {marks : List ℕ} {n fixed ones count : ℕ} → EntriesReached marks n (fixed * 2 ^ n + ones) count → fixed < 2 ^ n → ones < 2 ^ n
+pub row-below : {marks : List ℕ} {n fixed ones count : ℕ} → EntriesReached marks n (fixed * 2 ^ n + ones) count
+    → fixed < 2 ^ n → ones < 2 ^ n
     → PairBelow n (fixed * 2 ^ n + ones)
 row-below r l m = let b : _ = digits-lt l m in record { below = b; within = r .legal b }
 

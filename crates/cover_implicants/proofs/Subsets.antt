@@ -1,7 +1,9 @@
--- Subsets of a mask f, as masks o with `bitAnd o f ≡ o`, and the next one after a given one. Cited by the laws of the walk over pairs.
+-- Subsets of a mask f, as masks o with `bitAnd o f ≡ o`, and the next one after a given one. Cited by the laws of the
+-- walk over pairs.
 --   subset-half, subset-bit, subset-from   a subset by its half and its lowest bit
 --   filled                                 with the free inputs at 1 added, the subset is still seen through f
---   NextSubset, next-subset                one more than that: the carry passes the free inputs, and what is seen is the next subset
+--   NextSubset, next-subset                one more than that: the carry passes the free inputs, and what is seen is
+--                                          the next subset
 -- Assumes nothing.
 use mathlib.Core.Path.{_≡_, sym, ap, _∙_}
 use mathlib.Core.Logic.{⊎-elim}
@@ -39,7 +41,8 @@ filled (suc n) f o l s =
     let b : o % 2 ≤ f % 2 = subset-bit f o s in
     let half : (o + 2 ^ suc n - suc f) / 2 ≡ o / 2 + 2 ^ n - suc (f / 2) = omega arith in
     let low : min ((o + 2 ^ suc n - suc f) % 2) (f % 2) ≡ o % 2 = omega arith in
-    let i : bitAnd (o / 2 + 2 ^ n - suc (f / 2)) (f / 2) ≡ o / 2 = filled n (f / 2) (o / 2) (omega arith) (subset-half f o s) in
+    let i : bitAnd (o / 2 + 2 ^ n - suc (f / 2)) (f / 2) ≡ o / 2 =
+    filled n (f / 2) (o / 2) (omega arith) (subset-half f o s) in
     let h : bitAnd ((o + 2 ^ suc n - suc f) / 2) (f / 2) ≡ o / 2 = rw half i in
     steps f (o + 2 ^ suc n - suc f) ∙ omega arith
 
@@ -66,7 +69,8 @@ next-subset zero f o l s m = let z : f < 1 = l in absurd (omega arith)
 next-subset (suc n) f o l s m =
     let b : o % 2 ≤ f % 2 = subset-bit f o s in
     ⊎-elim carried
-    (λ (g : f % 2 ≤ o % 2). passed (omega arith) (next-subset n (f / 2) (o / 2) (omega (arith, e)) (subset-half f o s) (omega arith)))
+    (λ (g : f % 2 ≤ o % 2). passed (omega arith)
+    (next-subset n (f / 2) (o / 2) (omega (arith, e)) (subset-half f o s) (omega arith)))
     (lt-or-le (o % 2) (f % 2))
   where
     e : 2 ^ suc n ≡ 2 ^ n * 2
@@ -76,14 +80,22 @@ next-subset (suc n) f o l s m =
     carried : o % 2 < f % 2 → NextSubset f o (bitAnd (o + 2 ^ suc n - f) f)
     carried b =
         let half : (o + 2 ^ suc n - f) / 2 ≡ o / 2 + 2 ^ n - suc (f / 2) = omega (arith, e) in
-        let h : bitAnd ((o + 2 ^ suc n - f) / 2) (f / 2) ≡ o / 2 = rw half (filled n (f / 2) (o / 2) (omega (arith, e)) (subset-half f o s)) in
+        let h : bitAnd ((o + 2 ^ suc n - f) / 2) (f / 2) ≡ o / 2 =
+        rw half (filled n (f / 2) (o / 2) (omega (arith, e)) (subset-half f o s)) in
         let r : bitAnd (o + 2 ^ suc n - f) f ≡ o + 1 = steps f (o + 2 ^ suc n - f) ∙ omega (arith, e) in
         let k : (o + 1) / 2 ≡ o / 2 = omega arith in
-        rw r (record { above = omega arith; inside = subset-from f (o + 1) (rw k (subset-half f o s)) (omega arith); least = λ x a t. omega arith })
+        rw r (record {
+          above = omega arith;
+          inside = subset-from f (o + 1) (rw k (subset-half f o s))
+              (omega arith);
+          least = λ x a t. omega arith;
+        })
 
-    passed : o % 2 ≡ f % 2 → NextSubset (f / 2) (o / 2) (bitAnd (o / 2 + 2 ^ n - f / 2) (f / 2)) → NextSubset f o (bitAnd (o + 2 ^ suc n - f) f)
+    passed : o % 2 ≡ f % 2 → NextSubset (f / 2) (o / 2) (bitAnd (o / 2 + 2 ^ n - f / 2) (f / 2))
+        → NextSubset f o (bitAnd (o + 2 ^ suc n - f) f)
     passed b i =
         let half : (o + 2 ^ suc n - f) / 2 ≡ o / 2 + 2 ^ n - f / 2 = omega (arith, e) in
         let h : bitAnd ((o + 2 ^ suc n - f) / 2) (f / 2) ≡ bitAnd (o / 2 + 2 ^ n - f / 2) (f / 2) = rw half in
-        let r : bitAnd (o + 2 ^ suc n - f) f ≡ bitAnd (o / 2 + 2 ^ n - f / 2) (f / 2) * 2 = steps f (o + 2 ^ suc n - f) ∙ omega (arith, e) in
+        let r : bitAnd (o + 2 ^ suc n - f) f ≡ bitAnd (o / 2 + 2 ^ n - f / 2) (f / 2) * 2 =
+        steps f (o + 2 ^ suc n - f) ∙ omega (arith, e) in
         rw r (doubled f o (bitAnd (o / 2 + 2 ^ n - f / 2) (f / 2)) b i)

@@ -1,16 +1,18 @@
--- The ternary weight of a mask from that of its half, and of the next mask. Cited by the laws of filling. Assumes nothing.
+-- The ternary weight of a mask from that of its half, and of the next mask. Cited by the laws of filling. Assumes
+-- nothing.
 use mathlib.Core.Path.{_≡_, sym, ap, _∙_}
 use mathlib.Core.Logic.{⊎-elim}
 use mathlib.Core.List.{List}
 use Prim.Native.Nat.{ℕ, zero, suc, _+_, _-_, _*_, _/_, _%_, _^_, _<_}
-use native.Mathlib.Nat.{pow-suc, mul-assoc, mul-comm, div-div-eq-div-mul, div-one, mul-one, zero-mul, one-mul, div-eq-of-lt}
+use native.Mathlib.Nat.{pow-suc, mul-assoc, mul-comm, div-div-eq-div-mul, div-one, mul-one, zero-mul, one-mul}
+use native.Mathlib.Nat.{div-eq-of-lt}
 use native.Mathlib.Omega.{arith}
 use lib.ListN.{length, getD, set}
 use lib.Seq.{getD-set-same, getD-set-other}
 use Rattle.prelude.proofs.Tests.{eq-or-ne}
 use Rattle.netlist.specs.Assignments.{bit}
-use Rattle.cover_implicants.specs.Digits.{numeral}
-use Rattle.cover_implicants.specs.Tables.{weightOf}
+use Rattle.theory_cover.specs.Digits.{numeral}
+use Rattle.theory_cover.specs.Tables.{weightOf}
 
 bit-half : (x m : ℕ) → bit x (suc m) ≡ bit (x / 2) m
 unfolding bit
@@ -67,15 +69,23 @@ unfolding weightOf numeral bit
 weight-power m = ap (weightOf (m + 1)) (sym (one-mul (2 ^ m))) ∙ weight-shift m 1 1 ∙ one-mul (3 ^ m)
 
 -- `fill_weights`: the first mask, and one mask more
-pub weights-first : (weights : List ℕ) (n m : ℕ) → 0 < length weights → m < 1 → getD (set weights 0 0) m 0 ≡ weightOf n m
+pub weights-first : (weights : List ℕ) (n m : ℕ) → 0 < length weights → m < 1
+    → getD (set weights 0 0) m 0 ≡ weightOf n m
 weights-first weights n m l b = let z : m ≡ 0 = omega arith in rw (z, weight-none n) (getD-set-same weights 0 0 0 l)
 
-pub weights-next : (weights : List ℕ) (n mask : ℕ) → ((m : ℕ) → m < mask → getD weights m 0 ≡ weightOf n m) → 0 < mask → mask < 2 ^ n → mask < length weights
+pub weights-next : (weights : List ℕ) (n mask : ℕ) → ((m : ℕ) → m < mask → getD weights m 0 ≡ weightOf n m) → 0 < mask
+    → mask < 2 ^ n → mask < length weights
     → (m : ℕ) → m < mask + 1 → getD (set weights mask (3 * getD weights (mask / 2) 0 + mask % 2)) m 0 ≡ weightOf n m
 weights-next weights n mask right pos small there m l =
     ⊎-elim
     (λ (e : m ≡ mask).
-    rw (e, getD-set-same weights mask (3 * getD weights (mask / 2) 0 + mask % 2) 0 there, right (mask / 2) (omega arith))
+    rw (
+      e,
+      getD-set-same weights mask (3 * getD weights (mask / 2) 0 + mask % 2) 0 there,
+      right (mask / 2)
+          (omega arith),
+    )
     (omega (arith, weight-from-half n mask small)))
-    (λ (ne : m ≡ mask → ⊥). getD-set-other weights mask m (3 * getD weights (mask / 2) 0 + mask % 2) 0 ne ∙ right m (omega arith))
+    (λ (ne : m ≡ mask → ⊥). getD-set-other weights mask m (3 * getD weights (mask / 2) 0 + mask % 2) 0 ne ∙ right m
+    (omega arith))
     (eq-or-ne m mask)

@@ -5,10 +5,10 @@ ghost use mathlib.Core.Path.{_≡_};
 ghost use Prim.Native.Nat.{_+_, _*_, _^_, _≤_, _<_};
 ghost use lib.ListN.{length};
 ghost use Rattle.prelude.specs.Lists.{placed};
-ghost use Rattle.cover_implicants.specs.Entries.{entryBy, entriesBy, PairBelow, Row, EntriesReached};
-ghost use Rattle.cover_implicants.specs.Entries.{RowListed, EntriesWritten};
-ghost use Rattle.cover_implicants.specs.Over.{assignmentWords};
-ghost use Rattle.cover_implicants.specs.Tables.{weightOf, Weighed};
+ghost use Rattle.theory_cover.specs.Entries.{entryBy, entriesBy, PairBelow, Row, EntriesReached};
+ghost use Rattle.theory_cover.specs.Entries.{RowListed, EntriesWritten};
+ghost use Rattle.theory_cover.specs.Over.{assignmentWords};
+ghost use Rattle.theory_cover.specs.Tables.{weightOf, Weighed};
 
 // A first mask, and the number of the assignment with it and no input at 1.
 struct FirstMask {
@@ -27,7 +27,10 @@ fn row_base(weights: &[u32], n: usize, size: usize, fixed: usize) -> usize
 // Whether an assignment with this first mask is left: an input at 1 in place of 0 makes the number greater by its
 // weight.
 fn is_left(marks: &[u8], weights: &[u32], n: usize, first: FirstMask, ones: usize) -> bool
-    requires { ⌜ Row (now marks) (now weights) n (first .base) (first .fixed) × (ones < 2 ^ n) × PairBelow n (first .fixed * 2 ^ n + ones) ⌝ }
+    requires { ⌜
+        Row (now marks) (now weights) n (first .base) (first .fixed) × (ones < 2 ^ n)
+        × PairBelow n (first .fixed * 2 ^ n + ones)
+        ⌝ }
     ensures { λ r. ⌜ r ≡ entryBy (now (marks .entry)) n (first .fixed * 2 ^ n + ones) ⌝ }
 {
     marks[first.base + weights[ones] as usize] == 1
@@ -43,7 +46,10 @@ fn list_row(
     before: usize,
     out: &mut [u16],
 ) -> usize
-    requires { ⌜ Row (now marks) (now weights) n (first .base) (first .fixed) × EntriesReached (now marks) n (first .fixed * 2 ^ n) before ⌝ }
+    requires { ⌜
+        Row (now marks) (now weights) n (first .base) (first .fixed)
+        × EntriesReached (now marks) n (first .fixed * 2 ^ n) before
+        ⌝ }
     requires { ⌜ 2 * length (entriesBy (now marks) n) ≤ length (now out) ⌝ }
     ensures { λ r. ⌜ RowListed (now (marks .entry)) (now (out .entry)) (now (out .exit)) n (first .fixed) r ⌝ }
 {
@@ -65,8 +71,12 @@ fn list_row(
 // The words of all `total` entries into the beginning of `out`; the walk ends with the last of them.
 fn list_entries(marks: &[u8], weights: &[u32], n: usize, size: usize, total: usize, out: &mut [u16])
     requires { ⌜ Weighed (now weights) n × (size ≡ 3 ^ n) × (3 ^ n ≤ length (now marks)) ⌝ }
-    requires { ⌜ (total ≡ length (entriesBy (now marks) n)) × (2 * length (entriesBy (now marks) n) ≤ length (now out)) ⌝ }
-    ensures { λ _. ⌜ now (out .exit) ≡ placed (assignmentWords (entriesBy (now (marks .entry)) n)) (now (out .entry)) ⌝ }
+    requires { ⌜
+        (total ≡ length (entriesBy (now marks) n)) × (2 * length (entriesBy (now marks) n) ≤ length (now out))
+        ⌝ }
+    ensures { λ _. ⌜
+        now (out .exit) ≡ placed (assignmentWords (entriesBy (now (marks .entry)) n)) (now (out .entry))
+        ⌝ }
 {
     let mut count: usize = 0;
     let mut fixed = 0;
@@ -87,7 +97,10 @@ pub fn write_entries(
     total: usize,
     out: &mut [u16],
 )
-    requires { ⌜ Weighed (now weights) n × (size ≡ 3 ^ n) × (3 ^ n ≤ length (now marks)) × (total ≡ length (entriesBy (now marks) n)) ⌝ }
+    requires { ⌜
+        Weighed (now weights) n × (size ≡ 3 ^ n) × (3 ^ n ≤ length (now marks))
+        × (total ≡ length (entriesBy (now marks) n))
+        ⌝ }
     ensures { λ _. ⌜ EntriesWritten (entriesBy (now (marks .entry)) n) (now (out .entry)) (now (out .exit)) total ⌝ }
 {
     if 2 * total <= out.len() {

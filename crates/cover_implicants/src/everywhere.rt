@@ -5,9 +5,9 @@ ghost use Prim.Native.Nat.{_^_, _≤_};
 ghost use lib.ListN.{length};
 ghost use Rattle.prelude.specs.Lists.{all, upTo};
 ghost use Rattle.netlist.specs.Limits.{maxInputs};
-ghost use Rattle.cover_implicants.specs.Over.{nothing};
-ghost use Rattle.cover_implicants.specs.Tables.{settledBy};
-ghost use Rattle.cover_implicants.specs.Entries.{EntriesWritten};
+ghost use Rattle.theory_cover.specs.Over.{nothing};
+ghost use Rattle.theory_cover.specs.Tables.{settledBy};
+ghost use Rattle.theory_cover.specs.Entries.{EntriesWritten};
 
 // Whether every setting is settled.
 pub fn are_all_settled(settled: &[u8], n: usize) -> bool

@@ -13,9 +13,9 @@ use words_layout::limits::MAX_SETTINGS;
 ghost use Prim.Native.Nat.{_^_, _≤_};
 ghost use lib.ListN.{length};
 ghost use Rattle.netlist.specs.Limits.{maxInputs};
-ghost use Rattle.cover_implicants.specs.Over.{coverOver};
-ghost use Rattle.cover_implicants.specs.Tables.{settledBy, fewInputs};
-ghost use Rattle.cover_implicants.specs.Entries.{EntriesWritten};
+ghost use Rattle.theory_cover.specs.Over.{coverOver};
+ghost use Rattle.theory_cover.specs.Tables.{settledBy, fewInputs};
+ghost use Rattle.theory_cover.specs.Entries.{EntriesWritten};
 
 mod entries;
 mod everywhere;
@@ -34,7 +34,9 @@ const FEW_ASSIGNMENTS: usize = 6561;
 // settled setting. There are as many masks as settings.
 pub fn cover_entries(settled: &[u8], n: usize, out: &mut [u16]) -> usize
     requires { ⌜ (n ≤ maxInputs) × (2 ^ n ≤ length (now settled)) ⌝ }
-    ensures { λ r. ⌜ EntriesWritten (coverOver (settledBy (now (settled .entry))) n) (now (out .entry)) (now (out .exit)) r ⌝ }
+    ensures { λ r. ⌜
+        EntriesWritten (coverOver (settledBy (now (settled .entry))) n) (now (out .entry)) (now (out .exit)) r
+        ⌝ }
 {
     if are_all_settled(settled, n) {
         return write_nothing(out);
@@ -57,7 +59,9 @@ fn cover_many(
     out: &mut [u16],
 ) -> usize
     requires { ⌜ (n ≤ maxInputs) × (2 ^ n ≤ length (now settled)) ⌝ }
-    ensures { λ r. ⌜ EntriesWritten (coverOver (settledBy (now (settled .entry))) n) (now (out .entry)) (now (out .exit)) r ⌝ }
+    ensures { λ r. ⌜
+        EntriesWritten (coverOver (settledBy (now (settled .entry))) n) (now (out .entry)) (now (out .exit)) r
+        ⌝ }
 {
     cover_within(settled, n, sound, weights, out)
 }
@@ -65,7 +69,9 @@ fn cover_many(
 // `cover_entries` for few inputs, with small tables.
 fn cover_few(settled: &[u8], n: usize, out: &mut [u16]) -> usize
     requires { ⌜ (n ≤ fewInputs) × (2 ^ n ≤ length (now settled)) ⌝ }
-    ensures { λ r. ⌜ EntriesWritten (coverOver (settledBy (now (settled .entry))) n) (now (out .entry)) (now (out .exit)) r ⌝ }
+    ensures { λ r. ⌜
+        EntriesWritten (coverOver (settledBy (now (settled .entry))) n) (now (out .entry)) (now (out .exit)) r
+        ⌝ }
 {
     let mut sound = [0u8; FEW_ASSIGNMENTS];
     let mut weights = [0u32; FEW_SETTINGS];
@@ -80,8 +86,12 @@ fn cover_within(
     weights: &mut [u32],
     out: &mut [u16],
 ) -> usize
-    requires { ⌜ (n ≤ maxInputs) × (2 ^ n ≤ length (now settled)) × (3 ^ n ≤ length (now sound)) × (2 ^ n ≤ length (now weights)) ⌝ }
-    ensures { λ r. ⌜ EntriesWritten (coverOver (settledBy (now (settled .entry))) n) (now (out .entry)) (now (out .exit)) r ⌝ }
+    requires { ⌜
+        (n ≤ maxInputs) × (2 ^ n ≤ length (now settled)) × (3 ^ n ≤ length (now sound)) × (2 ^ n ≤ length (now weights))
+        ⌝ }
+    ensures { λ r. ⌜
+        EntriesWritten (coverOver (settledBy (now (settled .entry))) n) (now (out .entry)) (now (out .exit)) r
+        ⌝ }
 {
     fill_weights(n, weights);
     let size = fill_sound(settled, n, sound);

@@ -4,7 +4,7 @@ ghost use mathlib.Core.Path.{_≡_};
 ghost use Prim.Native.Nat.{_^_, _≤_, _<_};
 ghost use lib.ListN.{length};
 ghost use Rattle.netlist.specs.Limits.{maxInputs};
-ghost use Rattle.cover_implicants.specs.Entries.{minimalAt, OnlyMinimal};
+ghost use Rattle.theory_cover.specs.Entries.{minimalAt, OnlyMinimal};
 
 // Whether no fixed input of assignment number k can be dropped: with input i free its number is greater by 2 or 1 times
 // 3^i.

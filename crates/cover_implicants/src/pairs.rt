@@ -2,7 +2,7 @@
 // this walks its subsets in ascending order.
 ghost use Prim.Native.Nat.{_+_, _*_, _^_, _≤_, _<_};
 ghost use Rattle.netlist.specs.Limits.{maxInputs};
-ghost use Rattle.cover_implicants.specs.Entries.{PairBelow, NextPair};
+ghost use Rattle.theory_cover.specs.Entries.{PairBelow, NextPair};
 
 // The second mask of the next pair with this first mask whose inputs at 1 are fixed ones, or the number of masks where
 // there is none: the next subset of the fixed inputs, where a carry passes the free ones (Knuth, The Art of Computer

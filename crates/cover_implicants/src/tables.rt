@@ -3,7 +3,7 @@
 ghost use Prim.Native.Nat.{_+_, _*_, _^_, _≤_, _<_};
 ghost use lib.ListN.{length};
 ghost use Rattle.netlist.specs.Limits.{maxInputs};
-ghost use Rattle.cover_implicants.specs.Tables.{Weighed, Filled, HalvesJoined};
+ghost use Rattle.theory_cover.specs.Tables.{Weighed, Filled, HalvesJoined};
 
 // The weight of each mask of n bits, its bits read as ternary digits: three times that of its half, and the lowest bit.
 pub fn fill_weights(n: usize, weights: &mut [u32])

@@ -32,7 +32,8 @@ pub struct Span {
 // Read: text to block; count: words.
 #[no_mangle]
 pub extern "C" fn unloop_read(text: &[u8], block: &mut [u16]) -> Reply
-    ensures { λ r. ⌜ Replies (read (now (text .entry)) (length (now (block .entry)))) (now (block .entry)) r (now (block .exit)) ⌝ }
+    ensures { λ r. ⌜ Replies (read (now (text .entry)) (length (now (block .entry)))) (now (block .entry)) r
+        (now (block .exit)) ⌝ }
 {
     reply_of(op_read::read(text, block))
 }
@@ -40,7 +41,8 @@ pub extern "C" fn unloop_read(text: &[u8], block: &mut [u16]) -> Reply
 // Write: block to text; count: bytes.
 #[no_mangle]
 pub extern "C" fn unloop_write(block: &[u16], text: &mut [u8]) -> Reply
-    ensures { λ r. ⌜ Replies (write (now (block .entry)) (length (now (text .entry)))) (now (text .entry)) r (now (text .exit)) ⌝ }
+    ensures { λ r. ⌜ Replies (write (now (block .entry)) (length (now (text .entry)))) (now (text .entry)) r
+        (now (text .exit)) ⌝ }
 {
     reply_of(op_write::write(block, text))
 }
@@ -48,7 +50,8 @@ pub extern "C" fn unloop_write(block: &[u16], text: &mut [u8]) -> Reply
 // Bring: the words of a block stored before there were never lines, as words of today; count: words.
 #[no_mangle]
 pub extern "C" fn unloop_bring(old: &[u16], block: &mut [u16]) -> Reply
-    ensures { λ r. ⌜ Replies (bring (now (old .entry)) (length (now (block .entry)))) (now (block .entry)) r (now (block .exit)) ⌝ }
+    ensures { λ r. ⌜ Replies (bring (now (old .entry)) (length (now (block .entry)))) (now (block .entry)) r
+        (now (block .exit)) ⌝ }
 {
     reply_of(op_bring::bring(old, block))
 }
@@ -57,7 +60,8 @@ pub extern "C" fn unloop_bring(old: &[u16], block: &mut [u16]) -> Reply
 #[no_mangle]
 pub extern "C" fn unloop_settle(block: &[u16], setting: &[u8], values: &mut [u8]) -> Reply
     ensures { λ r. ⌜
-        Replies (settle (now (block .entry)) (now (setting .entry)) (length (now (values .entry)))) (now (values .entry)) r (now (values .exit))
+        Replies (settle (now (block .entry)) (now (setting .entry)) (length (now (values .entry))))
+        (now (values .entry)) r (now (values .exit))
         ⌝ }
 {
     reply_of(op_settle::settle::settle(block, setting, values))
@@ -66,14 +70,15 @@ pub extern "C" fn unloop_settle(block: &[u16], setting: &[u8], values: &mut [u8]
 // Pass: the values of a straight block in one sweep, Settle's values; count: gates.
 #[no_mangle]
 pub extern "C" fn unloop_pass(block: &[u16], setting: &[u8], values: &mut [u8]) -> Reply
-    ensures { λ r. ⌜ PassReply (now (block .entry)) (now (setting .entry)) (now (values .entry)) r (now (values .exit)) ⌝ }
+    ensures { λ r. ⌜ PassReply (now (block .entry)) (now (setting .entry)) (now (values .entry)) r
+        (now (values .exit)) ⌝ }
 {
     reply_of(op_pass::pass(block, setting, values))
 }
 
-// Sheet: each record's answer from its two masks of inputs; count: the records. Two turns for each record: it is read, and
-// once its batch is settled it is answered. A function on a slice of structs is proved step by step by hand: hence one loop
-// and no branch.
+// Sheet: each record's answer from its two masks of inputs; count: the records. Two turns for each record: it is read,
+// and once its batch is settled it is answered. A function on a slice of structs is proved step by step by hand: hence
+// one loop and no branch.
 #[no_mangle]
 pub extern "C" fn unloop_sheet(block: &[u16], records: &mut [Record]) -> Reply
     ensures answers { λ r. ⌜ Shows (answerOf (sheet (now (block .entry)) (length (now (records .entry))))) r ⌝ }
@@ -105,7 +110,8 @@ pub extern "C" fn unloop_verdict(block: &[u16]) -> Reply
 // Cover: two words an entry; count: entries.
 #[no_mangle]
 pub extern "C" fn unloop_cover(block: &[u16], entries: &mut [u16]) -> Reply
-    ensures { λ r. ⌜ Replies (coverOf (now (block .entry)) (length (now (entries .entry)))) (now (entries .entry)) r (now (entries .exit)) ⌝ }
+    ensures { λ r. ⌜ Replies (coverOf (now (block .entry)) (length (now (entries .entry)))) (now (entries .entry)) r
+        (now (entries .exit)) ⌝ }
 {
     reply_of(op_cover::cover(block, entries))
 }
@@ -113,7 +119,8 @@ pub extern "C" fn unloop_cover(block: &[u16], entries: &mut [u16]) -> Reply
 // Groups: each gate's group number; count: groups.
 #[no_mangle]
 pub extern "C" fn unloop_groups(block: &[u16], numbers: &mut [u16]) -> Reply
-    ensures { λ r. ⌜ Replies (groupsOf (now (block .entry)) (length (now (numbers .entry)))) (now (numbers .entry)) r (now (numbers .exit)) ⌝ }
+    ensures { λ r. ⌜ Replies (groupsOf (now (block .entry)) (length (now (numbers .entry)))) (now (numbers .entry)) r
+        (now (numbers .exit)) ⌝ }
 {
     reply_of(op_groups::groups(block, numbers))
 }
@@ -143,7 +150,8 @@ pub extern "C" fn unloop_run(
     values: &mut [u8],
 ) -> Reply
     ensures { λ r. ⌜
-        Replies (runCells inputs (now (cells .entry)) (now (setting .entry)) (length (now (values .entry)))) (now (values .entry)) r (now (values .exit))
+        Replies (runCells inputs (now (cells .entry)) (now (setting .entry)) (length (now (values .entry))))
+        (now (values .entry)) r (now (values .exit))
         ⌝ }
 {
     reply_of(op_cells::run::run_cells(inputs, cells, setting, values))
@@ -174,7 +182,8 @@ pub extern "C" fn unloop_compare(ours: &[u16], theirs: &[u16]) -> Reply
 // Accepted: count and detail 0; else the lowest output that differs, counted from 1, and the lowest setting.
 #[no_mangle]
 pub extern "C" fn unloop_compare_cells(block: &[u16], cells: &[u16], shown: &[u16]) -> Reply
-    ensures { λ r. ⌜ Shows (answerOf (compareCells (now (block .entry)) (now (cells .entry)) (now (shown .entry)))) r ⌝ }
+    ensures { λ r. ⌜ Shows (answerOf (compareCells (now (block .entry)) (now (cells .entry)) (now (shown .entry))))
+        r ⌝ }
 {
     reply_of(op_compare_cells::compare_cells(block, cells, shown))
 }
@@ -182,7 +191,8 @@ pub extern "C" fn unloop_compare_cells(block: &[u16], cells: &[u16], shown: &[u1
 // Gather: the block with its gates by group, and the list of their old numbers; count: the block's words.
 #[no_mangle]
 pub extern "C" fn unloop_gather(block: &[u16], gathered: &mut [u16], order: &mut [u16]) -> Reply
-    ensures { λ r. ⌜ GatherReply (now (block .entry)) (now (gathered .entry)) (now (order .entry)) r (now (gathered .exit)) (now (order .exit)) ⌝ }
+    ensures { λ r. ⌜ GatherReply (now (block .entry)) (now (gathered .entry)) (now (order .entry)) r
+        (now (gathered .exit)) (now (order .exit)) ⌝ }
 {
     reply_of(op_gather::gather(block, gathered, order))
 }
@@ -191,7 +201,8 @@ pub extern "C" fn unloop_gather(block: &[u16], gathered: &mut [u16], order: &mut
 #[no_mangle]
 pub extern "C" fn unloop_scatter(block: &[u16], order: &[u16], original: &mut [u16]) -> Reply
     ensures { λ r. ⌜
-        Replies (scatter (now (block .entry)) (now (order .entry)) (length (now (original .entry)))) (now (original .entry)) r (now (original .exit))
+        Replies (scatter (now (block .entry)) (now (order .entry)) (length (now (original .entry))))
+        (now (original .entry)) r (now (original .exit))
         ⌝ }
 {
     reply_of(op_gather::scatter(block, order, original))

@@ -54,7 +54,9 @@ pub struct Rule {
 // The rule of a kind, by the kind's number.
 pub fn rule_of(kind: usize) -> Rule
     requires { ⌜ kind ≤ 6 ⌝ }
-    ensures { λ r. ⌜ (r .controlling ≡ controllingOf kind) × (r .forced ≡ forcedOf kind) × (r .controlling ≤ 1) × (r .forced ≤ 1) ⌝ }
+    ensures { λ r. ⌜
+        (r .controlling ≡ controllingOf kind) × (r .forced ≡ forcedOf kind) × (r .controlling ≤ 1) × (r .forced ≤ 1)
+        ⌝ }
 {
     match kind {
         0 => Rule {

@@ -1,5 +1,5 @@
--- Layers that are tied are the strongly connected groups. Cited by the functions of `ties` and by `lead_with`. Assumes
--- nothing.
+-- Layers that are certified are the strongly connected components. Cited by the functions of `certified` and by
+-- `lead_with`. Assumes nothing.
 --   last-same, last-other, last-facts   the last position of a layer
 --   from-last, to-last                  a layer's last gate reaches every gate of the layer, and is reached by it
 --   never-later                         along a path the layer's last position never grows
@@ -20,8 +20,8 @@ use Rattle.graph_gates.specs.Graph.{network}
 use Rattle.graph_gates.proofs.Network.{network-count}
 use Rattle.graph_scc.specs.Layers.{LoopEnd, LayerEnd, Layers}
 use Rattle.graph_scc.specs.Search.{Layered}
-use Rattle.graph_leaders.specs.Leaders.{lastOf, distanceAt, Called, Leaving, Tied, Certified, layerKey}
-use Rattle.graph_leaders.specs.Leaders.{Keyed}
+use Rattle.graph_leaders.specs.Leaders.{lastOf, distanceAt, HasParent, HasLowLink, CertifiedAt, Certified}
+use Rattle.graph_leaders.specs.Leaders.{layerKey, Keyed}
 use Rattle.graph_scc.proofs.Slots.{read-slot, read-inside}
 use Rattle.graph_scc.proofs.Layered.{layered}
 
@@ -89,9 +89,9 @@ module _ {m : ℕ} {graph order ends positions notes : List ℕ} (c : Certified 
       → OperandPath (network m graph) (getD order (lastOf ends i) 0) (getD order i 0)
   from-last zero i il near = absurd (omega arith)
   from-last (suc left) i il near =
-      ⊎-elim (λ e. rw e stay) (λ t. go (t .0) (λ l n. from-last left (t .0 .from) l n)) (c .tied i il .cases)
+      ⊎-elim (λ e. rw e stay) (λ t. go (t .0) (λ l n. from-last left (t .0 .from) l n)) (c .certifiedAt i il .cases)
     where
-      go : (t : Called m graph order ends i)
+      go : (t : HasParent m graph order ends i)
           → (t .from < m → m ≤ t .from + left
           → OperandPath (network m graph) (getD order (lastOf ends (t .from)) 0) (getD order (t .from) 0))
           → OperandPath (network m graph) (getD order (lastOf ends i) 0) (getD order i 0)
@@ -102,12 +102,13 @@ module _ {m : ℕ} {graph order ends positions notes : List ℕ} (c : Certified 
 
   to-last : (most i : ℕ) → i < m → distanceAt order notes i ≤ most
       → OperandPath (network m graph) (getD order i 0) (getD order (lastOf ends i) 0)
-  to-last zero i il near = ⊎-elim (λ e. rw e stay) (λ t. absurd (omega (arith, t .1 .nearer))) (c .tied i il .cases)
+  to-last zero i il near =
+      ⊎-elim (λ e. rw e stay) (λ t. absurd (omega (arith, t .1 .nearer))) (c .certifiedAt i il .cases)
   to-last (suc most) i il near =
       ⊎-elim (λ e. rw e stay)
       (λ t. step (t .1 .reading) (rw (t .1 .same) at (to-last most (t .1 .to) (t .1 .below)
       (omega (arith, t .1 .nearer)))))
-      (c .tied i il .cases)
+      (c .certifiedAt i il .cases)
 
   -- where gate j stands
   place : ℕ → ℕ

@@ -1,6 +1,6 @@
 -- A group's leader, and the walk over the gates that finds the lowest gate of each group. Cited by `lead_layers` and by
 -- `op_groups`. Assumes nothing.
---   leader-below .. leader-leads    a leader is the lowest gate of its group, and leads it
+--   leader-below .. leader-le       a leader is the lowest gate of its group
 --   leading-none, leading-on        gate after gate gets its leader
 use mathlib.Core.Path.{_≡_, refl, sym, _∙_}
 use mathlib.Core.Logic.{_⊎_, inl, inr, ⊎-elim}
@@ -62,10 +62,6 @@ unfolding leaderOf
 leader-le b j l =
     ⊎-elim (λ h. h) (λ h. let n : leaderOf b j ≤ gateCount b = least-le (sameGroup b j) (gateCount b) in omega arith)
     (least-first (sameGroup b j) (gateCount b) j (sameGroup-refl b j l))
-
--- a leader leads itself
-pub leader-leads : (b : Block) (j : ℕ) → j < gateCount b → leaderOf b (leaderOf b j) ≡ leaderOf b j
-leader-leads b j l = sym (same-leader b j (leaderOf b j) (leader-same b j l))
 
 -- ---- the walk over the gates
 

@@ -1,5 +1,5 @@
--- The simplest way to a strongly connected group, by transitive closure: the gates that a gate reaches, and those that
--- reach it, each set grown gate by gate as long as a gate can be added. Cited by the contracts of this crate alone.
+-- A strongly connected component by transitive closure: the gates that a gate reaches, and those that reach it, each
+-- set grown gate by gate as long as a gate can be added. Cited by the contracts of this crate alone.
 -- Assumes nothing.
 --   Walk, Edge      a path of reads, and a single read, in one of the two directions
 --   Open            a gate that can be added

@@ -1,12 +1,12 @@
--- The leader of a strongly connected group is its lowest gate; and the certificate by which a cheap check shows that
--- layers are groups (McConnell, Mehlhorn, Näher and Schweitzer, "Certifying algorithms", 2011). Cited by the contracts
--- of this crate and of crates/op_groups. Assumes nothing.
---   leaderOf              the lowest gate of a gate's group
---   Leads                 a table of leaders
---   lastOf                the last position of a position's layer
---   Called, Leaving       a position's layer's last gate reaches its gate, and is reached by it: one step nearer
---   Tied, Certified       so the layers are the groups
---   FirstsFound           the lowest gates of the groups, while the gates are walked
+-- The leader of a strongly connected component is its lowest gate; and the certificate by which a cheap check shows
+-- that layers are components (McConnell, Mehlhorn, Näher and Schweitzer, "Certifying algorithms", 2011). Cited by the
+-- contracts of this crate and of crates/op_groups. Assumes nothing.
+--   leaderOf               the lowest gate of a gate's component
+--   Leads                  a table of leaders
+--   lastOf                 the last position of a position's layer
+--   HasParent, HasLowLink  one step from the last gate of a layer to a position's gate, and one step back
+--   CertifiedAt, Certified the certificate at a position, and at all: then the layers are the components
+--   LeadingOn              the lowest gates of the components, while the gates are walked
 use Prim.Native.Nat.{ℕ, _+_, _-_, _*_, _/_, _≤_, _<_}
 use mathlib.Core.Path.{_≡_}
 use mathlib.Core.Logic.{_⊎_}
@@ -34,19 +34,23 @@ unfoldable pub lastOf : List ℕ → ℕ → ℕ
 lastOf ends i = cond (eqb (getD ends i 0) i) i (getD ends i 0 - 1)
 
 -- a gate behind position i, in the same layer, reads the gate at position i
-pub record Called (m : ℕ) (graph order ends : List ℕ) (i : ℕ) : Type 0 where
+pub record HasParent (m : ℕ) (graph order ends : List ℕ) (i : ℕ) : Type 0 where
   pub from : ℕ
   pub behind : i < from
   pub within : from ≤ lastOf ends i
   pub reading : reads (network m graph) (getD order from 0) (getD order i 0) ≡ true
 
+-- the code's certified::WORD_VALUES, above every position
+abbrev pub wordValues : ℕ
+wordValues = 65536
+
 -- how far position i is from its layer's last gate, as the search noted it: how early a gate its gate was found to
 -- reach, and then when the search left it
 unfoldable pub distanceAt : List ℕ → List ℕ → ℕ → ℕ
-distanceAt order notes i = 65536 * (getD notes (4 * getD order i 0 + 1) 0 / 8) + i
+distanceAt order notes i = wordValues * (getD notes (4 * getD order i 0 + 1) 0 / 8) + i
 
 -- the gate at position i reads a gate of its layer that is nearer to the layer's last
-pub record Leaving (m : ℕ) (graph order ends notes : List ℕ) (i : ℕ) : Type 0 where
+pub record HasLowLink (m : ℕ) (graph order ends notes : List ℕ) (i : ℕ) : Type 0 where
   pub to : ℕ
   pub below : to < m
   pub same : lastOf ends to ≡ lastOf ends i
@@ -57,12 +61,12 @@ pub record Leaving (m : ℕ) (graph order ends notes : List ℕ) (i : ℕ) : Typ
 pub record SlotPosition (m : ℕ) (graph positions : List ℕ) (k r : ℕ) : Type 0 where
   pub read : r < m → (j : ℕ) × (j < m) × (getD positions j 0 ≡ r) × (reads (network m graph) k j ≡ true)
 
-pub record Tied (m : ℕ) (graph order ends notes : List ℕ) (i : ℕ) : Type 0 where
-  pub cases : (lastOf ends i ≡ i) ⊎ (Called m graph order ends i × Leaving m graph order ends notes i)
+pub record CertifiedAt (m : ℕ) (graph order ends notes : List ℕ) (i : ℕ) : Type 0 where
+  pub cases : (lastOf ends i ≡ i) ⊎ (HasParent m graph order ends i × HasLowLink m graph order ends notes i)
 
 pub record Certified (m : ℕ) (graph order ends positions notes : List ℕ) : Type 0 where
   pub layered : Layered m graph order ends positions
-  pub tied : (i : ℕ) → i < m → Tied m graph order ends notes i
+  pub certifiedAt : (i : ℕ) → i < m → CertifiedAt m graph order ends notes i
 
 -- ---- the lowest gates
 
@@ -70,7 +74,7 @@ pub record Certified (m : ℕ) (graph order ends positions notes : List ℕ) : T
 abbrev pub noGate : ℕ
 noGate = 65535
 
--- `key` is a number below m for each gate, the same exactly for the gates of a group
+-- `key` is a number below m for each gate, the same exactly for the gates of one component
 pub record Keyed (b : Block) (m : ℕ) (key : ℕ → ℕ) : Type 0 where
   pub below : (j : ℕ) → j < m → key j < m
   pub same : (i j : ℕ) → i < m → j < m → sameGroup b i j ≡ true → key i ≡ key j

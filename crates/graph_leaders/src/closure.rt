@@ -13,7 +13,8 @@ ghost use lib.ListN.{length};
 ghost use Rattle.netlist.specs.Limits.{maxGates};
 ghost use Rattle.graph_gates.specs.Graph.{slots, network, Graph};
 ghost use Rattle.graph_leaders.specs.Leaders.{leaderOf, Leads};
-ghost use Rattle.graph_leaders.specs.Closure.{Added, SlotTarget, GateTarget, Target, Growing, Reached, InBoth, LowestOfBoth, LeaderFound};
+ghost use Rattle.graph_leaders.specs.Closure.{Added, SlotTarget, GateTarget, Target, Growing, Reached, InBoth};
+ghost use Rattle.graph_leaders.specs.Closure.{LowestOfBoth, LeaderFound};
 
 // Gate `to`, if gate `from` is in the set and gate `to` is not; else m.
 fn added(m: usize, from: usize, to: usize, flags: &[u16; MAX_GATES]) -> usize
@@ -177,7 +178,8 @@ fn lead_each(
     behind: &mut [u16; MAX_GATES],
     leaders: &mut [u16; MAX_GATES],
 )
-    requires { ⌜ Graph m (now graph) × (length (now ahead) ≡ maxGates) × (length (now behind) ≡ maxGates) × (length (now leaders) ≡ maxGates) ⌝ }
+    requires { ⌜ Graph m (now graph) × (length (now ahead) ≡ maxGates) × (length (now behind) ≡ maxGates)
+        × (length (now leaders) ≡ maxGates) ⌝ }
     ensures { λ r. ⌜ Leads (network m (now (graph .entry))) m (now (leaders .exit)) ⌝ }
 {
     let mut j = 0;
@@ -188,7 +190,7 @@ fn lead_each(
 }
 
 // Finds the leader of every gate by closure; makes room for the sets.
-pub fn lead_slowly(graph: &[u16; GRAPH_WORDS], m: usize, leaders: &mut [u16; MAX_GATES])
+pub fn lead_by_closure(graph: &[u16; GRAPH_WORDS], m: usize, leaders: &mut [u16; MAX_GATES])
     requires { ⌜ Graph m (now graph) × (length (now leaders) ≡ maxGates) ⌝ }
     ensures { λ r. ⌜ Leads (network m (now (graph .entry))) m (now (leaders .exit)) ⌝ }
 {

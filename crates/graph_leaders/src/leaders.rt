@@ -1,9 +1,9 @@
-// The lowest gate of each gate's strongly connected group, its leader. Tarjan's search writes layers; where the check
-// shows that they are the groups, the first gate of each is found in one walk over the gates. Else `closure` finds the
-// leaders.
-use crate::closure::lead_slowly;
-use crate::ties::are_tied;
-use crate::ties::last_of;
+// The leader of each gate, the lowest gate of its strongly connected component. Tarjan's search writes layers; where
+// they are certified to be the components, the first gate of each is found in one walk over the gates. Else `closure`
+// finds the leaders.
+use crate::certified::are_certified;
+use crate::certified::last_of;
+use crate::closure::lead_by_closure;
 use graph_gates::GRAPH_WORDS;
 use graph_scc::check::are_layers;
 use graph_scc::check::find_positions;
@@ -62,7 +62,7 @@ fn lead_layers(
     }
 }
 
-// Does the certificate hold: are the layers the strongly connected groups?
+// Are the layers certified to be the strongly connected components?
 fn is_certified(
     graph: &[u16; GRAPH_WORDS],
     m: usize,
@@ -73,13 +73,14 @@ fn is_certified(
 ) -> bool
     requires { ⌜ Graph m (now graph) ⌝ }
     ensures { λ r. ⌜
-        (r ≡ true → Certified m (now (graph .entry)) (now (order .entry)) (now (ends .entry)) (now (positions .entry)) (now (notes .entry)))
+        (r ≡ true → Certified m (now (graph .entry)) (now (order .entry)) (now (ends .entry)) (now (positions .entry))
+        (now (notes .entry)))
         ⌝ }
 {
     if !are_layers(graph, m, order, ends, positions) {
         return false;
     }
-    are_tied(graph, m, order, ends, positions, notes)
+    are_certified(graph, m, order, ends, positions, notes)
 }
 
 // Finds the leaders, with room lent for the search.
@@ -103,10 +104,10 @@ fn lead_with(
         lead_layers(graph, m, order, ends, stack, notes, firsts, leaders);
         return;
     }
-    lead_slowly(graph, m, leaders);
+    lead_by_closure(graph, m, leaders);
 }
 
-// Writes the lowest gate of each gate's group.
+// Writes each gate's leader, the lowest gate of its strongly connected component.
 pub fn lead(graph: &[u16; GRAPH_WORDS], m: usize, leaders: &mut [u16; MAX_GATES])
     requires { ⌜ Graph m (now graph) × (length (now leaders) ≡ maxGates) ⌝ }
     ensures { λ r. ⌜ Leads (network m (now (graph .entry))) m (now (leaders .exit)) ⌝ }

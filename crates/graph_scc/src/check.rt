@@ -1,5 +1,5 @@
-// The check of layers, position by position and in linear time: the order is one of all gates, each gate reads only
-// gates before the end of its layer, and the positions of a loop have the same end.
+// The check of what the search wrote, position by position and in linear time: the order is a permutation of the gates,
+// each gate reads only gates before the end of its layer, and the positions of a loop have the same end.
 use crate::words::graph_word;
 use crate::words::word_of;
 use graph_gates::FIRST_GATE;
@@ -119,7 +119,9 @@ fn passes(
     positions: &[u16; MAX_GATES],
 ) -> bool
     requires { ⌜ Graph m (now graph) × (i < m) ⌝ }
-    ensures { λ r. ⌜ (r ≡ true → LayerStep m (now (graph .entry)) (now (order .entry)) (now (ends .entry)) (now (positions .entry)) i) ⌝ }
+    ensures { λ r.
+        ⌜ (r ≡ true
+        → LayerStep m (now (graph .entry)) (now (order .entry)) (now (ends .entry)) (now (positions .entry)) i) ⌝ }
 {
     if !is_listed(m, i, order, positions) {
         return false;
@@ -145,7 +147,9 @@ pub fn are_layers(
     positions: &[u16; MAX_GATES],
 ) -> bool
     requires { ⌜ Graph m (now graph) ⌝ }
-    ensures { λ r. ⌜ (r ≡ true → Layered m (now (graph .entry)) (now (order .entry)) (now (ends .entry)) (now (positions .entry))) ⌝ }
+    ensures { λ r.
+        ⌜ (r ≡ true
+        → Layered m (now (graph .entry)) (now (order .entry)) (now (ends .entry)) (now (positions .entry))) ⌝ }
 {
     let mut i = 0;
     while i < m {

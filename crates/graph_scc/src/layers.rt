@@ -1,4 +1,4 @@
-// The gates in layers (specs/Layers.antt): whoever evaluates gates goes along them.
+// The order of evaluation: the gates in layers, each one gate that closes no loop, or a whole loop (specs/Layers.antt).
 use crate::check::are_layers;
 use crate::check::find_positions;
 use crate::notes::NOTES;
@@ -13,7 +13,7 @@ ghost use Rattle.graph_gates.specs.Graph.{Graph};
 ghost use Rattle.graph_scc.specs.Layers.{Layers};
 ghost use Rattle.graph_scc.specs.Search.{OneLayer};
 
-// Writes all gates as they come, as one loop: these are layers of any graph.
+// Writes all gates by their numbers, as one loop: these are layers of any graph.
 fn write_one_layer(m: usize, order: &mut [u16; MAX_GATES], ends: &mut [u16; MAX_GATES])
     requires { ⌜ (m ≤ maxGates) × (length (now order) ≡ maxGates) × (length (now ends) ≡ maxGates) ⌝ }
     ensures { λ r. ⌜ OneLayer m m (now (order .exit)) (now (ends .exit)) ⌝ }

@@ -1,8 +1,7 @@
 // Tarjan's depth-first search along operands ("Depth-first search and linear graph algorithms", 1972), without
-// recursion: each turn takes one slot or leaves one gate. It writes the gates group after group, a group behind the
-// groups that it reads, and the gates of a group as the search left them. Nothing is promised of what it writes but
-// that it ends in bounds: `check` tells whether it is right.
-use crate::notes::CALLER;
+// recursion: each turn takes one slot or leaves one gate. It writes the gates component after component, each behind
+// the components that it reads, and the gates of a component in the order in which the search left them. Nothing is
+// promised of what it writes but that it ends in bounds: `check` tells whether it is right.
 use crate::notes::CLOSED;
 use crate::notes::CURSORS;
 use crate::notes::ENTERED;
@@ -10,6 +9,7 @@ use crate::notes::LOWEST;
 use crate::notes::NOTE_SIZE;
 use crate::notes::NOTES;
 use crate::notes::NOWHERE;
+use crate::notes::PARENT;
 use crate::words::graph_word;
 use crate::words::note_of;
 use crate::words::word_of;
@@ -47,7 +47,7 @@ fn enter(k: usize, caller: usize, time: usize, notes: &mut [u16; NOTES])
     let at = NOTE_SIZE * k;
     notes[at + ENTERED] = time as u16;
     notes[at + LOWEST] = (CURSORS * time) as u16;
-    notes[at + CALLER] = caller as u16;
+    notes[at + PARENT] = caller as u16;
 }
 
 // Notes that the cursor's gate reaches a time through the cursor's slot.
@@ -80,7 +80,7 @@ fn is_own_operand(graph: &[u16; GRAPH_WORDS], k: usize) -> bool
 }
 
 // How high the stack is below the gates that were entered after `time`.
-fn group_start(time: usize, top: usize, notes: &[u16; NOTES], stack: &[u16; MAX_GATES]) -> usize
+fn component_start(time: usize, top: usize, notes: &[u16; NOTES], stack: &[u16; MAX_GATES]) -> usize
     requires { ⌜ top ≤ maxGates ⌝ }
     ensures { λ r. ⌜ r ≤ top ⌝ }
 {
@@ -117,8 +117,8 @@ fn write_gate(
     }
 }
 
-// Writes the gates of the stack from `start` on; their group ends at `end`.
-fn write_group(
+// Writes the gates of the stack from `start` on; their component ends at `end`.
+fn write_component(
     start: usize,
     end: usize,
     standing: Standing,
@@ -127,7 +127,8 @@ fn write_group(
     order: &mut [u16; MAX_GATES],
     ends: &mut [u16; MAX_GATES],
 )
-    requires { ⌜ (start ≤ standing .top) × (standing .top ≤ maxGates) × (standing .count ≤ clockEnd) × (end ≤ maxWord) ⌝ }
+    requires { ⌜ (start ≤ standing .top) × (standing .top ≤ maxGates) × (standing .count ≤ clockEnd)
+        × (end ≤ maxWord) ⌝ }
     ensures { λ r. ⌜ SameRooms (now (order .entry)) (now (ends .entry)) (now (order .exit)) (now (ends .exit)) ⌝ }
 {
     let mut i = start;
@@ -151,9 +152,9 @@ fn layer_end(graph: &[u16; GRAPH_WORDS], k: usize, alone: bool, last: usize) -> 
     last + 1
 }
 
-// Gate k reaches no gate that was entered before it: its group is what was entered after it and waits on the stack, and
-// then gate k itself.
-fn close_group(
+// Gate k reaches no gate that was entered before it, so that it is the root of a component: the gates that were entered
+// after it and wait on the stack, and gate k itself.
+fn close_component(
     graph: &[u16; GRAPH_WORDS],
     k: usize,
     standing: Standing,
@@ -167,7 +168,7 @@ fn close_group(
     ensures { λ r. ⌜ SameRooms (now (order .entry)) (now (ends .entry)) (now (order .exit)) (now (ends .exit)) ⌝ }
 {
     let at = NOTE_SIZE * k;
-    let start = group_start(
+    let start = component_start(
         note_of(notes, at + ENTERED) as usize,
         standing.top,
         notes,
@@ -175,7 +176,7 @@ fn close_group(
     );
     let last = standing.count + (standing.top - start);
     let end = layer_end(graph, k, start == standing.top, last);
-    write_group(start, end, standing, stack, notes, order, ends);
+    write_component(start, end, standing, stack, notes, order, ends);
     write_gate(k, end, last, notes, order, ends);
     notes[at + LOWEST] = 0;
     Standing {
@@ -186,7 +187,7 @@ fn close_group(
     }
 }
 
-// Puts gate k on the stack, where it waits until its group is whole.
+// Puts gate k on the stack, where it waits until its component is complete.
 fn push(k: usize, standing: Standing, stack: &mut [u16; MAX_GATES]) -> Standing
     requires { ⌜ (k < maxGates) × (standing .top ≤ maxGates) ⌝ }
     ensures { λ r. ⌜ LeftOne (standing .top) (standing .count) (r .top) (r .count) ⌝ }
@@ -204,7 +205,7 @@ fn push(k: usize, standing: Standing, stack: &mut [u16; MAX_GATES]) -> Standing
     }
 }
 
-// Leaves gate k: its group is whole, or its caller reaches what gate k reaches.
+// Leaves gate k: its component is complete, or its parent reaches what gate k reaches.
 fn leave(
     graph: &[u16; GRAPH_WORDS],
     k: usize,
@@ -221,9 +222,9 @@ fn leave(
     let at = NOTE_SIZE * k;
     let lowest = note_of(notes, at + LOWEST) as usize / CURSORS;
     if lowest == note_of(notes, at + ENTERED) as usize {
-        return close_group(graph, k, standing, stack, notes, order, ends);
+        return close_component(graph, k, standing, stack, notes, order, ends);
     }
-    lower(note_of(notes, at + CALLER) as usize, lowest, notes);
+    lower(note_of(notes, at + PARENT) as usize, lowest, notes);
     push(k, standing, stack)
 }
 
@@ -263,7 +264,8 @@ fn turn(
     order: &mut [u16; MAX_GATES],
     ends: &mut [u16; MAX_GATES],
 ) -> Standing
-    requires { ⌜ StandingReady (standing .time) (standing .top) (standing .count) × (standing .cursor < 8 * maxGates) × (standing .time < clockEnd) ⌝ }
+    requires { ⌜ StandingReady (standing .time) (standing .top) (standing .count) × (standing .cursor < 8 * maxGates)
+        × (standing .time < clockEnd) ⌝ }
     ensures { λ r. ⌜ StandingReady (r .time) (r .top) (r .count) × (r .time ≡ standing .time + 1) ⌝ }
     ensures { λ r. ⌜ SameRooms (now (order .entry)) (now (ends .entry)) (now (order .exit)) (now (ends .exit)) ⌝ }
 {
@@ -278,7 +280,7 @@ fn turn(
         };
     }
     let k = cursor / CURSORS;
-    let caller = note_of(notes, NOTE_SIZE * k + CALLER) as usize;
+    let caller = note_of(notes, NOTE_SIZE * k + PARENT) as usize;
     let left = leave(graph, k, standing, stack, notes, order, ends);
     Standing {
         time,

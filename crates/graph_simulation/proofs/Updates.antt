@@ -40,7 +40,7 @@ use Rattle.graph_ternary.proofs.Codes.{code-most, code-same}
 use Rattle.graph_ternary.proofs.State.{evaluated-at}
 use Rattle.graph_simulation.specs.Rounded.{Unsettled}
 use Rattle.graph_simulation.specs.Changes.{definedFrom, QueuedIn, Done, Steady, UpdateReady, Updated, UpdatedOne}
-use Rattle.graph_simulation.specs.Changes.{UpdatedList, UpdatedAll, Awake}
+use Rattle.graph_simulation.specs.Changes.{UpdatedList, UpdatedAll, Pending}
 use Rattle.graph_simulation.specs.Changes.{CopyReady, Copied, Round, Turned}
 
 -- ---- how many gates are 0 or 1
@@ -110,7 +110,7 @@ module _ {m : ℕ} {graph values : List ℕ} where
       pub one-room : end < m
       one-room = omega (arith, more, defined-le 0 (set found j v) m, r .counted)
 
-      -- which is queued
+      -- a gate that gets a value is queued
       pub one-new : v ≡ gateCode graph values j
           → UpdatedOne m graph values found queue end j (set found j v) (set queue end j) (end + 1)
       one-new is =
@@ -197,7 +197,7 @@ module _ {m : ℕ} {graph values : List ℕ} where
       inside′ : (q : ℕ) → end ≤ q → q < end₂ → getD queue₂ q 0 < m
       inside′ q lo hi = ⊎-elim (λ l. rw (w .front q l) (u .inside q lo l)) (λ l. w .inside q l hi) (lt-or-le q end₁)
 
--- ---- all gates, a list of readers, and the readers of all queued gates
+-- ---- all gates, the fan-out of one gate, and the fan-out of all queued gates
 
 -- the gates below j have their values
 abbrev pub DoneBelow : List ℕ → List ℕ → List ℕ → ℕ → Type 0
@@ -238,11 +238,11 @@ module _ {m : ℕ} {graph values found queue : List ℕ} {end : ℕ} {found′ q
       step r = ⊎-elim (λ q. inl (first q)) (λ s. inr (rw is s)) (chain-step r)
 
   -- one queued gate more
-  pub awake-next : {fanout : List ℕ} (front : List ℕ) {q tail : ℕ} → Graph m graph → Fanout m graph fanout
-      → Awake m graph values found front q tail
+  pub pending-next : {fanout : List ℕ} (front : List ℕ) {q tail : ℕ} → Graph m graph → Fanout m graph fanout
+      → Pending m graph values found front q tail
       → UpdatedList m graph fanout values found queue end (getD fanout (getD front q 0) 0) found′ queue′ end′
-      → Awake m graph values found′ front (q + 1) tail
-  awake-next {fanout} front {q} {tail} g f h u j l = ⊎-elim (λ v. inl (updated-done (u .updated) j l v)) step (h j l)
+      → Pending m graph values found′ front (q + 1) tail
+  pending-next {fanout} front {q} {tail} g f h u j l = ⊎-elim (λ v. inl (updated-done (u .updated) j l v)) step (h j l)
     where
       now : (k : ℕ) → reads (network m graph) j k ≡ true → getD front q 0 ≡ k → Done graph values found′ j
       now k reading is =
@@ -264,10 +264,10 @@ pub awaiting-end : (graph fanout values found : List ℕ) (from p : ℕ) → Awa
     → (e : ℕ) → Chain fanout (suc e) from → Done graph values found (e / slots)
 awaiting-end graph fanout values found from p h z e c = ⊎-elim (λ v. v) (λ r. absurd (chain-end r z)) (h e c)
 
-pub awake-end : (m : ℕ) (graph values found front : List ℕ) (q tail : ℕ) → Awake m graph values found front q tail
+pub pending-end : (m : ℕ) (graph values found front : List ℕ) (q tail : ℕ) → Pending m graph values found front q tail
     → tail ≤ q
     → (j : ℕ) → j < m → Done graph values found j
-awake-end m graph values found front q tail h z j l =
+pending-end m graph values found front q tail h z j l =
     ⊎-elim (λ v. v) (λ s. absurd (omega (arith, s .2 .1, s .2 .2))) (h j l)
 
 -- ---- values copied
@@ -408,7 +408,7 @@ module _ {m : ℕ} {graph : List ℕ} (g : Graph m graph) where
         state-at m (n .coded) j below ∙ ap valueOf (n .none j (omega (arith, g .few)))
         ∙ sym (getD-replicate m j undefined undefined below))
 
-    -- and then a round is made
+    -- the first round is made
     pub round-first : {queue found′ queue′ : List ℕ} {end : ℕ} → length queue ≡ maxGates
         → UpdatedAll m graph values found queue 0 found′ queue′ end
         → Round m graph values found′ queue′ 0 end
@@ -506,8 +506,8 @@ module _ {m : ℕ} {graph : List ℕ} (g : Graph m graph) where
               inr (was ∙ ap code (e ∙ sym (evaluated-mono-all x v v′ (gateOf b j) grown d e)) ∙ sym (code-from j l))
 
       -- a gate that reads no gate that changed keeps its value
-      pub next-awake : Awake m graph values′ found queue head tail
-      next-awake j l = ⊎-elim reading resting (bool-cases (any changes (upTo m)))
+      pub next-pending : Pending m graph values′ found queue head tail
+      next-pending j l = ⊎-elim reading resting (bool-cases (any changes (upTo m)))
         where
           changes : ℕ → Bool
           changes k = reads b j k && not (eqb (getD found k 0) (getD values (firstGate + k) 0))
@@ -550,7 +550,7 @@ module _ {m : ℕ} {graph : List ℕ} (g : Graph m graph) where
               ∙ sym (state-at m copied-coded k below)))
               ∙ sym (code-from j l))
 
-      -- the readers of what changed can be evaluated
+      -- the fan-out of what changed can be evaluated
       pub next-ready : UpdateReady m graph values′ found queue tail
       next-ready =
           record {
@@ -562,7 +562,7 @@ module _ {m : ℕ} {graph : List ℕ} (g : Graph m graph) where
             counted = r .counted;
           }
 
-      -- and then a round more is made
+      -- one round more is made
       pub round-next : {found′ queue′ : List ℕ} {end : ℕ}
           → UpdatedAll m graph values′ found queue tail found′ queue′ end
           → Turned m graph values values′ found′ queue′ tail end

@@ -82,8 +82,8 @@ pub record UpdatedAll (m : ℕ) (graph values found queue : List ℕ) (end : ℕ
     pub done : (j : ℕ) → j < m → Done graph values found′ j
 
 -- gate j has the value that is evaluated from `values`, or reads a gate that is queued
-abbrev pub Awake : ℕ → List ℕ → List ℕ → List ℕ → List ℕ → ℕ → ℕ → Type 0
-Awake m graph values found queue head tail =
+abbrev pub Pending : ℕ → List ℕ → List ℕ → List ℕ → List ℕ → ℕ → ℕ → Type 0
+Pending m graph values found queue head tail =
     (j : ℕ) → j < m → Done graph values found j
     ⊎ ((k : ℕ) × (reads (network m graph) j k ≡ true) × QueuedIn queue head tail k)
 

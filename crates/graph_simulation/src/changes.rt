@@ -1,7 +1,7 @@
 // Event-driven simulation (Ulrich, "Exclusive simulation of activity in digital networks", 1969): one round from the
-// gates that changed in the round before, as only gates that read these can change. `values` has the codes before the
-// round, by place, `found` gets those of the gates behind it, and every gate that changes is put in the queue. A gate
-// that is 0 or 1 stays so, and is not evaluated again.
+// gates that changed in the round before, as only their fan-out can change. `values` has the codes before the round, by
+// place, `found` gets the codes of the gates after it, and every gate that changes is put in the queue. A gate that is
+// 0 or 1 keeps its value, as gates are monotone, and is not evaluated again.
 use crate::round::UNDEFINED;
 use graph_gates::FIRST_GATE;
 use graph_gates::GRAPH_WORDS;
@@ -16,7 +16,8 @@ ghost use mathlib.Core.Path.{_≡_};
 ghost use Prim.Native.Nat.{_≤_, _<_};
 ghost use Rattle.netlist.specs.GateTable.{gateTable};
 ghost use Rattle.graph_simulation.specs.Rounded.{Prepared};
-ghost use Rattle.graph_simulation.specs.Changes.{Awake, UpdateReady, UpdatedOne, UpdatedList, UpdatedAll, Copied, CopyReady, Round, Turned, ListReady};
+ghost use Rattle.graph_simulation.specs.Changes.{Pending, UpdateReady, UpdatedOne, UpdatedList, UpdatedAll};
+ghost use Rattle.graph_simulation.specs.Changes.{Copied, CopyReady, Round, Turned, ListReady};
 
 // Where the gates that one round changed stand in the queue: from `head` on, before `tail`.
 pub struct Stretch {
@@ -24,8 +25,8 @@ pub struct Stretch {
     pub tail: usize,
 }
 
-// The gates that read a gate: where its list starts in the fan-out of so many gates.
-struct Readers {
+// One gate's list in the fan-out of `gates` gates: it starts at `from`.
+struct FanoutList {
     gates: usize,
     from: usize,
 }
@@ -41,9 +42,11 @@ fn update(
     queue: &mut [u16; MAX_GATES],
     end: usize,
 ) -> usize
-    requires { ⌜ (now table ≡ gateTable) × UpdateReady m (now graph) (now values) (now found) (now queue) end × (j < m) ⌝ }
+    requires { ⌜ (now table ≡ gateTable) × UpdateReady m (now graph) (now values) (now found) (now queue) end
+        × (j < m) ⌝ }
     ensures { λ r. ⌜
-        UpdatedOne m (now (graph .entry)) (now (values .entry)) (now (found .entry)) (now (queue .entry)) end j (now (found .exit)) (now (queue .exit)) r
+        UpdatedOne m (now (graph .entry)) (now (values .entry)) (now (found .entry)) (now (queue .entry)) end j
+        (now (found .exit)) (now (queue .exit)) r
         ⌝ }
 {
     if found[j] != UNDEFINED {
@@ -69,7 +72,8 @@ pub fn update_all(
 ) -> usize
     requires { ⌜ (now table ≡ gateTable) × UpdateReady m (now graph) (now values) (now found) (now queue) 0 ⌝ }
     ensures { λ r. ⌜
-        UpdatedAll m (now (graph .entry)) (now (values .entry)) (now (found .entry)) (now (queue .entry)) 0 (now (found .exit)) (now (queue .exit)) r
+        UpdatedAll m (now (graph .entry)) (now (values .entry)) (now (found .entry)) (now (queue .entry)) 0
+        (now (found .exit)) (now (queue .exit)) r
         ⌝ }
 {
     let mut end = 0;
@@ -81,32 +85,34 @@ pub fn update_all(
     end
 }
 
-// Evaluates the gates that read a gate, and queues those that get a value; gives the queue's new end.
-fn update_readers(
+// Evaluates the fan-out of one gate, and queues those that get a value; gives the queue's new end.
+fn update_fanout(
     table: &[u8; GATE_ENTRIES],
     graph: &[u16; GRAPH_WORDS],
     fanout: &[u16; FANOUT_WORDS],
-    readers: Readers,
+    list: FanoutList,
     values: &[u8; PLACES],
     found: &mut [u8; MAX_GATES],
     queue: &mut [u16; MAX_GATES],
     tail: usize,
 ) -> usize
-    requires { ⌜ (now table ≡ gateTable) × UpdateReady (readers .gates) (now graph) (now values) (now found) (now queue) tail ⌝ }
-    requires { ⌜ ListReady (readers .gates) (now fanout) (readers .from) ⌝ }
+    requires { ⌜ (now table ≡ gateTable)
+        × UpdateReady (list .gates) (now graph) (now values) (now found) (now queue) tail ⌝ }
+    requires { ⌜ ListReady (list .gates) (now fanout) (list .from) ⌝ }
     ensures { λ r. ⌜
-        UpdatedList (readers .gates) (now (graph .entry)) (now (fanout .entry)) (now (values .entry)) (now (found .entry)) (now (queue .entry)) tail
-        (readers .from) (now (found .exit)) (now (queue .exit)) r
+        UpdatedList (list .gates) (now (graph .entry)) (now (fanout .entry)) (now (values .entry))
+        (now (found .entry)) (now (queue .entry)) tail
+        (list .from) (now (found .exit)) (now (queue .exit)) r
         ⌝ }
 {
     let mut end = tail;
-    let mut p = readers.from;
+    let mut p = list.from;
     while 0 < p {
         let e = p - 1;
         end = update(
             table,
             graph,
-            readers.gates,
+            list.gates,
             e / SLOTS,
             values,
             found,
@@ -118,8 +124,8 @@ fn update_readers(
     end
 }
 
-// Evaluates the gates that read what the round before changed, and queues those that get a value; gives the queue's new
-// end.
+// Evaluates the fan-out of the gates that the round before changed, and queues those that get a value; gives the
+// queue's new end.
 fn update_changed(
     table: &[u8; GATE_ENTRIES],
     graph: &[u16; GRAPH_WORDS],
@@ -131,11 +137,13 @@ fn update_changed(
     changed: Stretch,
 ) -> usize
     requires { ⌜ Prepared m (now table) (now graph) (now fanout) ⌝ }
-    requires { ⌜ UpdateReady m (now graph) (now values) (now found) (now queue) (changed .tail) × (changed .head ≤ changed .tail) ⌝ }
+    requires { ⌜ UpdateReady m (now graph) (now values) (now found) (now queue) (changed .tail)
+        × (changed .head ≤ changed .tail) ⌝ }
     requires { ⌜ CopyReady (now queue) (changed .tail) (now values) ⌝ }
-    requires { ⌜ Awake m (now graph) (now values) (now found) (now queue) (changed .head) (changed .tail) ⌝ }
+    requires { ⌜ Pending m (now graph) (now values) (now found) (now queue) (changed .head) (changed .tail) ⌝ }
     ensures { λ r. ⌜
-        UpdatedAll m (now (graph .entry)) (now (values .entry)) (now (found .entry)) (now (queue .entry)) (changed .tail) (now (found .exit))
+        UpdatedAll m (now (graph .entry)) (now (values .entry)) (now (found .entry)) (now (queue .entry))
+        (changed .tail) (now (found .exit))
         (now (queue .exit)) r
         ⌝ }
 {
@@ -143,11 +151,11 @@ fn update_changed(
     let mut q = changed.head;
     while q < changed.tail {
         let k = queue[q] as usize;
-        let readers = Readers {
+        let list = FanoutList {
             gates: m,
             from: fanout[k] as usize,
         };
-        end = update_readers(table, graph, fanout, readers, values, found, queue, end);
+        end = update_fanout(table, graph, fanout, list, values, found, queue, end);
         q += 1;
     }
     end
@@ -161,7 +169,8 @@ fn copy_changed(
     values: &mut [u8; PLACES],
 )
     requires { ⌜ CopyReady (now queue) (changed .tail) (now values) × (changed .head ≤ changed .tail) ⌝ }
-    ensures { λ r. ⌜ Copied (now (found .entry)) (now (queue .entry)) (changed .head) (changed .tail) (now (values .entry)) (now (values .exit)) ⌝ }
+    ensures { λ r. ⌜ Copied (now (found .entry)) (now (queue .entry)) (changed .head) (changed .tail)
+        (now (values .entry)) (now (values .exit)) ⌝ }
 {
     let mut q = changed.head;
     while q < changed.tail {
@@ -186,7 +195,8 @@ pub fn next_round(
     requires { ⌜ Prepared m (now table) (now graph) (now fanout) ⌝ }
     requires { ⌜ Round m (now graph) (now values) (now found) (now queue) (changed .head) (changed .tail) ⌝ }
     ensures { λ r. ⌜
-        Turned m (now (graph .entry)) (now (values .entry)) (now (values .exit)) (now (found .exit)) (now (queue .exit)) (changed .tail) r
+        Turned m (now (graph .entry)) (now (values .entry)) (now (values .exit)) (now (found .exit)) (now (queue .exit))
+        (changed .tail) r
         ⌝ }
 {
     copy_changed(found, queue, changed, values);

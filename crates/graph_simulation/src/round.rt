@@ -1,5 +1,5 @@
-// Settling a prepared block by event-driven rounds up to the fixpoint: in the first round all gates are evaluated, in a
-// later one those that read a gate that the one before changed.
+// Event-driven rounds up to the least fixpoint: the first round evaluates all gates, a later one the fan-out of the
+// gates that the round before changed.
 use crate::changes::Stretch;
 use crate::changes::next_round;
 use crate::changes::update_all;
@@ -31,9 +31,8 @@ pub fn prepare(words: &[u16], graph: &mut [u16; GRAPH_WORDS], fanout: &mut [u16;
     link_slots(graph, gates_of(words), fanout);
 }
 
-// Runs rounds from all gates undefined until one changes nothing; gives how many changed something. In the queue stand
-// the gates that a round changed: from `head` to `tail` those of the last one. `found` and `queue` are room for what a
-// round finds and for the gates that it changed.
+// Runs rounds from all gates undefined until one changes nothing; gives how many changed something. The queue has the
+// gates that the rounds changed: from `head` to `tail` those of the last round. `found` has their values.
 fn settle_with(
     table: &[u8; GATE_ENTRIES],
     graph: &[u16; GRAPH_WORDS],
@@ -43,7 +42,8 @@ fn settle_with(
     found: &mut [u8; MAX_GATES],
     queue: &mut [u16; MAX_GATES],
 ) -> usize
-    requires { ⌜ Prepared m (now table) (now graph) (now fanout) × Unsettled (now values) × ScratchReady (now found) (now queue) ⌝ }
+    requires { ⌜ Prepared m (now table) (now graph) (now fanout) × Unsettled (now values)
+        × ScratchReady (now found) (now queue) ⌝ }
     ensures { λ r. ⌜ SettledIn m (now (graph .entry)) (now (values .entry)) (now (values .exit)) r ⌝ }
 {
     let mut head = 0;

@@ -38,7 +38,8 @@ pub fn put_setting(setting: &[u8], values: &mut [u8; PLACES])
 // Copies the bytes of m gates into the first bytes of `out`.
 pub fn take_gates(values: &[u8; PLACES], m: usize, out: &mut [u8])
     requires { ⌜ (m ≤ maxGates) × (m ≤ length (now out)) ⌝ }
-    ensures { λ r. ⌜ now (out .exit) ≡ placed (tab (λ j. getD (now (values .entry)) (firstGate + j) 0) m) (now (out .entry)) ⌝ }
+    ensures { λ r.
+        ⌜ now (out .exit) ≡ placed (tab (λ j. getD (now (values .entry)) (firstGate + j) 0) m) (now (out .entry)) ⌝ }
 {
     let mut j = 0;
     while j < m {

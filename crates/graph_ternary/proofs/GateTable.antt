@@ -78,7 +78,7 @@ module _ (f : ℕ → Value) (count p : ℕ) where
 
 -- ---- from a gate to its entry
 
--- so many codes, absent behind the last
+-- n codes, absent behind the last of a list
 padded : ℕ → List ℕ → List ℕ
 padded zero cs = []
 padded (suc n) [] = absent ∷ padded n []
@@ -116,7 +116,7 @@ padded-gapless vs zero = refl
 padded-gapless [] (suc n) = none-present n
 padded-gapless (v ∷ vs) (suc n) = rw (code-present v) (padded-gapless vs n)
 
--- and the present ones are all of them
+-- the present codes of a padded list are all of the list
 padded-kept : (vs : List Value) (n : ℕ) → length vs ≤ n → keep isPresent (padded n (map code vs)) ≡ map code vs
 unfolding padded
 padded-kept [] n h = none-kept n
@@ -184,7 +184,7 @@ module _ (k : ℕ) (vs : List Value) (l : k ≤ 6) (h : arityFits k (length vs) 
       let y : eqb k 6 ≡ false = ne-eqb k 6 (omega arith) in
       gate-entry ∙ rw (z, x, y) refl
 
--- and the remainder those of `not`
+-- the remainder rule of Paper 4 gives the entries of `not`
 pub not-entry : (v : Value) → tableEntry (gateIndex 0 (v ∷ [])) ≡ (2 * code v + 1) % 3
 unfolding gateValue isNot arityFits fewestOperands mostOperands
 not-entry v = gate-entry 0 (v ∷ []) (omega arith) (rw (not-counts .0, not-counts .1) refl) ∙ sym (remainder-swaps v)

@@ -1,5 +1,5 @@
-// One gate's value (three-valued, by table lookup) from a graph and the values of what stands at each place: its
-// operands' codes, and one read of the table of all gates. It is found once for each gate, round and setting.
+// One gate evaluated in three-valued logic by table lookup: the codes of its operands, read from the values at their
+// places, are the index of one entry in the table of all gates.
 use crate::table::ABSENT;
 use crate::table::GATE_ENTRIES;
 use graph_gates::GRAPH_WORDS;
@@ -21,7 +21,8 @@ fn operand_code(
     values: &[u8; PLACES],
 ) -> usize
     requires { ⌜ LegalGate (now graph) j × Coded (now values) × (i < slots) ⌝ }
-    ensures { λ r. ⌜ (r ≡ operandCode (tab (slotValue (now (graph .entry)) (now (values .entry)) j) count) i) × (r ≤ 3) ⌝ }
+    ensures { λ r.
+        ⌜ (r ≡ operandCode (tab (slotValue (now (graph .entry)) (now (values .entry)) j) count) i) × (r ≤ 3) ⌝ }
 {
     if i < count {
         let place = graph[NODE_SIZE * j + 1 + i] as usize;
@@ -31,7 +32,7 @@ fn operand_code(
     }
 }
 
-// The value of gate `j`: its operands' codes, and one read of the table.
+// The value of gate `j`: the table's entry for its kind and its operands' codes.
 pub fn gate_value(
     table: &[u8; GATE_ENTRIES],
     graph: &[u16; GRAPH_WORDS],

@@ -1,4 +1,4 @@
-// What an output shows.
+// The value that an output shows.
 use graph_gates::PLACES;
 use graph_gates::place_of;
 use words_layout::offsets::NAME_SIZE;
@@ -14,7 +14,8 @@ ghost use Rattle.graph_ternary.specs.State.{ShownAt};
 // whose word is behind the port.
 pub fn shown_value(words: &[u16], n: usize, port: usize, values: &[u8; PLACES]) -> u8
     requires { ⌜ ShownAt (now words) n port ⌝ }
-    ensures { λ r. ⌜ r ≡ getD (now (values .entry)) (placeOf (operandOf n (getD (now (words .entry)) (port + nameSize) 0))) 0 ⌝ }
+    ensures { λ r.
+        ⌜ r ≡ getD (now (values .entry)) (placeOf (operandOf n (getD (now (words .entry)) (port + nameSize) 0))) 0 ⌝ }
 {
     let place = place_of(word_at(words, port + NAME_SIZE), n);
     values[place]

@@ -1,5 +1,6 @@
 -- The settled values ask the inputs' values alone: what stands behind the last input and is undefined changes nothing.
---   settled-inputs, run-inputs   inputs that are the same one by one give the same settled values, and the same values after single steps
+--   settled-inputs, run-inputs   inputs that are the same one by one give the same settled values, and the same values
+--                                after single steps
 --   startInputs-lane          the inputs' pairs of a batch are, at a lane, its setting
 -- Assumes nothing.
 use mathlib.Core.Path.{_≡_, refl, sym, ap, _∙_, fun-ext}
@@ -69,7 +70,8 @@ module _ (n base : ℕ) (few : n ≤ maxInputs) where
   startInputs-at i =
       padded-at n (inputPair n base) few i
       ∙ ⊎-elim (λ l. rw (lt-ltb i n l) (sym (getD-tab (inputPair n base) n i noLanes l)))
-      (λ h. rw (le-ltb i n h) (sym (List·getD-eq-default (tab (inputPair n base) n) noLanes (rw (length-tab (inputPair n base) n) h)))) (lt-or-le i n)
+      (λ h. rw (le-ltb i n h) (sym (List·getD-eq-default (tab (inputPair n base) n) noLanes
+      (rw (length-tab (inputPair n base) n) h)))) (lt-or-le i n)
 
   pub startInputs-proper : AllProper (lanesOf n) (startInputs n base)
   startInputs-proper = record { each = λ k. rw (startInputs-at k) (inputPairs-proper n base .each k) }

@@ -1,4 +1,5 @@
--- Batches decided layer by layer, in one array of words: the start, a gate's step, a sweep over a part of the order, a layer more, and the end.
+-- Batches decided layer by layer, in one array of words: the start, a gate's step, a sweep over a part of the order, a
+-- layer more, and the end.
 --   network-gate, part-nodes                the gates of a graph
 --   lanes-one, lanes-swept, lanes-underway  one gate, a list of gates, and what is left on the way
 --   part-among, among-part                  positions of a part of the order
@@ -51,9 +52,12 @@ use Rattle.lanes_dual_rail.proofs.LaneLaws.{nothing-lane, nothing-proper}
 use Rattle.lanes_dual_rail.proofs.RoundLaws.{getD-lane}
 use Rattle.lanes_dual_rail.proofs.LaneWordLaws.{node-legal, gatePairIn-evaluated, put-inputs, put-gates, put-filled}
 use Rattle.lanes_batch.specs.Batch.{Underway, Swept, room, placeOf}
-use Rattle.lanes_batch.specs.Layered.{isOther, GateStored, GateEvaluated, GatesEvaluated, noGate, gateMore, Part, OrderPart, part, Among}
-use Rattle.lanes_batch.specs.Layered.{LanesUnderway, LanesSwept, roomIn, valueAt, evaluatedAt, Still, PartAdvanced, PartDecided}
-use Rattle.lanes_batch.specs.Layered.{startInputs, LanesStarted, Reached, LayersSettled, StraightReached, LanesFresh, LanesFixed}
+use Rattle.lanes_batch.specs.Layered.{isOther, GateStored, GateEvaluated, GatesEvaluated, noGate, gateMore, Part}
+use Rattle.lanes_batch.specs.Layered.{OrderPart, part, Among}
+use Rattle.lanes_batch.specs.Layered.{LanesUnderway, LanesSwept, roomIn, valueAt, evaluatedAt, Still}
+use Rattle.lanes_batch.specs.Layered.{PartAdvanced, PartDecided}
+use Rattle.lanes_batch.specs.Layered.{startInputs, LanesStarted, Reached, LayersSettled, StraightReached}
+use Rattle.lanes_batch.specs.Layered.{LanesFresh, LanesFixed}
 use Rattle.lanes_batch.specs.Layered.{StraightUnder, StraightFixed, LanesSettled}
 use Rattle.lanes_batch.proofs.Sweeping.{swept-none, swept-one, swept-then, swept-underway, lane-defined}
 use Rattle.lanes_batch.proofs.Inputs.{settled-inputs, startInputs-proper, startInputs-lane}
@@ -66,9 +70,16 @@ network-gate m graph j l = getD-tab (gateAt graph) m j _ l
 
 pub node-wider : {m : ℕ} {graph : List ℕ} {j : ℕ} → m ≤ maxGates → Node m graph j → Node maxGates graph j
 node-wider few n =
-    record { kind = n .kind; count = n .count; operation = n .operation; place = n .place; inside = λ i l. omega (arith, n .inside i l) }
+    record {
+      kind = n .kind;
+      count = n .count;
+      operation = n .operation;
+      place = n .place;
+      inside = λ i l. omega (arith, n .inside i l);
+    }
 
-pub part-nodes : {m : ℕ} {graph order : List ℕ} {from end : ℕ} → Graph m graph → OrderPart m order from end → Part graph order from end
+pub part-nodes : {m : ℕ} {graph order : List ℕ} {from end : ℕ} → Graph m graph → OrderPart m order from end
+    → Part graph order from end
 part-nodes g p =
     record {
       ordered = p .ordered;
@@ -85,7 +96,8 @@ other-no p q = go (eqb (p .zeros) (q .zeros)) (eqb (p .ones) (q .ones)) refl ref
   where
     go : (t u : Bool) → eqb (p .zeros) (q .zeros) ≡ t → eqb (p .ones) (q .ones) ≡ u → not t || not u ≡ false → p ≡ q
     go true true e f h =
-        ap₂ {C = Pair} (λ (z o : ℕ). record { zeros = z; ones = o }) (eqb-true (p .zeros) (q .zeros) e) (eqb-true (p .ones) (q .ones) f)
+        ap₂ {C = Pair} (λ (z o : ℕ). record { zeros = z; ones = o }) (eqb-true (p .zeros) (q .zeros) e)
+        (eqb-true (p .ones) (q .ones) f)
     go true false e f h = absurd (true≢false h)
     go false u e f h = absurd (true≢false h)
 
@@ -102,7 +114,8 @@ unfolding gatesIn
 gates-long m w = length-tab (λ j. pairAt w (firstGate + j)) m
 
 module _ {m n : ℕ} {graph : List ℕ} where
-  pub lanes-one : {w after : List ℕ} {changed : Bool} (j : ℕ) → Graph m graph → j < m → LanesUnderway m n graph w → GateEvaluated graph j w after changed
+  pub lanes-one : {w after : List ℕ} {changed : Bool} (j : ℕ) → Graph m graph → j < m → LanesUnderway m n graph w
+      → GateEvaluated graph j w after changed
       → LanesSwept m n graph (j ∷ []) w after changed
   lanes-one {w} {after} {changed} j g l u e =
       record {
@@ -110,7 +123,8 @@ module _ {m n : ℕ} {graph : List ℕ} where
         inputsKept = rw (e .wordsAre) (put-inputs w j q);
         swept =
             rw (e .wordsAre, put-gates w j q m l (omega (arith, u .filled .long, g .few)))
-            (swept-one j (u .underway) (rw (network-count m graph) l) legal is (λ h. same (sym (e .changedIs) ∙ h)) (λ h. other (sym (e .changedIs) ∙ h)));
+            (swept-one j (u .underway) (rw (network-count m graph) l) legal is (λ h. same (sym (e .changedIs) ∙ h))
+            (λ h. other (sym (e .changedIs) ∙ h)));
       }
     where
       q : Pair
@@ -123,20 +137,30 @@ module _ {m n : ℕ} {graph : List ℕ} where
       legal = rw (network-gate m graph j l) (node-legal (g .node j l))
 
       is : q ≡ evaluatedPair (full (lanesOf n)) (inputsIn w) (gatesIn m w) (gateOf (network m graph) j)
-      is = rw (network-gate m graph j l) (gatePairIn-evaluated (g .node j l) (u .filled) (u .underway .inputsProper) (u .underway .proper))
+      is =
+          rw (network-gate m graph j l)
+          (gatePairIn-evaluated (g .node j l) (u .filled) (u .underway .inputsProper) (u .underway .proper))
 
       same : isOther q (pairAt w (firstGate + j)) ≡ false → q ≡ getD (gatesIn m w) j noLanes
       same h = rw was (other-no q (pairAt w (firstGate + j)) h)
 
-      other : isOther q (pairAt w (firstGate + j)) ≡ true → q .zeros ≡ getD (gatesIn m w) j noLanes .zeros → q .ones ≡ getD (gatesIn m w) j noLanes .ones → ⊥
+      other : isOther q (pairAt w (firstGate + j)) ≡ true → q .zeros ≡ getD (gatesIn m w) j noLanes .zeros
+          → q .ones ≡ getD (gatesIn m w) j noLanes .ones → ⊥
       other h ez eo =
-          other-yes q (pairAt w (firstGate + j)) h (ez ∙ ap (λ (p : Pair). p .zeros) was) (eo ∙ ap (λ (p : Pair). p .ones) was)
+          other-yes q (pairAt w (firstGate + j)) h (ez ∙ ap (λ (p : Pair). p .zeros) was)
+          (eo ∙ ap (λ (p : Pair). p .ones) was)
 
-  pub lanes-underway : {js w after : List ℕ} {changed : Bool} → LanesUnderway m n graph w → LanesSwept m n graph js w after changed
+  pub lanes-underway : {js w after : List ℕ} {changed : Bool} → LanesUnderway m n graph w
+      → LanesSwept m n graph js w after changed
       → LanesUnderway m n graph after
-  lanes-underway u s = record { filled = s .filled; underway = rw (s .inputsKept) (swept-underway (u .underway) (s .swept)) }
+  lanes-underway u s =
+      record {
+        filled = s .filled;
+        underway = rw (s .inputsKept) (swept-underway (u .underway) (s .swept));
+      }
 
-  pub lanes-swept : {js w after : List ℕ} {changed : Bool} → Graph m graph → ((j : ℕ) → member j js ≡ true → j < m) → LanesUnderway m n graph w
+  pub lanes-swept : {js w after : List ℕ} {changed : Bool} → Graph m graph → ((j : ℕ) → member j js ≡ true → j < m)
+      → LanesUnderway m n graph w
       → GatesEvaluated graph w js after changed → LanesSwept m n graph js w after changed
   lanes-swept g inside u noGate = record { filled = u .filled; inputsKept = refl; swept = swept-none _ (u .underway) }
   lanes-swept {js} g inside u (gateMore {js = before} h j e) =
@@ -167,7 +191,8 @@ module _ (back : Bool) (order : List ℕ) (from end : ℕ) where
   pub part-among : (j : ℕ) → member j (part back order from end) ≡ true → Among order from end j
   unfolding part f
   part-among j h =
-      let w : (i : ℕ) × (i < length (tab f (end - from))) × (getD (tab f (end - from)) i 0 ≡ j) = member-at j (tab f (end - from)) h in
+      let w : (i : ℕ) × (i < length (tab f (end - from))) × (getD (tab f (end - from)) i 0 ≡ j) =
+      member-at j (tab f (end - from)) h in
       let l : w .0 < end - from = rw (length-tab f (end - from)) at (w .1) in
       let p = place-inside back (end - from) (w .0) l in
       record {
@@ -182,8 +207,10 @@ module _ (back : Bool) (order : List ℕ) (from end : ℕ) where
   among-part i l h =
       let k = placeOf back (end - from) (i - from) in
       let p : k < end - from = place-inside back (end - from) (i - from) (omega arith) in
-      let e : from + placeOf back (end - from) k ≡ i = rw (place-twice back (end - from) (i - from) (omega arith)) (omega arith) in
-      member-from (getD order i 0) (tab f (end - from)) k (rw (length-tab f (end - from)) p) (getD-tab f (end - from) k 0 p ∙ ap (λ (a : ℕ). getD order a 0) e)
+      let e : from + placeOf back (end - from) k ≡ i =
+      rw (place-twice back (end - from) (i - from) (omega arith)) (omega arith) in
+      member-from (getD order i 0) (tab f (end - from)) k (rw (length-tab f (end - from)) p)
+      (getD-tab f (end - from) k 0 p ∙ ap (λ (a : ℕ). getD order a 0) e)
 
 -- ---- sweeps over a part
 
@@ -200,11 +227,18 @@ values-long m s w = length-map (gatesIn m w) (lane s) ∙ gates-long m w
 module _ {m n : ℕ} {graph order : List ℕ} {from end : ℕ} where
   -- nothing yet
   pub advanced-none : {w : List ℕ} → LanesUnderway m n graph w → PartAdvanced m n graph order from end w w false
-  advanced-none u = record { underway = u; inputsKept = refl; kept = λ s l j h. refl; still = λ e. absurd (false≢true e) }
+  advanced-none u =
+      record {
+        underway = u;
+        inputsKept = refl;
+        kept = λ s l j h. refl;
+        still = λ e. absurd (false≢true e);
+      }
 
   -- gates there were evaluated, and nothing is told
   pub advanced-swept : (back : Bool) {w after : List ℕ} {changed : Bool} → LanesUnderway m n graph w
-      → LanesSwept m n graph (part back order from end) w after changed → PartAdvanced m n graph order from end w after false
+      → LanesSwept m n graph (part back order from end) w after changed
+      → PartAdvanced m n graph order from end w after false
   unfolding valueAt
   advanced-swept back {w} u s =
       record {
@@ -212,14 +246,17 @@ module _ {m n : ℕ} {graph order : List ℕ} {from end : ℕ} where
         inputsKept = s .inputsKept;
         kept = λ i l j h.
             rw (s .swept .lanewise i l)
-            (run-elsewhere (network m graph) (map (lane i) (inputsIn w)) (part back order from end) (map (lane i) (gatesIn m w)) j
+            (run-elsewhere (network m graph) (map (lane i) (inputsIn w)) (part back order from end)
+            (map (lane i) (gatesIn m w)) j
             (not-member j (part back order from end) (λ e. h (part-among back order from end j e))));
         still = λ e. absurd (false≢true e);
       }
 
   -- a sweep that changes nothing
-  pub advanced-still : (back : Bool) {w after : List ℕ} {changed : Bool} → OrderPart m order from end → LanesUnderway m n graph w
-      → LanesSwept m n graph (part back order from end) w after changed → changed ≡ false → PartAdvanced m n graph order from end w after true
+  pub advanced-still : (back : Bool) {w after : List ℕ} {changed : Bool} → OrderPart m order from end
+      → LanesUnderway m n graph w
+      → LanesSwept m n graph (part back order from end) w after changed → changed ≡ false
+      → PartAdvanced m n graph order from end w after true
   unfolding valueAt evaluatedAt
   advanced-still back {w} {after} p u s none =
       let a = advanced-swept back u s in
@@ -231,25 +268,31 @@ module _ {m n : ℕ} {graph order : List ℕ} {from end : ℕ} where
       }
     where
       fixed : (i : ℕ) → from ≤ i → i < end → (k : ℕ) → k < lanesOf n
-          → evaluated (map (lane k) (inputsIn w)) (map (lane k) (gatesIn m w)) (gateOf (network m graph) (getD order i 0))
+          → evaluated (map (lane k) (inputsIn w)) (map (lane k) (gatesIn m w))
+          (gateOf (network m graph) (getD order i 0))
           ≡ getD (map (lane k) (gatesIn m w)) (getD order i 0) undefined
       fixed i l h k q =
           let b = network m graph in
           let x = map (lane k) (inputsIn w) in
           let v = map (lane k) (gatesIn m w) in
-          let same : run b x (part back order from end) v ≡ v = sym (s .swept .lanewise k q) ∙ ap (map (lane k)) (s .swept .still none) in
-          run-fixed b x (part back order from end) v (u .underway .rising k q) (λ c. below-of-eq (ap (λ (z : List Value). getD z c undefined) same))
+          let same : run b x (part back order from end) v ≡ v =
+          sym (s .swept .lanewise k q) ∙ ap (map (lane k)) (s .swept .still none) in
+          run-fixed b x (part back order from end) v (u .underway .rising k q)
+          (λ c. below-of-eq (ap (λ (z : List Value). getD z c undefined) same))
           (getD order i 0) (among-part back order from end i l h) (rw (values-long m k w) (p .inside i l h))
 
   -- no lane is undefined any more, where that is told
-  pub advanced-decided : {w after : List ℕ} {used : ℕ} (done : Bool) → OrderPart m order from end → PartAdvanced m n graph order from end w after false
-      → used ≡ full (lanesOf n) → (done ≡ true → PartDecided used order from end after) → PartAdvanced m n graph order from end w after done
+  pub advanced-decided : {w after : List ℕ} {used : ℕ} (done : Bool) → OrderPart m order from end
+      → PartAdvanced m n graph order from end w after false
+      → used ≡ full (lanesOf n) → (done ≡ true → PartDecided used order from end after)
+      → PartAdvanced m n graph order from end w after done
   unfolding valueAt evaluatedAt
   advanced-decided {w} {after} {used} done p a inUse d =
       record { underway = a .underway; inputsKept = a .inputsKept; kept = a .kept; still = λ e. fixed (d e) }
     where
       fixed : PartDecided used order from end after → (i : ℕ) → from ≤ i → i < end → (k : ℕ) → k < lanesOf n
-          → evaluated (map (lane k) (inputsIn after)) (map (lane k) (gatesIn m after)) (gateOf (network m graph) (getD order i 0))
+          → evaluated (map (lane k) (inputsIn after)) (map (lane k) (gatesIn m after))
+          (gateOf (network m graph) (getD order i 0))
           ≡ getD (map (lane k) (gatesIn m after)) (getD order i 0) undefined
       fixed t i l h k q =
           let j = getD order i 0 in
@@ -263,11 +306,19 @@ module _ {m n : ℕ} {graph order : List ℕ} {from end : ℕ} where
       → PartAdvanced m n graph order from end w after true
   advanced-told a e = rw e at a
 
-  pub advanced-on : {w after : List ℕ} {r : Bool} → PartAdvanced m n graph order from end w after r → PartAdvanced m n graph order from end w after false
-  advanced-on a = record { underway = a .underway; inputsKept = a .inputsKept; kept = a .kept; still = λ e. absurd (false≢true e) }
+  pub advanced-on : {w after : List ℕ} {r : Bool} → PartAdvanced m n graph order from end w after r
+      → PartAdvanced m n graph order from end w after false
+  advanced-on a =
+      record {
+        underway = a .underway;
+        inputsKept = a .inputsKept;
+        kept = a .kept;
+        still = λ e. absurd (false≢true e);
+      }
 
   -- one after the other
-  pub advanced-then : {w mid after : List ℕ} {r s : Bool} → PartAdvanced m n graph order from end w mid r → PartAdvanced m n graph order from end mid after s
+  pub advanced-then : {w mid after : List ℕ} {r s : Bool} → PartAdvanced m n graph order from end w mid r
+      → PartAdvanced m n graph order from end mid after s
       → PartAdvanced m n graph order from end w after s
   advanced-then a b =
       record {
@@ -278,20 +329,27 @@ module _ {m n : ℕ} {graph order : List ℕ} {from end : ℕ} where
       }
 
 -- a sweep over a part, from its steps
-pub part-swept : {m n : ℕ} {graph order : List ℕ} {from end : ℕ} {w after : List ℕ} {changed : Bool} (back : Bool) → Graph m graph → OrderPart m order from end
+pub part-swept : {m n : ℕ} {graph order : List ℕ} {from end : ℕ} {w after : List ℕ} {changed : Bool} (back : Bool)
+    → Graph m graph → OrderPart m order from end
     → LanesUnderway m n graph w → GatesEvaluated graph w (part back order from end) after changed
     → LanesSwept m n graph (part back order from end) w after changed
 part-swept {m} {n} {graph} {order} {from} {end} back g p u e =
-    lanes-swept g (λ j h. let a = part-among back order from end j h in rw (a .is) at (p .inside (a .at) (a .low) (a .high))) u e
+    lanes-swept g (λ j h. let a = part-among back order from end j h in rw (a .is) at (p .inside (a .at) (a .low)
+    (a .high))) u e
 
 -- gates of a part that are decided, one after the other
 pub decided-none : (used : ℕ) (order : List ℕ) (from : ℕ) (w : List ℕ) → PartDecided used order from from w
 decided-none used order from w = record { each = λ i l h. absurd (omega arith) }
 
-pub decided-more : {used : ℕ} {order : List ℕ} {from i : ℕ} {w : List ℕ} {p : Pair} → PartDecided used order from i w → from ≤ i
-    → p ≡ pairAt w (firstGate + getD order i 0) → bitOr (p .zeros) (p .ones) ≡ used → PartDecided used order from (i + 1) w
+pub decided-more : {used : ℕ} {order : List ℕ} {from i : ℕ} {w : List ℕ} {p : Pair} → PartDecided used order from i w
+    → from ≤ i
+    → p ≡ pairAt w (firstGate + getD order i 0) → bitOr (p .zeros) (p .ones) ≡ used
+    → PartDecided used order from (i + 1) w
 decided-more {used} {order} {from} {i} {w} d l e f =
-    record { each = λ k a b. ⊎-elim (λ h. d .each k a h) (λ h. let same : k ≡ i = omega arith in rw (same, ← e) f) (lt-or-le k i) }
+    record {
+      each =
+          λ k a b. ⊎-elim (λ h. d .each k a h) (λ h. let same : k ≡ i = omega arith in rw (same, ← e) f) (lt-or-le k i);
+    }
 
 -- ---- layers
 
@@ -299,7 +357,8 @@ pub fresh-underway : {m n : ℕ} {graph w : List ℕ} → LanesFresh m n w → L
 fresh-underway {m} {n} {graph} {w} s =
     let x = inputsIn w in
     let b = network m graph in
-    let values : (i : ℕ) → map (lane i) (replicate m noLanes) ≡ replicate m undefined = λ i. map-replicate (lane i) m noLanes ∙ rw (nothing-lane i) in
+    let values : (i : ℕ) → map (lane i) (replicate m noLanes) ≡ replicate m undefined =
+    λ i. map-replicate (lane i) m noLanes ∙ rw (nothing-lane i) in
     record {
       filled = s .filled;
       underway =
@@ -314,14 +373,20 @@ fresh-underway {m} {n} {graph} {w} s =
     }
 
 pub reached-start : {m n : ℕ} {graph order ends w : List ℕ} → LanesFresh m n w → Reached m n graph order ends 0 w
-reached-start s = record { underway = fresh-underway s; closed = λ k l. absurd (omega arith); still = λ k l. absurd (omega arith) }
+reached-start s =
+    record {
+      underway = fresh-underway s;
+      closed = λ k l. absurd (omega arith);
+      still = λ k l. absurd (omega arith);
+    }
 
 -- a batch's lanes are such ones, and the values that are found there are those of its settings
 pub started-fresh : {m n base : ℕ} {w : List ℕ} → n ≤ maxInputs → LanesStarted m n base w → LanesFresh m n w
 started-fresh {n = n} {base = base} few s =
     record { filled = s .filled; inputsProper = rw (s .inputs) (startInputs-proper n base few); gates = s .gates }
 
-pub fixed-batch : {b : Block} {m n base : ℕ} {w after : List ℕ} → n ≤ maxInputs → base % 64 ≡ 0 → LanesStarted m n base w → LanesFixed b n w after
+pub fixed-batch : {b : Block} {m n base : ℕ} {w after : List ℕ} → n ≤ maxInputs → base % 64 ≡ 0
+    → LanesStarted m n base w → LanesFixed b n w after
     → LanesSettled b n base after
 fixed-batch {b} {m} {n} {base} {w} {after} few aligned s f =
     let inputs : inputsIn after ≡ startInputs n base = f .inputsKept ∙ s .inputs in
@@ -331,7 +396,8 @@ fixed-batch {b} {m} {n} {base} {w} {after} few aligned s f =
       inputsProper = f .inputsProper;
       gatesProper = f .gatesProper;
       settledLanes = λ k l. f .settledLanes k l
-          ∙ rw inputs (settled-inputs (map (lane k) (startInputs n base)) (settingOf n (base + k)) (startInputs-lane n base few aligned k l) b);
+          ∙ rw inputs (settled-inputs (map (lane k) (startInputs n base)) (settingOf n (base + k))
+          (startInputs-lane n base few aligned k l) b);
     }
 
 -- a gate past the last has no value
@@ -356,16 +422,20 @@ module _ {m : ℕ} {graph order ends : List ℕ} (layers : Layers m graph order 
   unfolding evaluatedAt valueAt
   evaluated-kept w after k s l inputs agree =
       rw inputs
-      (evaluated-agree (map (lane s) (inputsIn w)) (map (lane s) (gatesIn m after)) (map (lane s) (gatesIn m w)) (network m graph) (getD order k 0)
+      (evaluated-agree (map (lane s) (inputsIn w)) (map (lane s) (gatesIn m after)) (map (lane s) (gatesIn m w))
+      (network m graph) (getD order k 0)
       (λ r e. ⊎-elim (λ h. let p = read-before k r l h e in rw (p .3) at (agree (p .0) (p .2) (p .1)))
       (λ h. value-past m after s r h ∙ sym (value-past m w s r h)) (lt-or-le r m)))
 
   -- the layers below i stay still where their gates keep their values
-  still-kept : {n : ℕ} {w : List ℕ} (after : List ℕ) (i : ℕ) → i ≤ m → Reached m n graph order ends i w → inputsIn after ≡ inputsIn w
-      → ((s : ℕ) → s < lanesOf n → (k : ℕ) → k < i → valueAt m after s (getD order k 0) ≡ valueAt m w s (getD order k 0))
+  still-kept : {n : ℕ} {w : List ℕ} (after : List ℕ) (i : ℕ) → i ≤ m → Reached m n graph order ends i w
+      → inputsIn after ≡ inputsIn w
+      → ((s : ℕ) → s < lanesOf n → (k : ℕ) → k < i → valueAt m after s (getD order k 0) ≡ valueAt m w s
+      (getD order k 0))
       → (k : ℕ) → k < i → Still m n graph after (getD order k 0)
   still-kept {n} {w} after i few r inputs agree k l s h =
-      evaluated-kept w after k s (omega arith) inputs (λ p q e. let c = r .closed k l in agree s h p (omega arith)) ∙ r .still k l s h ∙ sym (agree s h k l)
+      evaluated-kept w after k s (omega arith) inputs (λ p q e. let c = r .closed k l in agree s h p (omega arith))
+      ∙ r .still k l s h ∙ sym (agree s h k l)
 
   -- positions below i and gates at positions from i on
   apart : (i k e : ℕ) → e ≤ m → k < i → Among order i e (getD order k 0) → ⊥
@@ -375,16 +445,21 @@ module _ {m : ℕ} {graph order ends : List ℕ} (layers : Layers m graph order 
       omega arith
 
   -- a gate that lies on no loop
-  pub reached-one : {n : ℕ} {w after : List ℕ} (i : ℕ) → Graph m graph → i < m → getD ends i 0 ≡ i → Reached m n graph order ends i w
+  pub reached-one : {n : ℕ} {w after : List ℕ} (i : ℕ) → Graph m graph → i < m → getD ends i 0 ≡ i
+      → Reached m n graph order ends i w
       → GateStored graph (getD order i 0) w after → LayersSettled m n graph order ends i w after (i + 1)
   unfolding run stepAt evaluatedAt valueAt
   reached-one {n} {w} {after} i g l straight r e =
       record {
         reached = record {
           underway = lanes-underway (r .underway) s;
-          closed = λ k h. ⊎-elim (λ b. let c = r .closed k b in omega arith) (λ b. let same : k ≡ i = omega arith in rw (same, straight) (omega arith))
+          closed =
+              λ k h. ⊎-elim (λ b. let c = r .closed k b in omega arith)
+              (λ b. let same : k ≡ i = omega arith in rw (same, straight) (omega arith))
               (lt-or-le k i);
-          still = λ k h. ⊎-elim (still-kept after i (omega arith) r (s .inputsKept) (λ c q p b. elsewhere c q p (omega arith) (omega arith)) k) (here-still k h)
+          still =
+              λ k h. ⊎-elim (still-kept after i (omega arith) r (s .inputsKept)
+              (λ c q p b. elsewhere c q p (omega arith) (omega arith)) k) (here-still k h)
               (lt-or-le k i);
         };
         inputsKept = s .inputsKept;
@@ -401,10 +476,12 @@ module _ {m : ℕ} {graph order ends : List ℕ} (layers : Layers m graph order 
       s : LanesSwept m n graph (j ∷ []) w after (isOther (gatePairIn graph j w) (pairAt w (firstGate + j)))
       s = lanes-one j g inside (r .underway) (record { wordsAre = e .wordsAre; changedIs = refl })
 
-      stepped : (c : ℕ) → c < lanesOf n → map (lane c) (gatesIn m after) ≡ set (map (lane c) (gatesIn m w)) j (evaluatedAt m graph w c j)
+      stepped : (c : ℕ) → c < lanesOf n
+          → map (lane c) (gatesIn m after) ≡ set (map (lane c) (gatesIn m w)) j (evaluatedAt m graph w c j)
       stepped c q = s .swept .lanewise c q
 
-      elsewhere : (c : ℕ) → c < lanesOf n → (p : ℕ) → p < m → (p ≡ i → ⊥) → valueAt m after c (getD order p 0) ≡ valueAt m w c (getD order p 0)
+      elsewhere : (c : ℕ) → c < lanesOf n → (p : ℕ) → p < m → (p ≡ i → ⊥)
+          → valueAt m after c (getD order p 0) ≡ valueAt m w c (getD order p 0)
       elsewhere c q p h d =
           rw (stepped c q)
           (getD-set-other (map (lane c) (gatesIn m w)) j (getD order p 0) (evaluatedAt m graph w c j) undefined
@@ -414,9 +491,11 @@ module _ {m : ℕ} {graph order ends : List ℕ} (layers : Layers m graph order 
       here-still k h b c q =
           let same : k ≡ i = omega arith in
           rw same
-          (evaluated-kept w after i c l (s .inputsKept) (λ p o f. elsewhere c q p o (λ z. let y = straight in omega arith))
+          (evaluated-kept w after i c l (s .inputsKept)
+          (λ p o f. elsewhere c q p o (λ z. let y = straight in omega arith))
           ∙ sym (ap (λ (v : List Value). getD v j undefined) (stepped c q)
-          ∙ getD-set-same (map (lane c) (gatesIn m w)) j (evaluatedAt m graph w c j) undefined (rw (values-long m c w) inside)))
+          ∙ getD-set-same (map (lane c) (gatesIn m w)) j (evaluatedAt m graph w c j) undefined
+          (rw (values-long m c w) inside)))
 
   pub loop-end : (i : ℕ) → i < m → (getD ends i 0 ≡ i → ⊥) → LoopEnd m ends i
   loop-end i l d = ⊎-elim (λ e. absurd (d e)) (λ e. e) (layers .end i l .cases)
@@ -436,17 +515,22 @@ module _ {m : ℕ} {graph order ends : List ℕ} (layers : Layers m graph order 
       }
 
   -- a loop
-  pub reached-loop : {n : ℕ} {w after : List ℕ} (i : ℕ) → i < m → (getD ends i 0 ≡ i → ⊥) → Reached m n graph order ends i w
-      → PartAdvanced m n graph order i (getD ends i 0) w after true → LayersSettled m n graph order ends i w after (getD ends i 0)
+  pub reached-loop : {n : ℕ} {w after : List ℕ} (i : ℕ) → i < m → (getD ends i 0 ≡ i → ⊥)
+      → Reached m n graph order ends i w
+      → PartAdvanced m n graph order i (getD ends i 0) w after true
+      → LayersSettled m n graph order ends i w after (getD ends i 0)
   reached-loop {n} {w} {after} i l d r a =
       let e = loop-end i l d in
       let behind = e .behind in
       record {
         reached = record {
           underway = a .underway;
-          closed = λ k h. ⊎-elim (λ b. let c = r .closed k b in omega arith) (λ b. let same = e .same k b h in omega arith) (lt-or-le k i);
+          closed =
+              λ k h. ⊎-elim (λ b. let c = r .closed k b in omega arith) (λ b. let same = e .same k b h in omega arith)
+              (lt-or-le k i);
           still = λ k h. ⊎-elim
-              (still-kept after i (omega arith) r (a .inputsKept) (λ c q p b. a .kept c q (getD order p 0) (apart i p (getD ends i 0) (e .within) b)) k)
+              (still-kept after i (omega arith) r (a .inputsKept)
+              (λ c q p b. a .kept c q (getD order p 0) (apart i p (getD ends i 0) (e .within) b)) k)
               (λ b. a .still refl k b h)
               (lt-or-le k i);
         };
@@ -456,7 +540,8 @@ module _ {m : ℕ} {graph order ends : List ℕ} (layers : Layers m graph order 
       }
 
   -- all layers
-  pub reached-fixed : {n : ℕ} {start w : List ℕ} → Reached m n graph order ends m w → inputsIn w ≡ inputsIn start → LanesFixed (network m graph) n start w
+  pub reached-fixed : {n : ℕ} {start w : List ℕ} → Reached m n graph order ends m w → inputsIn w ≡ inputsIn start
+      → LanesFixed (network m graph) n start w
   unfolding evaluatedAt valueAt
   reached-fixed {n} {start} {w} r inputs =
       record {
@@ -465,7 +550,8 @@ module _ {m : ℕ} {graph order ends : List ℕ} (layers : Layers m graph order 
         inputsProper = r .underway .underway .inputsProper;
         gatesProper = rw (network-count m graph) (r .underway .underway .proper);
         settledLanes = λ s l. rw (network-count m graph)
-            (fixed-settled b (map (lane s) (inputsIn w)) (map (lane s) (gatesIn m w)) (values-long m s w ∙ sym (network-count m graph))
+            (fixed-settled b (map (lane s) (inputsIn w)) (map (lane s) (gatesIn m w))
+            (values-long m s w ∙ sym (network-count m graph))
             (r .underway .underway .below s l) (fixed s l));
       }
     where
@@ -473,14 +559,16 @@ module _ {m : ℕ} {graph order ends : List ℕ} (layers : Layers m graph order 
       b = network m graph
 
       fixed : (s : ℕ) → s < lanesOf n → (j : ℕ) → j < gateCount b
-          → evaluated (map (lane s) (inputsIn w)) (map (lane s) (gatesIn m w)) (gateOf b j) ≡ getD (map (lane s) (gatesIn m w)) j undefined
+          → evaluated (map (lane s) (inputsIn w)) (map (lane s) (gatesIn m w)) (gateOf b j)
+          ≡ getD (map (lane s) (gatesIn m w)) j undefined
       fixed s l j h =
           let p = layers .every j (rw (network-count m graph) at h) in
           rw (p .2) at (r .still (p .0) (p .1) s l)
 
 -- where a gate on no loop stands at position i, and none at k, some position lies between
 pub lone-before : (ends : List ℕ) (i k : ℕ) → i ≤ k → getD ends i 0 ≡ i → (getD ends k 0 ≡ k → ⊥) → i < k
-lone-before ends i k l e d = ⊎-elim (λ h. h) (λ h. let same : k ≡ i = omega arith in absurd (d (rw same e))) (lt-or-le i k)
+lone-before ends i k l e d =
+    ⊎-elim (λ h. h) (λ h. let same : k ≡ i = omega arith in absurd (d (rw same e))) (lt-or-le i k)
 
 -- ---- a straight block's gates, as they come
 
@@ -491,7 +579,8 @@ as-come-at : (m i : ℕ) → i < m → getD (as-come m) i 0 ≡ i
 unfolding as-come
 as-come-at m i l = getD-tab (λ i. i) m i 0 l
 
-straight-layers : (m : ℕ) (graph : List ℕ) → isStraight (network m graph) ≡ true → Layers m graph (as-come m) (as-come m)
+straight-layers : (m : ℕ) (graph : List ℕ) → isStraight (network m graph) ≡ true
+    → Layers m graph (as-come m) (as-come m)
 straight-layers m graph h =
     record {
       inside = λ i l. rw (as-come-at m i l) l;
@@ -528,7 +617,8 @@ module _ (m : ℕ) (graph : List ℕ) (h : isStraight (network m graph) ≡ true
 -- ---- a block's words
 
 -- what is settled in a graph is settled in the block that it was decoded from
-pub settled-decoded : {b : Block} {m n base : ℕ} {graph w : List ℕ} → Decoded b m graph → LanesSettled (network m graph) n base w → LanesSettled b n base w
+pub settled-decoded : {b : Block} {m n base : ℕ} {graph w : List ℕ} → Decoded b m graph
+    → LanesSettled (network m graph) n base w → LanesSettled b n base w
 settled-decoded {b} {m} {n} {base} {graph} {w} d s =
     let e = network-gates b m graph d in
     let count = count-gates (network m graph) b e in
@@ -537,11 +627,13 @@ settled-decoded {b} {m} {n} {base} {graph} {w} d s =
       inputs = s .inputs;
       inputsProper = s .inputsProper;
       gatesProper = rw (← count) (s .gatesProper);
-      settledLanes = λ k l. rw (← count) (s .settledLanes k l ∙ settled-gates (network m graph) b e (settingOf n (base + k)));
+      settledLanes =
+          λ k l. rw (← count) (s .settledLanes k l ∙ settled-gates (network m graph) b e (settingOf n (base + k)));
     }
 
 -- a straight block's network is straight
-pub straight-decoded : {b : Block} {m : ℕ} {graph : List ℕ} → Decoded b m graph → isStraight b ≡ true → isStraight (network m graph) ≡ true
+pub straight-decoded : {b : Block} {m : ℕ} {graph : List ℕ} → Decoded b m graph → isStraight b ≡ true
+    → isStraight (network m graph) ≡ true
 unfolding isStraight
 straight-decoded {b} {m} {graph} d h =
     let e = network-gates b m graph d in

@@ -37,10 +37,13 @@ pub cleared-more : {k : ℕ} {w mid : List ℕ} → Cleared k w mid → k < leng
 cleared-more {k} {w} {mid} c l =
     record {
       long = length-set mid k 0 ∙ c .long;
-      none = λ i h. ⊎-elim (λ e. rw e (getD-set-same mid k 0 0 (rw (c .long) l))) (λ d. getD-set-other mid k i 0 0 d ∙ c .none i (omega arith)) (eq-or-ne i k);
+      none =
+          λ i h. ⊎-elim (λ e. rw e (getD-set-same mid k 0 0 (rw (c .long) l)))
+          (λ d. getD-set-other mid k i 0 0 d ∙ c .none i (omega arith)) (eq-or-ne i k);
     }
 
-module _ {m : ℕ} (n : ℕ) {used : ℕ} {w a b c : List ℕ} (fewGates : m ≤ maxGates) (long : length w ≡ laneSize) (inUse : used ≡ full (lanesOf n))
+module _ {m : ℕ} (n : ℕ) {used : ℕ} {w a b c : List ℕ} (fewGates : m ≤ maxGates) (long : length w ≡ laneSize)
+    (inUse : used ≡ full (lanesOf n))
     (cleared : Cleared (2 * (firstGate + m)) w a) (zero : b ≡ putPair a 0 (record { zeros = used; ones = 0 }))
     (one : c ≡ putPair b 1 (record { zeros = 0; ones = used })) where
   lengths : (length a ≡ laneSize) × (length b ≡ laneSize) × (length c ≡ laneSize)
@@ -71,9 +74,16 @@ module _ {m : ℕ} (n : ℕ) {used : ℕ} {w a b c : List ℕ} (fewGates : m ≤
       }
 
 pub inputs-none : (pair : ℕ → Pair) (w : List ℕ) → InputsPut pair 0 w w
-inputs-none pair w = record { long = refl; put = λ i l. absurd (omega arith); before = λ p l. refl; behind = λ p l. refl }
+inputs-none pair w =
+    record {
+      long = refl;
+      put = λ i l. absurd (omega arith);
+      before = λ p l. refl;
+      behind = λ p l. refl;
+    }
 
-pub inputs-more : {pair : ℕ → Pair} {k : ℕ} {w mid after : List ℕ} {q : Pair} → InputsPut pair k w mid → length w ≡ laneSize → k < maxInputs
+pub inputs-more : {pair : ℕ → Pair} {k : ℕ} {w mid after : List ℕ} {q : Pair} → InputsPut pair k w mid
+    → length w ≡ laneSize → k < maxInputs
     → q ≡ pair k → after ≡ putPair mid (firstInput + k) q → InputsPut pair (k + 1) w after
 inputs-more {pair} {k} {w} {mid} {after} {q} s long few is e =
     record {
@@ -90,7 +100,8 @@ inputs-more {pair} {k} {w} {mid} {after} {q} s long few is e =
     other i l d = rw e (put-other mid (firstInput + k) q (firstInput + i) (omega arith) ∙ s .put i (omega arith))
 
 -- what stands in the pairs of all inputs, and that they are proper
-pub padded-at : (n : ℕ) (pair : ℕ → Pair) → n ≤ maxInputs → (i : ℕ) → getD (padded n pair) i noLanes ≡ cond (ltb i n) (pair i) noLanes
+pub padded-at : (n : ℕ) (pair : ℕ → Pair) → n ≤ maxInputs → (i : ℕ)
+    → getD (padded n pair) i noLanes ≡ cond (ltb i n) (pair i) noLanes
 unfolding padded
 padded-at n pair few i = ⊎-elim (getD-tab f maxInputs i noLanes) past (lt-or-le i maxInputs)
   where
@@ -102,14 +113,16 @@ padded-at n pair few i = ⊎-elim (getD-tab f maxInputs i noLanes) past (lt-or-l
         let long : length (tab f maxInputs) ≤ i = rw (length-tab f maxInputs) h in
         List·getD-eq-default (tab f maxInputs) noLanes long ∙ rw (le-ltb i n (omega arith)) refl
 
-pub padded-proper : {lanes : ℕ} (n : ℕ) (pair : ℕ → Pair) → n ≤ maxInputs → ((i : ℕ) → i < n → Proper lanes (pair i)) → AllProper lanes (padded n pair)
+pub padded-proper : {lanes : ℕ} (n : ℕ) (pair : ℕ → Pair) → n ≤ maxInputs → ((i : ℕ) → i < n → Proper lanes (pair i))
+    → AllProper lanes (padded n pair)
 padded-proper {lanes} n pair few each =
     record {
       each = λ i. rw (padded-at n pair few i)
           (⊎-elim (λ l. rw (lt-ltb i n l) (each i l)) (λ h. rw (le-ltb i n h) (nothing-proper lanes)) (lt-or-le i n));
     }
 
-module _ {m n k : ℕ} {pair : ℕ → Pair} {c d : List ℕ} (fewGates : m ≤ maxGates) (few : k ≤ maxInputs) (started : ConstantsStarted m n c)
+module _ {m n k : ℕ} {pair : ℕ → Pair} {c d : List ℕ} (fewGates : m ≤ maxGates) (few : k ≤ maxInputs)
+    (started : ConstantsStarted m n c)
     (inputs : InputsPut pair k c d) where
   pub inputs-filled : Filled (full (lanesOf n)) d
   inputs-filled =
@@ -124,7 +137,8 @@ module _ {m n k : ℕ} {pair : ℕ → Pair} {c d : List ℕ} (fewGates : m ≤ 
   inputs-padded =
       tab-ext (λ i. pairAt d (firstInput + i)) (λ i. cond (ltb i k) (pair i) noLanes) maxInputs
       (λ i l. ⊎-elim (λ h. rw (lt-ltb i k h) (inputs .put i h))
-      (λ h. rw (le-ltb i k h) (inputs .behind (firstInput + i) (omega arith) ∙ started .blank (firstInput + i) (omega arith) (omega arith))) (lt-or-le i k))
+      (λ h. rw (le-ltb i k h) (inputs .behind (firstInput + i) (omega arith) ∙ started .blank (firstInput + i)
+      (omega arith) (omega arith))) (lt-or-le i k))
 
   pub inputs-gates : gatesIn m d ≡ replicate m noLanes
   unfolding gatesIn
@@ -135,7 +149,8 @@ module _ {m n k : ℕ} {pair : ℕ → Pair} {c d : List ℕ} (fewGates : m ≤ 
       getD-tab (λ j. pairAt d (firstGate + j)) m j noLanes l ∙ inputs .behind (firstGate + j) (omega arith)
       ∙ started .blank (firstGate + j) (omega arith) (omega arith) ∙ sym (getD-replicate-default m j noLanes))
 
-pub lanes-started : {m n base : ℕ} {c d : List ℕ} → m ≤ maxGates → n ≤ maxInputs → ConstantsStarted m n c → InputsPut (inputPair n base) n c d
+pub lanes-started : {m n base : ℕ} {c d : List ℕ} → m ≤ maxGates → n ≤ maxInputs → ConstantsStarted m n c
+    → InputsPut (inputPair n base) n c d
     → LanesStarted m n base d
 unfolding startInputs
 lanes-started fewGates few started inputs =

@@ -47,7 +47,8 @@ set-same [] j = refl
 set-same (p ∷ ps) zero = refl
 set-same (p ∷ ps) (suc j) = rw (set-same ps j)
 
-pub set-proper : {lanes : ℕ} {ps : List Pair} {q : Pair} (j : ℕ) → AllProper lanes ps → Proper lanes q → AllProper lanes (set ps j q)
+pub set-proper : {lanes : ℕ} {ps : List Pair} {q : Pair} (j : ℕ) → AllProper lanes ps → Proper lanes q
+    → AllProper lanes (set ps j q)
 set-proper {lanes} {ps} {q} j h k = record { each = λ i. go i (after-set ps j i q noLanes) }
   where
     go : (i : ℕ) → AfterSet ps j i q noLanes → Proper lanes (getD (set ps j q) i noLanes)
@@ -64,7 +65,8 @@ bit-defined (suc zero) zero h l e = (false, refl)
 bit-defined (suc zero) (suc o) h l e = (false, refl)
 bit-defined (suc (suc z)) o h l e = absurd (omega arith)
 
-pub lane-defined : (lanes : ℕ) (p : Pair) → bitOr (p .zeros) (p .ones) ≡ full lanes → (s : ℕ) → s < lanes → (c : Bool) × (lane s p ≡ val c)
+pub lane-defined : (lanes : ℕ) (p : Pair) → bitOr (p .zeros) (p .ones) ≡ full lanes → (s : ℕ) → s < lanes
+    → (c : Bool) × (lane s p ≡ val c)
 unfolding lane
 lane-defined lanes p e s l =
     bit-defined (bit (p .zeros) s) (bit (p .ones) s) (bit-low (p .zeros) s) (bit-low (p .ones) s)
@@ -85,7 +87,8 @@ module _ {b : Block} {lanes : ℕ} {x : List Pair} where
       }
 
   -- one gate; whether its pair changed
-  pub swept-one : {state : List Pair} {p : Pair} {changed : Bool} (j : ℕ) → Underway b lanes x state → j < gateCount b → LegalGate (gateOf b j)
+  pub swept-one : {state : List Pair} {p : Pair} {changed : Bool} (j : ℕ) → Underway b lanes x state → j < gateCount b
+      → LegalGate (gateOf b j)
       → p ≡ evaluatedPair (full lanes) x state (gateOf b j)
       → (changed ≡ false → p ≡ getD state j noLanes)
       → (changed ≡ true → p .zeros ≡ getD state j noLanes .zeros → p .ones ≡ getD state j noLanes .ones → ⊥)
@@ -118,11 +121,13 @@ module _ {b : Block} {lanes : ℕ} {x : List Pair} where
       strict : changed ≡ true → getD state j noLanes .zeros + getD state j noLanes .ones < p .zeros + p .ones
       strict f =
           ⊎-elim
-          (λ ez. ⊎-elim (λ eo. absurd (other f ez eo)) (λ no. omega (arith, grown, no)) (eq-or-ne (p .ones) (getD state j noLanes .ones)))
+          (λ ez. ⊎-elim (λ eo. absurd (other f ez eo)) (λ no. omega (arith, grown, no))
+          (eq-or-ne (p .ones) (getD state j noLanes .ones)))
           (λ nz. omega (arith, grown, nz)) (eq-or-ne (p .zeros) (getD state j noLanes .zeros))
 
   -- a sweep stays on the way
-  pub swept-underway : {js : List ℕ} {state after : List Pair} {changed : Bool} → Underway b lanes x state → Swept b lanes x js state after changed
+  pub swept-underway : {js : List ℕ} {state after : List Pair} {changed : Bool} → Underway b lanes x state
+      → Swept b lanes x js state after changed
       → Underway b lanes x after
   swept-underway {js} {state} u s =
       record {
@@ -130,11 +135,13 @@ module _ {b : Block} {lanes : ℕ} {x : List Pair} where
         proper = s .proper;
         long = s .long ∙ u .long;
         rising = λ i l. rw (s .lanewise i l) (run-rising b (map (lane i) x) js (map (lane i) state) (u .rising i l));
-        below = λ i l. rw (s .lanewise i l) (run-below-settled b (map (lane i) x) js (map (lane i) state) (u .below i l));
+        below =
+            λ i l. rw (s .lanewise i l) (run-below-settled b (map (lane i) x) js (map (lane i) state) (u .below i l));
       }
 
   -- a further gate
-  pub swept-then : {js : List ℕ} {state mid after : List Pair} {r s : Bool} (k : ℕ) → Swept b lanes x js state mid r → Swept b lanes x (k ∷ []) mid after s
+  pub swept-then : {js : List ℕ} {state mid after : List Pair} {r s : Bool} (k : ℕ) → Swept b lanes x js state mid r
+      → Swept b lanes x (k ∷ []) mid after s
       → Swept b lanes x (js ++ (k ∷ [])) state after (s || r)
   swept-then {js} {state} {mid} {after} {r} {s} k f g =
       record {
@@ -145,6 +152,8 @@ module _ {b : Block} {lanes : ℕ} {x : List Pair} where
             ∙ ap (run b (map (lane i) x) (k ∷ [])) (f .lanewise i l)
             ∙ sym (run-append b (map (lane i) x) js (k ∷ []) (map (lane i) state));
         still = λ e. g .still (or-neither s r e .0) ∙ f .still (or-neither s r e .1);
-        less = λ e. ⊎-elim (λ h. omega (arith, g .less h, f .most)) (λ h. omega (arith, f .less h, g .most)) (or-cases s r e);
+        less =
+            λ e. ⊎-elim (λ h. omega (arith, g .less h, f .most)) (λ h. omega (arith, f .less h, g .most))
+            (or-cases s r e);
         most = omega (arith, g .most, f .most);
       }

@@ -1,5 +1,7 @@
--- A batch of settings on the way to its settled values, on pairs of words: what holds there, and what a sweep over gates leaves.
---   Underway, Swept, room    pairs of the gates on the way, after a list of gates was evaluated, and how much can still change
+-- A batch of settings on the way to its settled values, on pairs of words: what holds there, and what a sweep over
+-- gates leaves.
+--   Underway, Swept, room    pairs of the gates on the way, after a list of gates was evaluated, and how much can still
+--                            change
 --   placeOf                  a place of a walk, there or back
 -- Assumes nothing.
 use mathlib.Core.Path.{_≡_}
@@ -28,8 +30,10 @@ unfoldable pub room : ℕ → List Pair → ℕ
 room lanes [] = 0
 room lanes (p ∷ ps) = (2 * 2 ^ lanes - (p .zeros + p .ones)) + room lanes ps
 
--- the gates listed were evaluated one after the other, each pair stored at once, and `changed` tells whether any changed
-pub record Swept (b : Block) (lanes : ℕ) (x : List Pair) (js : List ℕ) (state after : List Pair) (changed : Bool) : Type 0 where
+-- the gates listed were evaluated one after the other, each pair stored at once, and `changed` tells whether any
+-- changed
+pub record Swept (b : Block) (lanes : ℕ) (x : List Pair) (js : List ℕ) (state after : List Pair) (changed : Bool) :
+    Type 0 where
   pub proper : AllProper lanes after
   pub long : length after ≡ length state
   pub lanewise : (s : ℕ) → s < lanes → map (lane s) after ≡ run b (map (lane s) x) js (map (lane s) state)

@@ -1,4 +1,5 @@
--- A batch of settings decided layer by layer, in one array of words: what stands there on the way, what a sweep leaves, and what is decided at the end.
+-- A batch of settings decided layer by layer, in one array of words: what stands there on the way, what a sweep leaves,
+-- and what is decided at the end.
 --   Part, OrderPart           the gates at the positions from one to before another can be evaluated
 --   GateStored, GateEvaluated, GatesEvaluated   what one gate's evaluation and several leave
 --   part, Among               these gates, there or back
@@ -48,10 +49,12 @@ pub record GateEvaluated (graph : List ℕ) (j : ℕ) (w after : List ℕ) (chan
   pub wordsAre : after ≡ putPair w (firstGate + j) (gatePairIn graph j w)
   pub changedIs : changed ≡ isOther (gatePairIn graph j w) (pairAt w (firstGate + j))
 
--- the gates listed were evaluated one after the other, each pair stored at once, and `changed` tells whether any is another
+-- the gates listed were evaluated one after the other, each pair stored at once, and `changed` tells whether any is
+-- another
 pub data GatesEvaluated (graph w : List ℕ) : List ℕ → List ℕ → Bool → Type 0 where
   noGate : GatesEvaluated graph w [] w false
-  gateMore : {js mid after : List ℕ} {r s : Bool} → GatesEvaluated graph w js mid r → (j : ℕ) → GateEvaluated graph j mid after s
+  gateMore : {js mid after : List ℕ} {r s : Bool} → GatesEvaluated graph w js mid r → (j : ℕ)
+      → GateEvaluated graph j mid after s
       → GatesEvaluated graph w (js ++ (j ∷ [])) after (s || r)
 
 -- every gate at the positions from `from` to before `end` is one of a graph's
@@ -98,13 +101,15 @@ unfoldable pub valueAt : ℕ → List ℕ → ℕ → ℕ → Value
 valueAt m w s j = getD (map (lane s) (gatesIn m w)) j undefined
 
 unfoldable pub evaluatedAt : ℕ → List ℕ → List ℕ → ℕ → ℕ → Value
-evaluatedAt m graph w s j = evaluated (map (lane s) (inputsIn w)) (map (lane s) (gatesIn m w)) (gateOf (network m graph) j)
+evaluatedAt m graph w s j =
+    evaluated (map (lane s) (inputsIn w)) (map (lane s) (gatesIn m w)) (gateOf (network m graph) j)
 
 -- gate j is still: at every lane in use its evaluation gives the value that it has
 abbrev pub Still : ℕ → ℕ → List ℕ → List ℕ → ℕ → Type 0
 Still m n graph w j = (s : ℕ) → s < lanesOf n → evaluatedAt m graph w s j ≡ valueAt m w s j
 
--- only gates at the positions from `from` to before `end` were evaluated, and where `done` is told, all of them are still
+-- only gates at the positions from `from` to before `end` were evaluated, and where `done` is told, all of them are
+-- still
 pub record PartAdvanced (m n : ℕ) (graph order : List ℕ) (from end : ℕ) (w after : List ℕ) (done : Bool) : Type 0 where
   pub underway : LanesUnderway m n graph after
   pub inputsKept : inputsIn after ≡ inputsIn w
@@ -113,7 +118,8 @@ pub record PartAdvanced (m n : ℕ) (graph order : List ℕ) (from end : ℕ) (w
 
 -- every lane in use of these gates is 0 or 1
 pub record PartDecided (used : ℕ) (order : List ℕ) (from end : ℕ) (w : List ℕ) : Type 0 where
-  pub each : (i : ℕ) → from ≤ i → i < end → let p = pairAt w (firstGate + getD order i 0) in bitOr (p .zeros) (p .ones) ≡ used
+  pub each : (i : ℕ) → from ≤ i → i < end
+      → let p = pairAt w (firstGate + getD order i 0) in bitOr (p .zeros) (p .ones) ≡ used
 
 -- ---- a batch
 
@@ -134,7 +140,8 @@ pub record Cleared (end : ℕ) (w after : List ℕ) : Type 0 where
   pub long : length after ≡ length w
   pub none : (k : ℕ) → k < end → getD after k 0 ≡ 0
 
--- the constants are there, in use are the lanes of a block of n inputs, and nothing else among the first m gates is defined
+-- the constants are there, in use are the lanes of a block of n inputs, and nothing else among the first m gates is
+-- defined
 pub record ConstantsStarted (m n : ℕ) (w : List ℕ) : Type 0 where
   pub filled : Filled (full (lanesOf n)) w
   pub blank : (p : ℕ) → firstInput ≤ p → p < firstGate + m → pairAt w p ≡ noLanes
@@ -175,7 +182,8 @@ pub record LanesFixed (b : Block) (n : ℕ) (w after : List ℕ) : Type 0 where
   pub inputsKept : inputsIn after ≡ inputsIn w
   pub inputsProper : AllProper (lanesOf n) (inputsIn after)
   pub gatesProper : AllProper (lanesOf n) (gatesIn (gateCount b) after)
-  pub settledLanes : (s : ℕ) → s < lanesOf n → map (lane s) (gatesIn (gateCount b) after) ≡ settled b (map (lane s) (inputsIn after))
+  pub settledLanes : (s : ℕ) → s < lanesOf n
+      → map (lane s) (gatesIn (gateCount b) after) ≡ settled b (map (lane s) (inputsIn after))
 
 -- of any lanes in use that were started, the first i gates of a straight block are still; and after all of them
 pub record StraightUnder (m : ℕ) (graph w : List ℕ) (i : ℕ) (after : List ℕ) : Type 0 where
@@ -190,7 +198,8 @@ pub record LanesSettled (b : Block) (n base : ℕ) (w : List ℕ) : Type 0 where
   pub inputs : inputsIn w ≡ startInputs n base
   pub inputsProper : AllProper (lanesOf n) (inputsIn w)
   pub gatesProper : AllProper (lanesOf n) (gatesIn (gateCount b) w)
-  pub settledLanes : (s : ℕ) → s < lanesOf n → map (lane s) (gatesIn (gateCount b) w) ≡ settled b (settingOf n (base + s))
+  pub settledLanes : (s : ℕ) → s < lanesOf n
+      → map (lane s) (gatesIn (gateCount b) w) ≡ settled b (settingOf n (base + s))
 
 -- ---- a block's words
 

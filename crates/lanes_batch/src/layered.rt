@@ -24,8 +24,10 @@ ghost use Rattle.graph_scc.specs.Layers.{Layers};
 ghost use Rattle.lanes_dual_rail.specs.Batches.{inputPair};
 ghost use Rattle.lanes_dual_rail.specs.LaneWords.{laneSize};
 ghost use Rattle.lanes_batch.specs.Batch.{placeOf};
-ghost use Rattle.lanes_batch.specs.Layered.{GateStored, GateEvaluated, GatesEvaluated, Part, OrderPart, part, LanesUnderway, PartAdvanced, PartDecided, roomIn};
-ghost use Rattle.lanes_batch.specs.Layered.{Cleared, ConstantsStarted, InputsPut, LanesStarted, Reached, LayersSettled, LanesFresh, LanesFixed, StraightFixed, LanesSettled};
+ghost use Rattle.lanes_batch.specs.Layered.{GateStored, GateEvaluated, GatesEvaluated, Part, OrderPart, part};
+ghost use Rattle.lanes_batch.specs.Layered.{LanesUnderway, PartAdvanced, PartDecided, roomIn};
+ghost use Rattle.lanes_batch.specs.Layered.{Cleared, ConstantsStarted, InputsPut, LanesStarted, Reached};
+ghost use Rattle.lanes_batch.specs.Layered.{LayersSettled, LanesFresh, LanesFixed, StraightFixed, LanesSettled};
 
 // Stores 0 in the words below `end`.
 fn clear_words(end: usize, lanes: &mut [u64; LANE_WORDS])
@@ -125,7 +127,8 @@ pub fn sweep_part(
 ) -> bool
     requires { ⌜ Part (now graph) (now order) from end ⌝ }
     ensures { λ r. ⌜
-        GatesEvaluated (now (graph .entry)) (now (lanes .entry)) (part back (now (order .entry)) from end) (now (lanes .exit)) r
+        GatesEvaluated (now (graph .entry)) (now (lanes .entry)) (part back (now (order .entry)) from end)
+        (now (lanes .exit)) r
         ⌝ }
 {
     let count = end - from;
@@ -162,7 +165,8 @@ fn is_decided(
     true
 }
 
-// One sweep over a loop; tells whether nothing in it can change any more, since nothing changed or every lane is decided.
+// One sweep over a loop; tells whether nothing in it can change any more, since nothing changed or every lane is
+// decided.
 fn sweep_decides(
     graph: &[u16; GRAPH_WORDS],
     m: usize,
@@ -174,7 +178,9 @@ fn sweep_decides(
     lanes: &mut [u64; LANE_WORDS],
 ) -> bool
     requires { ⌜ Graph m (now graph) × OrderPart m (now order) from end × LanesUnderway m n (now graph) (now lanes) ⌝ }
-    ensures { λ r. ⌜ PartAdvanced m n (now (graph .entry)) (now (order .entry)) from end (now (lanes .entry)) (now (lanes .exit)) r ⌝ }
+    ensures { λ r. ⌜
+        PartAdvanced m n (now (graph .entry)) (now (order .entry)) from end (now (lanes .entry)) (now (lanes .exit)) r
+        ⌝ }
     ensures { λ r. ⌜ (r ≡ false → roomIn m n (now (lanes .exit)) < roomIn m n (now (lanes .entry))) ⌝ }
 {
     if !sweep_part(graph, order, from, end, back, lanes) {
@@ -183,9 +189,9 @@ fn sweep_decides(
     is_decided(used_lanes(n), order, from, end, lanes)
 }
 
-// Sweeps over a loop until nothing in it can change any more: twice along its order, since an order that enters a loop at
-// the wrong gate is right from the second sweep on, and then back and along by turns, since a value that runs against the
-// order gets through in one sweep back.
+// Sweeps over a loop until nothing in it can change any more: twice along its order, since an order that enters a loop
+// at the wrong gate is right from the second sweep on, and then back and along by turns, since a value that runs
+// against the order gets through in one sweep back.
 fn settle_loop(
     graph: &[u16; GRAPH_WORDS],
     m: usize,
@@ -196,7 +202,10 @@ fn settle_loop(
     lanes: &mut [u64; LANE_WORDS],
 )
     requires { ⌜ Graph m (now graph) × OrderPart m (now order) from end × LanesUnderway m n (now graph) (now lanes) ⌝ }
-    ensures { λ r. ⌜ PartAdvanced m n (now (graph .entry)) (now (order .entry)) from end (now (lanes .entry)) (now (lanes .exit)) true ⌝ }
+    ensures { λ r. ⌜
+        PartAdvanced m n (now (graph .entry)) (now (order .entry)) from end (now (lanes .entry))
+        (now (lanes .exit)) true
+        ⌝ }
 {
     let mut back = false;
     let mut first = true;
@@ -217,9 +226,13 @@ fn settle_run(
     i: usize,
     lanes: &mut [u64; LANE_WORDS],
 ) -> usize
-    requires { ⌜ Graph m (now graph) × Layers m (now graph) (now order) (now ends) × (i < m) × Reached m n (now graph) (now order) (now ends) i (now lanes) ⌝ }
+    requires { ⌜
+        Graph m (now graph) × Layers m (now graph) (now order) (now ends) × (i < m)
+        × Reached m n (now graph) (now order) (now ends) i (now lanes)
+        ⌝ }
     ensures { λ r. ⌜
-        LayersSettled m n (now (graph .entry)) (now (order .entry)) (now (ends .entry)) i (now (lanes .entry)) (now (lanes .exit)) r
+        LayersSettled m n (now (graph .entry)) (now (order .entry)) (now (ends .entry)) i (now (lanes .entry))
+        (now (lanes .exit)) r
         ⌝ }
 {
     let end = ends[i] as usize;
@@ -253,8 +266,8 @@ pub fn settle_layers(
     }
 }
 
-// Settles started lanes of a straight block: its gates, each of which reads only gates before it, are evaluated once, as
-// they come.
+// Settles started lanes of a straight block: its gates, each of which reads only gates before it, are evaluated once,
+// as they come.
 pub fn settle_straight(graph: &[u16; GRAPH_WORDS], m: usize, lanes: &mut [u64; LANE_WORDS])
     requires { ⌜ Graph m (now graph) × (isStraight (network m (now graph)) ≡ true) ⌝ }
     ensures { λ r. ⌜ StraightFixed m (now (graph .entry)) (now (lanes .entry)) (now (lanes .exit)) ⌝ }

@@ -18,7 +18,8 @@ use Rattle.lanes_cells.specs.Choices.{choiceWord, twoWord, fourWord, cel
 
 -- ---- a choice of two words
 
-pub choice-within : (lanes low high by : ℕ) → low < 2 ^ lanes → high < 2 ^ lanes → by < 2 ^ lanes → choiceWord low high by < 2 ^ lanes
+pub choice-within : (lanes low high by : ℕ) → low < 2 ^ lanes → high < 2 ^ lanes → by < 2 ^ lanes
+    → choiceWord low high by < 2 ^ lanes
 unfolding choiceWord
 choice-within lanes low high by l h b =
     xor-lt lanes low (bitAnd (bitXor low high) by) l (and-lt lanes (bitXor low high) by (xor-lt lanes low high l h) b)
@@ -42,15 +43,19 @@ chosen-high (suc zero) (suc zero) p q = refl
 chosen-high (suc zero) (suc (suc h)) p q = absurd (omega arith)
 chosen-high (suc (suc l)) h p q = absurd (omega arith)
 
-choice-bit : (low high by s : ℕ) → bit (choiceWord low high by) s ≡ differ (bit low s) (min (differ (bit low s) (bit high s)) (bit by s))
+choice-bit : (low high by s : ℕ)
+    → bit (choiceWord low high by) s ≡ differ (bit low s) (min (differ (bit low s) (bit high s)) (bit by s))
 unfolding choiceWord
-choice-bit low high by s = rw (bit-xor low (bitAnd (bitXor low high) by) s, bit-and (bitXor low high) by s, bit-xor low high s)
+choice-bit low high by s =
+    rw (bit-xor low (bitAnd (bitXor low high) by) s, bit-and (bitXor low high) by s, bit-xor low high s)
 
 pub choice-low : (low high by s : ℕ) → bit by s ≡ 0 → bit (choiceWord low high by) s ≡ bit low s
-choice-low low high by s e = choice-bit low high by s ∙ rw e (chosen-low (bit low s) (bit high s) (bit-low low s) (bit-low high s))
+choice-low low high by s e =
+    choice-bit low high by s ∙ rw e (chosen-low (bit low s) (bit high s) (bit-low low s) (bit-low high s))
 
 pub choice-high : (low high by s : ℕ) → bit by s ≡ 1 → bit (choiceWord low high by) s ≡ bit high s
-choice-high low high by s e = choice-bit low high by s ∙ rw e (chosen-high (bit low s) (bit high s) (bit-low low s) (bit-low high s))
+choice-high low high by s e =
+    choice-bit low high by s ∙ rw e (chosen-high (bit low s) (bit high s) (bit-low low s) (bit-low high s))
 
 -- the bit of `by` leads to place `at`, or `step` further
 choice-at : (truth at step low high by s : ℕ) → bit low s ≡ bit truth at → bit high s ≡ bit truth (at + step)
@@ -143,14 +148,17 @@ module _ (lanes : ℕ) {used : ℕ} (inUse : used ≡ full lanes) where
             (choice-within lanes _ _ c (four-within 8) (four-within 12) cIn) dIn
 
         pub cell-at : (s : ℕ) → s < lanes
-            → bit (cellWord used truth a b c d) s ≡ bit truth (numberOfBits (bit a s ∷ bit b s ∷ bit c s ∷ bit d s ∷ []))
+            → bit (cellWord used truth a b c d) s
+            ≡ bit truth (numberOfBits (bit a s ∷ bit b s ∷ bit c s ∷ bit d s ∷ []))
         unfolding cellWord numberOfBits
         cell-at s l =
             let place : ℕ → ℕ = λ at. at + bit a s + 2 * bit b s in
             let four : place 0 + 4 ≡ place 4 = omega arith in
             let eight : place 0 + 4 * bit c s + 8 ≡ place 8 + 4 * bit c s = omega arith in
             let twelve : place 8 + 4 ≡ place 12 = omega arith in
-            let last : place 0 + 4 * bit c s + 8 * bit d s ≡ bit a s + 2 * (bit b s + 2 * (bit c s + 2 * (bit d s + 2 * 0))) = omega arith in
+            let last : place 0 + 4 * bit c s + 8 * bit d s
+            ≡ bit a s + 2 * (bit b s + 2 * (bit c s + 2 * (bit d s + 2 * 0))) =
+            omega arith in
             choice-at truth (place 0 + 4 * bit c s) 8 _ _ d s
             (choice-at truth (place 0) 4 _ _ c s (four-at 0 s l) (four-at 4 s l ∙ rw four))
             (choice-at truth (place 8) 4 _ _ c s (four-at 8 s l) (four-at 12 s l ∙ rw twelve) ∙ rw eight)

@@ -26,7 +26,8 @@ use Rattle.theory_encoding.proofs.Readers.{OperandWord, operandRule-cases}
 use Rattle.op_cells.proofs.Earlier.{wordRule, reads-rule}
 use Rattle.graph_gates.specs.Places.{firstGate, operandAt, placeOf}
 use Rattle.graph_gates.proofs.Places.{place-input, place-zero, place-one, place-gate, operandAt-word}
-use Rattle.lanes_cells.specs.Table.{countAt, tableSize, countIn, tableWord, cellIn, tableCells, CellPlaces, EarlierPlaces, Tabled, CellTable}
+use Rattle.lanes_cells.specs.Table.{countAt, tableSize, countIn, tableWord, cellIn, tableCells, CellPlaces}
+use Rattle.lanes_cells.specs.Table.{EarlierPlaces, Tabled, CellTable}
 
 -- ---- legal cells
 
@@ -54,10 +55,12 @@ legal-parts n cells h =
 
 module _ {n : ℕ} {cells : List ℕ} (legal : LegalParts n cells) where
   -- the word of operand i of cell j
-  operand-word : (j i : ℕ) → j < cellCount cells → i < operandWords → OperandWord (n + j) (getD cells (cellSize * j + i) 0)
+  operand-word : (j i : ℕ) → j < cellCount cells → i < operandWords
+      → OperandWord (n + j) (getD cells (cellSize * j + i) 0)
   unfolding wordRule
   operand-word j i l k =
-      operandRule-cases (n + j) _ (all-below (wordRule n cells j) operandWords i (rw (reads-rule n cells j) at (legal .reads j l)) k)
+      operandRule-cases (n + j) _
+      (all-below (wordRule n cells j) operandWords i (rw (reads-rule n cells j) at (legal .reads j l)) k)
 
   pub few-cells : cellCount cells ≤ maxGates
   unfolding cellCount
@@ -68,7 +71,8 @@ module _ {n : ℕ} {cells : List ℕ} (legal : LegalParts n cells) where
     where
       node : w < n + j → placeOf (operandOf n w) < firstGate + j
       node l =
-          ⊎-elim (λ i. rw (place-input n w i) (omega (arith, legal .fewInputs))) (λ i. rw (place-gate n w i (omega (arith, legal .fewInputs))) (omega arith))
+          ⊎-elim (λ i. rw (place-input n w i) (omega (arith, legal .fewInputs)))
+          (λ i. rw (place-gate n w i (omega (arith, legal .fewInputs))) (omega arith))
           (lt-or-le w n)
 
       zero : w ≡ 65534 → placeOf (operandOf n w) < firstGate + j
@@ -80,16 +84,19 @@ module _ {n : ℕ} {cells : List ℕ} (legal : LegalParts n cells) where
   word-small : (j w : ℕ) → j ≤ maxGates → OperandWord (n + j) w → w < 65536
   word-small j w few h = ⊎-elim (λ l. omega (arith, legal .fewInputs)) (⊎-elim (λ e. omega arith) (λ e. omega arith)) h
 
-  pub operand-place : (j i : ℕ) → j < cellCount cells → i < operandWords → placeOf (operandOf n (getD cells (cellSize * j + i) 0)) < firstGate + j
+  pub operand-place : (j i : ℕ) → j < cellCount cells → i < operandWords
+      → placeOf (operandOf n (getD cells (cellSize * j + i) 0)) < firstGate + j
   operand-place j i l k = word-place j _ (omega (arith, few-cells)) (operand-word j i l k)
 
   -- the same of word p of the cells
-  pub place-small : (p : ℕ) → p < length cells → (p % cellSize ≡ operandWords → ⊥) → placeOf (operandOf n (getD cells p 0)) < 65536
+  pub place-small : (p : ℕ) → p < length cells → (p % cellSize ≡ operandWords → ⊥)
+      → placeOf (operandOf n (getD cells p 0)) < 65536
   unfolding cellCount
   place-small p l other =
       let at : cellSize * (p / cellSize) + p % cellSize ≡ p = omega arith in
       let below : p / cellSize < length cells / cellSize = omega (arith, legal .whole) in
-      let there : placeOf (operandOf n (getD cells (cellSize * (p / cellSize) + p % cellSize) 0)) < firstGate + p / cellSize =
+      let there : placeOf (operandOf n
+      (getD cells (cellSize * (p / cellSize) + p % cellSize) 0)) < firstGate + p / cellSize =
       operand-place (p / cellSize) (p % cellSize) below (omega (arith, other)) in
       let less : placeOf (operandOf n (getD cells p 0)) < firstGate + p / cellSize = rw at at there in
       omega (arith, few-cells)
@@ -117,9 +124,11 @@ module _ {n : ℕ} {cells : List ℕ} (legal : LegalParts n cells) where
     unfolding tableWord cellCount
     table-operand j i l k =
         let r : (cellSize * j + i) % cellSize ≡ i = omega arith in
-        t .word (cellSize * j + i) (omega arith) ∙ rw (ne-eqb ((cellSize * j + i) % cellSize) operandWords (λ e. omega arith))
+        t .word (cellSize * j + i) (omega arith)
+        ∙ rw (ne-eqb ((cellSize * j + i) % cellSize) operandWords (λ e. omega arith))
 
-    table-truth : (j : ℕ) → j < cellCount cells → getD table (cellSize * j + operandWords) 0 ≡ getD cells (cellSize * j + operandWords) 0
+    table-truth : (j : ℕ) → j < cellCount cells
+        → getD table (cellSize * j + operandWords) 0 ≡ getD cells (cellSize * j + operandWords) 0
     unfolding tableWord cellCount
     table-truth j l =
         t .word (cellSize * j + operandWords) (omega arith)
@@ -132,12 +141,17 @@ module _ {n : ℕ} {cells : List ℕ} (legal : LegalParts n cells) where
         let stored : ℕ → Operand = λ i. operandOf n (getD cells (cellSize * j + i) 0) in
         let operands : tab decoded operandWords ≡ tab stored operandWords =
         tab-ext decoded stored operandWords
-        (λ i k. rw (table-operand j i l k) (operandAt-word n _ (legal .fewInputs) (word-small j _ (omega (arith, few-cells)) (operand-word j i l k)))) in
+        (λ i k. rw (table-operand j i l k)
+        (operandAt-word n _ (legal .fewInputs) (word-small j _ (omega (arith, few-cells)) (operand-word j i l k)))) in
         rw (operands, table-truth j l) refl
 
-    cell-places : (j : ℕ) → j < cellCount cells → getD cells (cellSize * j + operandWords) 0 < 65536 → CellPlaces (firstGate + j) table j
+    cell-places : (j : ℕ) → j < cellCount cells → getD cells (cellSize * j + operandWords) 0 < 65536
+        → CellPlaces (firstGate + j) table j
     cell-places j l small =
-        record { inside = λ i k. rw (table-operand j i l k) (operand-place j i l k); truth = rw (table-truth j l) small }
+        record {
+          inside = λ i k. rw (table-operand j i l k) (operand-place j i l k);
+          truth = rw (table-truth j l) small;
+        }
 
     -- the whole table, from the number of cells on; the cells' words are words
     table-made : countIn table ≡ cellCount cells → ((i : ℕ) → getD cells i 0 < 65536) → CellTable n cells table
@@ -148,15 +162,19 @@ module _ {n : ℕ} {cells : List ℕ} (legal : LegalParts n cells) where
           holds = rw counted (tab-ext (cellIn table) (λ j. cellAt n cells (cellSize * j)) (cellCount cells) cell-is);
           places = record {
             few = rw counted few-cells;
-            cell = λ j l. let below : j < cellCount cells = rw counted at l in cell-places j below (small (cellSize * j + operandWords));
+            cell =
+                λ j l. let below : j < cellCount cells =
+                rw counted at l in cell-places j below (small (cellSize * j + operandWords));
           };
         }
 
   -- the number of cells is stored behind the words
-  pub tabled-count : {table : List ℕ} {r : ℕ} → Tabled n cells (length cells) table → r ≡ cellCount cells → ((i : ℕ) → getD cells i 0 < 65536)
+  pub tabled-count : {table : List ℕ} {r : ℕ} → Tabled n cells (length cells) table → r ≡ cellCount cells
+      → ((i : ℕ) → getD cells i 0 < 65536)
       → CellTable n cells (set table countAt r)
   tabled-count {table} {r} t e small =
-      let stored : getD (set table countAt r) countAt 0 ≡ r = getD-set-same table countAt r 0 (omega (arith, t .long)) in
+      let stored : getD (set table countAt r) countAt 0 ≡ r =
+      getD-set-same table countAt r 0 (omega (arith, t .long)) in
       table-made
       (record {
         long = length-set table countAt r ∙ t .long;

@@ -31,13 +31,15 @@ use Rattle.graph_gates.specs.Places.{firstInput, firstGate, placeCount, operand
 use Rattle.graph_gates.proofs.Places.{operandAt-zero, operandAt-one, operandAt-input, operandAt-gate}
 use Rattle.lanes_cells.specs.Choices.{cellWord}
 use Rattle.lanes_cells.specs.Table.{countIn, cellIn, tableCells, CellPlaces, EarlierPlaces}
-use Rattle.lanes_cells.specs.CellLanes.{Carries, placeBit, inputWord, operandWord, cellWordAt, Filled, InputsIn, Evaluated}
+use Rattle.lanes_cells.specs.CellLanes.{Carries, placeBit, inputWord, operandWord, cellWordAt, Filled, InputsIn}
+use Rattle.lanes_cells.specs.CellLanes.{Evaluated}
 use Rattle.lanes_cells.proofs.Choosing.{cell-within, cell-at}
 use Rattle.lanes_cells.proofs.Running.{ran, cell-run}
 
 -- ---- the constants and the inputs
 
-pub filled-first : (n base : ℕ) (nodes : List ℕ) {one : ℕ} → length nodes ≡ placeCount → one ≡ full (lanesOf n) → Filled n base 0 (set (set nodes 0 0) 1 one)
+pub filled-first : (n base : ℕ) (nodes : List ℕ) {one : ℕ} → length nodes ≡ placeCount → one ≡ full (lanesOf n)
+    → Filled n base 0 (set (set nodes 0 0) 1 one)
 filled-first n base nodes {one} e is =
     let first : length (set nodes 0 0) ≡ placeCount = length-set nodes 0 0 ∙ e in
     record {
@@ -57,7 +59,8 @@ filled-more {n} {base} {i} {r} {nodes} f l e =
       inputs = λ k below.
           ⊎-elim
           (λ (same : k ≡ i). rw same (getD-set-same nodes (firstInput + i) r 0 (omega (arith, f .long)) ∙ e))
-          (λ other. getD-set-other nodes (firstInput + i) (firstInput + k) r 0 (λ g. other (omega arith)) ∙ f .inputs k (omega (arith, other)))
+          (λ other. getD-set-other nodes (firstInput + i) (firstInput + k) r 0 (λ g. other (omega arith)) ∙ f .inputs k
+          (omega (arith, other)))
           (eq-or-ne k i);
     }
 
@@ -102,7 +105,8 @@ module _ (n base : ℕ) (aligned : base % 64 ≡ 0) (cs : List Cell) where
             each = λ s m.
                 bit-and (pattern base i) (full lanes) s
                 ∙ rw (bit-full lanes s m, pattern-bit base s i aligned (omega (arith, lanesOf-most n)))
-                (least-of-one (bit (base + s) i) (bit-low (base + s) i) ∙ sym (input-bit i (base + s) l ∙ getD-tab (bit (base + s)) n i 0 k));
+                (least-of-one (bit (base + s) i) (bit-low (base + s) i)
+                ∙ sym (input-bit i (base + s) l ∙ getD-tab (bit (base + s)) n i 0 k));
           })
 
       past : n ≤ i → carried (firstInput + i) (inputWord n base i)
@@ -111,7 +115,8 @@ module _ (n base : ℕ) (aligned : base % 64 ≡ 0) (cs : List Cell) where
           (record {
             within = pow-pos lanes;
             each = λ s m.
-                let none : getD (tab (bit (base + s)) n) i 0 ≡ 0 = List·getD-eq-default (tab (bit (base + s)) n) 0 (rw (length-tab (bit (base + s)) n) k) in
+                let none : getD (tab (bit (base + s)) n) i 0 ≡ 0 =
+                List·getD-eq-default (tab (bit (base + s)) n) 0 (rw (length-tab (bit (base + s)) n) k) in
                 bit-zero s ∙ sym (input-bit i (base + s) l ∙ none);
           })
 
@@ -154,13 +159,18 @@ module _ (n base : ℕ) (table : List ℕ) (places : EarlierPlaces table) where
   -- an earlier place is one of all places
   pub places-there : (j : ℕ) → j < count → CellPlaces placeCount table j
   places-there j l =
-      record { inside = λ i k. omega (arith, places .cell j l .inside i k, places .few); truth = places .cell j l .truth }
+      record {
+        inside = λ i k. omega (arith, places .cell j l .inside i k, places .few);
+        truth = places .cell j l .truth;
+      }
 
-  module _ (j : ℕ) (l : j < count) {nodes : List ℕ} (e : Evaluated n base cs j nodes) {used : ℕ} (inUse : used ≡ full (lanesOf n)) where
+  module _ (j : ℕ) (l : j < count) {nodes : List ℕ} (e : Evaluated n base cs j nodes) {used : ℕ}
+      (inUse : used ≡ full (lanesOf n)) where
     abbrev placeOfOperand : ℕ → ℕ
     placeOfOperand i = getD table (cellSize * j + i) 0
 
-    operand-carried : (i : ℕ) → i < operandWords → Carries (lanesOf n) base (placeBit n cs (placeOfOperand i)) (operandWord table j nodes i)
+    operand-carried : (i : ℕ) → i < operandWords
+        → Carries (lanesOf n) base (placeBit n cs (placeOfOperand i)) (operandWord table j nodes i)
     unfolding operandWord
     operand-carried i k = e .each (placeOfOperand i) (places .cell j l .inside i k)
 
@@ -194,7 +204,8 @@ module _ (n base : ℕ) (table : List ℕ) (places : EarlierPlaces table) where
               ∙ rw (a .each s m, b .each s m, c .each s m, d .each s m) (sym (cell-bit (base + s)));
         }
 
-    pub evaluated-more : {r : ℕ} → r ≡ cellWordAt used table j nodes → Evaluated n base cs (j + 1) (set nodes (firstGate + j) r)
+    pub evaluated-more : {r : ℕ} → r ≡ cellWordAt used table j nodes
+        → Evaluated n base cs (j + 1) (set nodes (firstGate + j) r)
     evaluated-more {r} is =
         record {
           long = length-set nodes (firstGate + j) r ∙ e .long;

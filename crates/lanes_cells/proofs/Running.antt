@@ -1,4 +1,5 @@
--- A run of cells of which each reads only what is earlier: the run's values give each cell's operands, so that no cell asks how far the run has come.
+-- A run of cells of which each reads only what is earlier: the run's values give each cell's operands, so that no cell
+-- asks how far the run has come.
 --   run-more, length-ran, ran-prefix   the values of the first cells
 --   cell-run                           a cell's value from the whole run's
 -- Assumes nothing.
@@ -53,7 +54,8 @@ module _ (x : List ℕ) (cell : ℕ → Cell) where
     within : (j k : ℕ) → k < j → j ≤ count → getD (ran count) k 0 ≡ getD (ran j) k 0
     within j k l most = let z : count - j + j ≡ count = omega arith in rw z at (ran-prefix (count - j) j k l)
 
-    same-bit : (j : ℕ) → j ≤ count → (o : Operand) → isEarlier j o ≡ true → operandBit x (ran j) o ≡ operandBit x (ran count) o
+    same-bit : (j : ℕ) → j ≤ count → (o : Operand) → isEarlier j o ≡ true
+        → operandBit x (ran j) o ≡ operandBit x (ran count) o
     unfolding operandBit isEarlier
     same-bit j most (input i) e = refl
     same-bit j most (gate k) e = sym (within j k (ltb-true k j e) most)
@@ -61,7 +63,8 @@ module _ (x : List ℕ) (cell : ℕ → Cell) where
 
     -- cell j has the operands `operand` 0 to 3
     pub cell-run : (j : ℕ) → j < count → (operand : ℕ → Operand) → cell j .operands ≡ tab operand operandWords
-        → ((i : ℕ) → i < operandWords → isEarlier j (operand i) ≡ true) → getD (ran count) j 0 ≡ cellValue x (ran count) (cell j)
+        → ((i : ℕ) → i < operandWords → isEarlier j (operand i) ≡ true)
+        → getD (ran count) j 0 ≡ cellValue x (ran count) (cell j)
     unfolding cellValue
     cell-run j l operand is earlier =
         let most : j ≤ count = omega arith in

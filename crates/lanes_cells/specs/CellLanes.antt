@@ -39,7 +39,8 @@ operandWord table j nodes i = getD nodes (getD table (cellSize * j + i) 0) 0
 
 unfoldable pub cellWordAt : ℕ → List ℕ → ℕ → List ℕ → ℕ
 cellWordAt used table j nodes =
-    cellWord used (getD table (cellSize * j + operandWords) 0) (operandWord table j nodes 0) (operandWord table j nodes 1) (operandWord table j nodes 2)
+    cellWord used (getD table (cellSize * j + operandWords) 0) (operandWord table j nodes 0)
+    (operandWord table j nodes 1) (operandWord table j nodes 2)
     (operandWord table j nodes 3)
 
 -- every place before the first cells' has its word, whatever the cells; and so have the first j cells

@@ -70,7 +70,9 @@ fn cell_word_at(used: u64, table: &[u16; TABLE_WORDS], j: usize, nodes: &[u64; P
 pub fn evaluate_cells(n: usize, base: usize, table: &[u16; TABLE_WORDS], nodes: &mut [u64; PLACES])
     requires { ⌜ (n ≤ maxInputs) × (base % 64 ≡ 0) × EarlierPlaces (now table) ⌝ }
     requires { ⌜ length (now nodes) ≡ placeCount ⌝ }
-    ensures { λ r. ⌜ Evaluated n base (tableCells (now (table .entry))) (countIn (now (table .entry))) (now (nodes .exit)) ⌝ }
+    ensures { λ r. ⌜
+        Evaluated n base (tableCells (now (table .entry))) (countIn (now (table .entry))) (now (nodes .exit))
+        ⌝ }
 {
     let used = used_lanes(n);
     put_inputs(n, base, nodes);

@@ -1,5 +1,5 @@
-// Cells decoded once: five words a cell, the places of its four operands (crates/graph_gates/specs/Places.antt) and its truth
-// word, and behind them all the number of cells.
+// Cells decoded once: five words a cell, the places of its four operands (crates/graph_gates/specs/Places.antt) and its
+// truth word, and behind them all the number of cells.
 use graph_gates::place_of;
 use op_cells::CELL_SIZE;
 use words_layout::limits::MAX_GATES;

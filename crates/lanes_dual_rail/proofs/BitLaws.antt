@@ -39,7 +39,8 @@ pub bit-and : (a b s : ℕ) → bit (bitAnd a b) s ≡ min (bit a s) (bit b s)
 unfolding bit
 bit-and a b s =
     ap (λ (n : ℕ). n % 2) (and-shr a b s ∙ and-step (a / 2 ^ s) (b / 2 ^ s))
-    ∙ digits-mod (bitAnd (a / 2 ^ s / 2) (b / 2 ^ s / 2)) (lt-of-le-of-lt (min-le-left (a / 2 ^ s % 2) (b / 2 ^ s % 2)) (omega arith))
+    ∙ digits-mod (bitAnd (a / 2 ^ s / 2) (b / 2 ^ s / 2))
+    (lt-of-le-of-lt (min-le-left (a / 2 ^ s % 2) (b / 2 ^ s % 2)) (omega arith))
 
 pub bit-or : (a b s : ℕ) → bit (bitOr a b) s ≡ max (bit a s) (bit b s)
 unfolding bit
@@ -58,7 +59,8 @@ pub bit-xor : (a b s : ℕ) → bit (bitXor a b) s ≡ differ (bit a s) (bit b s
 unfolding bit
 bit-xor a b s =
     ap (λ (n : ℕ). n % 2) (xor-shr a b s ∙ xor-step (a / 2 ^ s) (b / 2 ^ s))
-    ∙ digits-mod (bitXor (a / 2 ^ s / 2) (b / 2 ^ s / 2)) (differ-low (a / 2 ^ s % 2) (b / 2 ^ s % 2) (omega arith) (omega arith))
+    ∙ digits-mod (bitXor (a / 2 ^ s / 2) (b / 2 ^ s / 2))
+    (differ-low (a / 2 ^ s % 2) (b / 2 ^ s % 2) (omega arith) (omega arith))
 
 -- ---- the lowest bits set
 
@@ -115,4 +117,5 @@ le-by-bits =
     omega arith)
 
 pub eq-by-bits : (a b : ℕ) → ((s : ℕ) → bit a s ≡ bit b s) → a ≡ b
-eq-by-bits a b h = le-antisymm (le-by-bits a b (λ s. let e = h s in omega arith)) (le-by-bits b a (λ s. let e = h s in omega arith))
+eq-by-bits a b h =
+    le-antisymm (le-by-bits a b (λ s. let e = h s in omega arith)) (le-by-bits b a (λ s. let e = h s in omega arith))

@@ -1,7 +1,9 @@
--- A gate's value is found operand by operand: the three-valued rule of every kind is a fold of an operation of two values. Pairs of words
+-- A gate's value is found operand by operand: the three-valued rule of every kind is a fold of an operation of two
+-- values. Pairs of words
 -- are folded the same way, lane by lane (LaneLaws).
 --   both, either, differing   the operations of `and`, `or` and `xor`
---   combinedValue             a kind's operation; foldedValue, finishedValue   its fold, and what is inverted at the end
+--   combinedValue             a kind's operation; foldedValue, finishedValue   its fold, and what is inverted at the
+--                             end
 --   gateValue-folded          a gate's value is the fold
 -- Assumes nothing.
 use mathlib.Core.Path.{_≡_, refl, sym, ap, _∙_}
@@ -48,7 +50,8 @@ finishedValue k v = cond (inverts k) (invert v) v
 
 -- ---- each kind's rule is its fold
 
--- a value that the rule with controlling value c and forced value f gives, from "some operand is controlling" and "all are defined"
+-- a value that the rule with controlling value c and forced value f gives, from "some operand is controlling" and "all
+-- are defined"
 unfoldable answered : Bool → Bool → Bool → Value
 answered forced some every = cond some (val forced) (cond every (val (not forced)) undefined)
 
@@ -83,7 +86,8 @@ module _ (k : ℕ) where
   conjunction-folded c (v ∷ vs) =
       both-answered v (any (λ v. eqb (code v) 0) vs) (all isDefined vs) ∙ rw (c, conjunction-folded c vs)
 
-  disjunction-folded : isConjunction k ≡ false → isParity k ≡ false → (vs : List Value) → disjunction vs ≡ foldedValue k vs
+  disjunction-folded : isConjunction k ≡ false → isParity k ≡ false → (vs : List Value)
+      → disjunction vs ≡ foldedValue k vs
   unfolding disjunction answered foldedValue combinedValue
   disjunction-folded c p [] = rw c
   disjunction-folded c p (v ∷ vs) =
@@ -116,7 +120,8 @@ parity-next (val false) vs = sym (differing-none (parity vs))
 parity-next (val true) vs = go (all isDefined vs)
   where
     go : (every : Bool)
-        → cond every (valueOf (suc (ones vs) % 2)) undefined ≡ differing (val true) (cond every (valueOf (ones vs % 2)) undefined)
+        → cond every (valueOf (suc (ones vs) % 2)) undefined
+        ≡ differing (val true) (cond every (valueOf (ones vs % 2)) undefined)
     go true = odd-next (ones vs) ∙ sym (differing-invert (valueOf (ones vs % 2)))
     go false = refl
 
@@ -132,7 +137,8 @@ nand-rule : (vs : List Value) → ruled (rowOf 3) vs ≡ invert (conjunction vs)
 unfolding ruled rowOf rows row conjunction answered invert valueOf
 nand-rule vs = go (any (λ v. eqb (code v) 0) vs) (all isDefined vs)
   where
-    go : (some every : Bool) → cond some (val true) (cond every (val false) undefined) ≡ invert (answered false some every)
+    go : (some every : Bool)
+        → cond some (val true) (cond every (val false) undefined) ≡ invert (answered false some every)
     go true every = refl
     go false true = refl
     go false false = refl
@@ -141,7 +147,8 @@ nor-rule : (vs : List Value) → ruled (rowOf 4) vs ≡ invert (disjunction vs)
 unfolding ruled rowOf rows row disjunction answered invert valueOf
 nor-rule vs = go (any (λ v. eqb (code v) 1) vs) (all isDefined vs)
   where
-    go : (some every : Bool) → cond some (val false) (cond every (val true) undefined) ≡ invert (answered true some every)
+    go : (some every : Bool)
+        → cond some (val false) (cond every (val true) undefined) ≡ invert (answered true some every)
     go true every = refl
     go false true = refl
     go false false = refl
@@ -160,8 +167,10 @@ not-folded (v ∷ []) h = ap invert (either-none v)
 not-folded (v ∷ w ∷ vs) h = absurd (omega arith)
 
 -- of every kind
-pub gateValue-folded : (k : ℕ) (vs : List Value) → k ≤ 6 → (k ≡ 0 → length vs ≡ 1) → gateValue k vs ≡ finishedValue k (foldedValue k vs)
-unfolding gateValue isNot isXor isXnor finishedValue inverts isConjunction isParity ruled rowOf rows row valueOf invert conjunction disjunction answered
+pub gateValue-folded : (k : ℕ) (vs : List Value) → k ≤ 6 → (k ≡ 0 → length vs ≡ 1)
+    → gateValue k vs ≡ finishedValue k (foldedValue k vs)
+unfolding gateValue isNot isXor isXnor finishedValue inverts isConjunction isParity ruled rowOf rows row valueOf invert
+    conjunction disjunction answered
 gateValue-folded zero vs l h = not-folded vs (h refl)
 gateValue-folded (suc zero) vs l h = conjunction-folded 1 refl vs
 gateValue-folded (suc (suc zero)) vs l h = disjunction-folded 2 refl refl vs

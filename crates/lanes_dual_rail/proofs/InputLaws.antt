@@ -29,7 +29,8 @@ use Rattle.netlist.specs.Rounds.{settingOf, afterRounds}
 use Rattle.lanes_dual_rail.specs.Pairs.{markedLanes, lane, Proper, full, noLanes}
 use Rattle.lanes_dual_rail.specs.PairRounds.{afterPairRounds, AllProper}
 use Rattle.lanes_dual_rail.specs.Batches.{lanesOf, patterns, pattern, inputPair, inputPairs}
-use Rattle.lanes_dual_rail.proofs.BitLaws.{bit-low, bit-zero, bit-and, bit-xor, bit-full, bit-base-low, bit-base-high}
+use Rattle.lanes_dual_rail.proofs.BitLaws.{bit-low, bit-zero, bit-and, bit-xor, bit-full, bit-base-low}
+use Rattle.lanes_dual_rail.proofs.BitLaws.{bit-base-high}
 use Rattle.lanes_dual_rail.proofs.LaneLaws.{nothing-proper}
 use Rattle.lanes_dual_rail.proofs.RoundLaws.{LegalGates, afterPairRounds-lane}
 
@@ -87,11 +88,13 @@ module _ (n base : ℕ) where
   unfolding inputPair full
   inputPair-proper i =
       let ones = bitAnd (pattern base i) (full (lanesOf n)) in
-      let within : ones < 2 ^ lanesOf n = omega (arith, and-le-r (pattern base i) (full (lanesOf n)), ones-lt (lanesOf n)) in
+      let within : ones < 2 ^ lanesOf n =
+      omega (arith, and-le-r (pattern base i) (full (lanesOf n)), ones-lt (lanesOf n)) in
       record {
         apart = λ s.
             rw (bit-xor, bit-and)
-            (cut-apart (bit (full (lanesOf n)) s) (bit (pattern base i) s) (bit-low (full (lanesOf n)) s) (bit-low (pattern base i) s));
+            (cut-apart (bit (full (lanesOf n)) s) (bit (pattern base i) s) (bit-low (full (lanesOf n)) s)
+            (bit-low (pattern base i) s));
         zerosWithin = xor-lt (lanesOf n) (full (lanesOf n)) ones (ones-lt (lanesOf n)) within;
         onesWithin = within;
       }
@@ -114,7 +117,8 @@ module _ (n base : ℕ) where
     unfolding lane inputPair
     inputPair-lane i =
         let few : s < 64 = omega (arith, lanesOf-most n) in
-        rw (bit-xor, bit-and, bit-full (lanesOf n) s l, pattern-bit base s i aligned few) (cut-in (bit (base + s) i) (bit-low (base + s) i))
+        rw (bit-xor, bit-and, bit-full (lanesOf n) s l, pattern-bit base s i aligned few)
+        (cut-in (bit (base + s) i) (bit-low (base + s) i))
 
     -- the inputs' values at lane s are those of setting base + s
     pub inputPairs-lane : map (lane s) (inputPairs n base) ≡ settingOf n (base + s)
@@ -125,9 +129,11 @@ module _ (n base : ℕ) where
 
     -- Paper 10: the two representations are equal for every gate, setting and round.
     pub batch-rounds : (b : Block) → LegalGates b → (r : ℕ)
-        → map (lane s) (afterPairRounds b (full (lanesOf n)) (inputPairs n base) r) ≡ afterRounds b (settingOf n (base + s)) r
+        → map (lane s) (afterPairRounds b (full (lanesOf n)) (inputPairs n base) r)
+        ≡ afterRounds b (settingOf n (base + s)) r
     batch-rounds b legal r =
-        afterPairRounds-lane b inputPairs-proper legal s l r ∙ ap (λ (x : List Value). afterRounds b x r) inputPairs-lane
+        afterPairRounds-lane b inputPairs-proper legal s l r
+        ∙ ap (λ (x : List Value). afterRounds b x r) inputPairs-lane
 
 -- ---- the word of the lanes in use, as the code finds it
 

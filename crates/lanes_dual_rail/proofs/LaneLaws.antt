@@ -1,4 +1,5 @@
--- Pairs of words lane by lane: each lane of a gate's pair, computed from its operands' pairs, is the three-valued rule at that lane.
+-- Pairs of words lane by lane: each lane of a gate's pair, computed from its operands' pairs, is the three-valued rule
+-- at that lane.
 --   nothing-lane, always-lane       the pairs of undefined and of a constant
 --   combined-lane, swapped-lane     an operand more; exchanged words
 --   *-proper                        proper pairs give proper pairs
@@ -20,11 +21,13 @@ use Rattle.netlist.specs.Values.{Value, undefined, val, invert}
 use Rattle.netlist.specs.Kinds.{gateValue}
 use Rattle.netlist.specs.Assignments.{bit}
 use Rattle.lanes_dual_rail.specs.declared.Pair.{Pair}
-use Rattle.lanes_dual_rail.specs.Pairs.{markedLanes, lane, Proper, full, noLanes, always, isConjunction, isParity, inverts, bothPair, eitherPair, parityPair}
+use Rattle.lanes_dual_rail.specs.Pairs.{markedLanes, lane, Proper, full, noLanes, always, isConjunction, isParity}
+use Rattle.lanes_dual_rail.specs.Pairs.{inverts, bothPair, eitherPair, parityPair}
 use Rattle.lanes_dual_rail.specs.Pairs.{combined, neutral, folded, swapped, finished, pairOf}
 use Rattle.lanes_dual_rail.specs.PairRounds.{AllProper}
 use Rattle.lanes_dual_rail.proofs.BitLaws.{bit-low, bit-zero, bit-high, bit-and, bit-or, bit-full, le-by-bits}
-use Rattle.lanes_dual_rail.proofs.Folding.{both, either, differing, combinedValue, foldedValue, finishedValue, gateValue-folded}
+use Rattle.lanes_dual_rail.proofs.Folding.{both, either, differing, combinedValue, foldedValue, finishedValue}
+use Rattle.lanes_dual_rail.proofs.Folding.{gateValue-folded}
 
 -- the three ways that two bits of a lane can stand, and the value that they mark
 data Marks : ℕ → ℕ → Value → Type 0 where
@@ -106,11 +109,14 @@ holds : {lanes : ℕ} {p : Pair} (s : ℕ) → Proper lanes p → Holds s p (lan
 unfolding lane
 holds {lanes} {p} s h = marks (bit (p .zeros) s) (bit (p .ones) s) (h .apart s)
 
-combined-holds : (k s : ℕ) (p q : Pair) {v w : Value} → Holds s p v → Holds s q w → Holds s (combined k p q) (combinedValue k v w)
+combined-holds : (k s : ℕ) (p q : Pair) {v w : Value} → Holds s p v → Holds s q w
+    → Holds s (combined k p q) (combinedValue k v w)
 unfolding combined combinedValue bothPair eitherPair parityPair
 combined-holds k s p q {v} {w} h l = go (isConjunction k) (isParity k)
   where
-    go : (c d : Bool) → Holds s (cond c (bothPair p q) (cond d (parityPair p q) (eitherPair p q))) (cond c (both v w) (cond d (differing v w) (either v w)))
+    go : (c d : Bool)
+        → Holds s (cond c (bothPair p q) (cond d (parityPair p q) (eitherPair p q)))
+        (cond c (both v w) (cond d (differing v w) (either v w)))
     go true d = rw (bit-or, bit-and) (both-marks h l)
     go false true = simp (bit-or, bit-and) (parity-marks h l)
     go false false = rw (bit-and, bit-or) (either-marks h l)
@@ -215,10 +221,12 @@ module _ {lanes : ℕ} where
 
   -- ---- one gate, lane by lane
 
-  folded-holds : (k s : ℕ) (ps : List Pair) → s < lanes → AllProper lanes ps → Holds s (folded (full lanes) k ps) (foldedValue k (map (lane s) ps))
+  folded-holds : (k s : ℕ) (ps : List Pair) → s < lanes → AllProper lanes ps
+      → Holds s (folded (full lanes) k ps) (foldedValue k (map (lane s) ps))
   unfolding folded neutral foldedValue
   folded-holds k s [] l h = always-holds lanes s (isConjunction k) l
-  folded-holds k s (p ∷ ps) l h = combined-holds k s p (folded (full lanes) k ps) (holds s (h .each 0)) (folded-holds k s ps l (rest-proper h))
+  folded-holds k s (p ∷ ps) l h =
+      combined-holds k s p (folded (full lanes) k ps) (holds s (h .each 0)) (folded-holds k s ps l (rest-proper h))
 
   pub pairOf-lane : (k s : ℕ) (ps : List Pair) → s < lanes → AllProper lanes ps → k ≤ 6 → (k ≡ 0 → length ps ≡ 1)
       → lane s (pairOf (full lanes) k ps) ≡ gateValue k (map (lane s) ps)
@@ -258,7 +266,8 @@ ones-below : {z o z′ o′ : ℕ} {v w : Value} → Marks z o v → Marks z′ 
 ones-below {v = v} {w = w} h l k = zeros-below (swapped-marks h) (swapped-marks l) (invert-below v w k)
 
 -- a pair that says at every lane no less has no smaller words
-pub below-words : {lanes : ℕ} {p q : Pair} → Proper lanes p → Proper lanes q → ((s : ℕ) → s < lanes → Below (lane s p) (lane s q))
+pub below-words : {lanes : ℕ} {p q : Pair} → Proper lanes p → Proper lanes q
+    → ((s : ℕ) → s < lanes → Below (lane s p) (lane s q))
     → (p .zeros ≤ q .zeros) × (p .ones ≤ q .ones)
 below-words {lanes} {p} {q} h k below = (
   le-by-bits (p .zeros) (q .zeros) (λ s. ⊎-elim (zeros-in s) (zeros-out s) (lt-or-le s lanes)),

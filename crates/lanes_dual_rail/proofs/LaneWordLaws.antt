@@ -1,6 +1,8 @@
--- Pairs in one array of words: the rule of a gate's row over four places is the kind's rule over its operands, and what a pair that is stored leaves.
+-- Pairs in one array of words: the rule of a gate's row over four places is the kind's rule over its operands, and what
+-- a pair that is stored leaves.
 --   and-full, or-none, and-none   words within the lanes in use
 --   combined-neutral              the constant behind the last operand changes nothing
+--   row-pair                      the pair of a kind with a row
 --   not-pair                      the pair of a `not`, with constant 1 read once
 --   place-operand                 what stands at a place is the operand's pair
 --   gatePairIn-evaluated          so the four places give the gate's pair
@@ -27,7 +29,8 @@ use Rattle.netlist.specs.Kinds.{rowOf, rows, row, isNot, isXor, isXnor, fewestO
 use Rattle.netlist.specs.Netlist.{Operand}
 use Rattle.words_layout.proofs.KindLaws.{not-counts, other-counts, kind-last}
 use Rattle.graph_gates.specs.Places.{firstInput, firstGate, operandAt}
-use Rattle.graph_gates.specs.Graph.{controllingOf, forcedOf, operationWord, operandPlace, kindAt, countAt, placeAt, gateAt, Node}
+use Rattle.graph_gates.specs.Graph.{controllingOf, forcedOf, operationWord, operandPlace, kindAt, countAt, placeAt}
+use Rattle.graph_gates.specs.Graph.{gateAt, Node}
 use Rattle.lanes_dual_rail.specs.declared.Pair.{Pair}
 use Rattle.lanes_dual_rail.specs.Pairs.{
   Proper,
@@ -68,7 +71,8 @@ use Rattle.lanes_dual_rail.proofs.RoundLaws.{operandPair-proper}
 -- ---- words within the lanes in use
 
 pub and-full : (lanes a : ℕ) → a < 2 ^ lanes → bitAnd a (full lanes) ≡ a
-and-full lanes a h = eq-by-bits (bitAnd a (full lanes)) a (λ s. bit-and a (full lanes) s ∙ ⊎-elim (inside s) (past s) (lt-or-le s lanes))
+and-full lanes a h =
+    eq-by-bits (bitAnd a (full lanes)) a (λ s. bit-and a (full lanes) s ∙ ⊎-elim (inside s) (past s) (lt-or-le s lanes))
   where
     inside : (s : ℕ) → s < lanes → min (bit a s) (bit (full lanes) s) ≡ bit a s
     inside s l = let low = bit-low a s in rw (bit-full lanes s l) (omega arith)
@@ -106,20 +110,30 @@ combined-neutral {lanes} k {p} h = go (isConjunction k) (isParity k)
     ones : bitAnd (p .ones) (full lanes) ≡ p .ones
     ones = and-full lanes (p .ones) (h .onesWithin)
 
-    go : (c d : Bool) → cond c (bothPair p (always (full lanes) c)) (cond d (parityPair p (always (full lanes) c)) (eitherPair p (always (full lanes) c))) ≡ p
+    go : (c d : Bool)
+        → cond c (bothPair p (always (full lanes) c))
+        (cond d (parityPair p (always (full lanes) c)) (eitherPair p (always (full lanes) c))) ≡ p
     go true d = rw (ones, or-none (p .zeros)) refl
-    go false true = rw (zeros, ones, and-none (p .zeros), and-none (p .ones), or-none (p .zeros), none-or (p .ones)) refl
+    go false true =
+        rw (zeros, ones, and-none (p .zeros), and-none (p .ones), or-none (p .zeros), none-or (p .ones)) refl
     go false false = rw (zeros, or-none (p .ones)) refl
 
 -- up to four operands, and the constant that changes nothing behind the last
-folded-four : {lanes : ℕ} (k : ℕ) (p : ℕ → Pair) (count : ℕ) → 1 ≤ count → count ≤ 4 → ((i : ℕ) → i < 4 → Proper lanes (p i))
+folded-four : {lanes : ℕ} (k : ℕ) (p : ℕ → Pair) (count : ℕ) → 1 ≤ count → count ≤ 4
+    → ((i : ℕ) → i < 4 → Proper lanes (p i))
     → ((i : ℕ) → i < 4 → count ≤ i → p i ≡ neutral (full lanes) k)
     → combined k (p 0) (combined k (p 1) (combined k (p 2) (p 3))) ≡ folded (full lanes) k (tab p count)
 unfolding folded
 folded-four k p zero l h proper none = absurd (omega arith)
 folded-four k p (suc zero) l h proper none =
     let nothing = combined-neutral k (rw (none 3 (omega arith) (omega arith)) at (proper 3 (omega arith))) in
-    rw (none 1 (omega arith) (omega arith), none 2 (omega arith) (omega arith), none 3 (omega arith) (omega arith), nothing, nothing) refl
+    rw (
+      none 1 (omega arith) (omega arith),
+      none 2 (omega arith) (omega arith),
+      none 3 (omega arith) (omega arith),
+      nothing,
+      nothing,
+    ) refl
 folded-four k p (suc (suc zero)) l h proper none =
     let nothing = combined-neutral k (rw (none 3 (omega arith) (omega arith)) at (proper 3 (omega arith))) in
     rw (none 2 (omega arith) (omega arith), none 3 (omega arith) (omega arith), nothing) refl
@@ -130,9 +144,12 @@ folded-four k p (suc (suc (suc (suc (suc count))))) l h proper none = absurd (om
 -- ---- what stands at a place
 
 module _ {used : ℕ} {w : List ℕ} (filled : Filled used w) (m : ℕ) where
-  pub place-operand : (p : ℕ) → p < firstGate + m → pairAt w p ≡ operandPair used (inputsIn w) (gatesIn m w) (operandAt p)
+  pub place-operand : (p : ℕ) → p < firstGate + m
+      → pairAt w p ≡ operandPair used (inputsIn w) (gatesIn m w) (operandAt p)
   unfolding operandAt operandPair inputsIn gatesIn
-  place-operand p l = ⊎-elim first (λ n. ⊎-elim second (λ o. ⊎-elim (an-input n o) a-gate (lt-or-le p firstGate)) (eq-or-ne p 1)) (eq-or-ne p 0)
+  place-operand p l =
+      ⊎-elim first (λ n. ⊎-elim second (λ o. ⊎-elim (an-input n o) a-gate (lt-or-le p firstGate)) (eq-or-ne p 1))
+      (eq-or-ne p 0)
     where
       first : p ≡ 0 → pairAt w p ≡ operandPair used (inputsIn w) (gatesIn m w) (operandAt p)
       first e = rw e (filled .zero)
@@ -140,7 +157,8 @@ module _ {used : ℕ} {w : List ℕ} (filled : Filled used w) (m : ℕ) where
       second : p ≡ 1 → pairAt w p ≡ operandPair used (inputsIn w) (gatesIn m w) (operandAt p)
       second e = rw e (filled .one)
 
-      an-input : (p ≡ 0 → ⊥) → (p ≡ 1 → ⊥) → p < firstGate → pairAt w p ≡ operandPair used (inputsIn w) (gatesIn m w) (operandAt p)
+      an-input : (p ≡ 0 → ⊥) → (p ≡ 1 → ⊥) → p < firstGate
+          → pairAt w p ≡ operandPair used (inputsIn w) (gatesIn m w) (operandAt p)
       an-input n o h =
           let e : firstInput + (p - firstInput) ≡ p = omega arith in
           rw (
@@ -164,15 +182,21 @@ module _ {used : ℕ} {w : List ℕ} (filled : Filled used w) (m : ℕ) where
 
 -- ---- one gate
 
-pub parity-four : (graph : List ℕ) (j : ℕ) (w : List ℕ) {a b c d p q r : Pair} → a ≡ pairAt w (placeAt graph j 0) → b ≡ pairAt w (placeAt graph j 1)
-    → c ≡ pairAt w (placeAt graph j 2) → d ≡ pairAt w (placeAt graph j 3) → p ≡ parityPair c d → q ≡ parityPair b p → r ≡ parityPair a q
+pub parity-four : (graph : List ℕ) (j : ℕ) (w : List ℕ) {a b c d p q r : Pair} → a ≡ pairAt w (placeAt graph j 0)
+    → b ≡ pairAt w (placeAt graph j 1)
+    → c ≡ pairAt w (placeAt graph j 2) → d ≡ pairAt w (placeAt graph j 3) → p ≡ parityPair c d → q ≡ parityPair b p
+    → r ≡ parityPair a q
     → r ≡ parityOf graph j w
 unfolding parityOf
 parity-four graph j w e f g h i k l = l ∙ rw (k, i, h, g, f, e) refl
 
 pub node-legal : {m : ℕ} {graph : List ℕ} {j : ℕ} → Node m graph j → LegalGate (gateAt graph j)
 unfolding gateAt
-node-legal {m} {graph} {j} n = record { kind = n .kind; count = rw (length-tab (λ i. operandAt (placeAt graph j i)) (countAt graph j)) (n .count) }
+node-legal {m} {graph} {j} n =
+    record {
+      kind = n .kind;
+      count = rw (length-tab (λ i. operandAt (placeAt graph j i)) (countAt graph j)) (n .count);
+    }
 
 -- a row's values, and those of the other kinds
 row-low : (k : ℕ) → k ≤ 6 → (controllingOf k ≤ 1) × (forcedOf k ≤ 1)
@@ -222,13 +246,17 @@ module _ {m : ℕ} {graph : List ℕ} {j : ℕ} (node : Node m graph j) where
       let c = counts-low (kindAt graph j) (countAt graph j) known (node .count) in
       omega (arith, operation-is, known, c, row-low (kindAt graph j) known)
 
-  operation-parts : (getD graph (5 * j) 0 % 8 ≡ kindAt graph j) × (getD graph (5 * j) 0 / 64 % 2 ≡ controllingOf (kindAt graph j))
+  operation-parts : (getD graph (5 * j) 0 % 8 ≡ kindAt graph j)
+      × (getD graph (5 * j) 0 / 64 % 2 ≡ controllingOf (kindAt graph j))
       × (getD graph (5 * j) 0 / 128 ≡ forcedOf (kindAt graph j))
   operation-parts =
       let c = counts-low (kindAt graph j) (countAt graph j) known (node .count) in
       let r = row-low (kindAt graph j) known in
       let e = operation-is in
       (omega (arith, known, c, r, e), omega (arith, known, c, r, e), omega (arith, known, c, r, e))
+
+  pub forced-low : getD graph (5 * j) 0 / 128 ≤ 1
+  forced-low = rw (operation-parts .2) (row-low (kindAt graph j) known .1)
 
   -- behind the last operand
   absent : (i : ℕ) → i < 4 → countAt graph j ≤ i → placeAt graph j i ≡ 1 - controllingOf (kindAt graph j)
@@ -238,11 +266,13 @@ module _ {m : ℕ} {graph : List ℕ} {j : ℕ} (node : Node m graph j) where
       ∙ rw (length-tab (λ i. operandAt (placeAt graph j i)) (countAt graph j), le-ltb i (countAt graph j) h) refl
 
 -- the words of four pairs
-word-zeros : (graph : List ℕ) (j : ℕ) (w : List ℕ) (i : ℕ) → operandWord graph j w 0 i ≡ pairAt w (placeAt graph j i) .zeros
+word-zeros : (graph : List ℕ) (j : ℕ) (w : List ℕ) (i : ℕ)
+    → operandWord graph j w 0 i ≡ pairAt w (placeAt graph j i) .zeros
 unfolding operandWord pairAt
 word-zeros graph j w i = let e : 2 * placeAt graph j i + 0 ≡ 2 * placeAt graph j i = omega arith in rw e refl
 
-word-ones : (graph : List ℕ) (j : ℕ) (w : List ℕ) (i : ℕ) → operandWord graph j w 1 i ≡ pairAt w (placeAt graph j i) .ones
+word-ones : (graph : List ℕ) (j : ℕ) (w : List ℕ) (i : ℕ)
+    → operandWord graph j w 1 i ≡ pairAt w (placeAt graph j i) .ones
 unfolding operandWord pairAt
 word-ones graph j w i = refl
 
@@ -254,8 +284,10 @@ module _ (graph : List ℕ) (j : ℕ) (w : List ℕ) where
   p : ℕ → Pair
   p i = pairAt w (placeAt graph j i)
 
-  four-rule : (k : ℕ) → 1 ≤ k → k ≤ 4 → rulePair graph j w (controllingOf k) (forcedOf k) ≡ fourPair k (p 0) (p 1) (p 2) (p 3)
-  unfolding p rulePair someWord everyWord controllingOf forcedOf isNot isXor isXnor rowOf rows row fourPair finished inverts combined isConjunction isParity
+  four-rule : (k : ℕ) → 1 ≤ k → k ≤ 4
+      → rulePair graph j w (controllingOf k) (forcedOf k) ≡ fourPair k (p 0) (p 1) (p 2) (p 3)
+  unfolding p rulePair someWord everyWord controllingOf forcedOf isNot isXor isXnor rowOf rows row fourPair finished
+      inverts combined isConjunction isParity
       bothPair eitherPair swapped
   four-rule zero h l = absurd (omega arith)
   four-rule (suc zero) h l = simp (word-zeros graph j w, word-ones graph j w) refl
@@ -268,14 +300,25 @@ module _ (graph : List ℕ) (j : ℕ) (w : List ℕ) where
   unfolding p parityAt parityOf forcedOf isNot isXor isXnor fourPair finished inverts combined isConjunction isParity
   four-parity k h l = ⊎-elim (λ e. rw e refl) (λ n. let e : k ≡ 6 = omega arith in rw e refl) (eq-or-ne k 5)
 
+-- a kind with a row goes by it
+pub row-pair : (graph : List ℕ) (j : ℕ) (w : List ℕ) (c f : ℕ) {r : Pair} → getD graph (5 * j) 0 % 8 < 5
+    → getD graph (5 * j) 0 / 64 % 2 ≡ c → getD graph (5 * j) 0 / 128 ≡ f → r ≡ rulePair graph j w c f
+    → r ≡ gatePairIn graph j w
+unfolding gatePairIn
+row-pair graph j w c f row controlling forced e =
+    rw (lt-leb 5 (getD graph (5 * j) 0 % 8) row, controlling, forced) e
+
 -- a `not` reads constant 1 behind its operand, whatever its words are
-pub not-pair : {m : ℕ} {graph : List ℕ} {j : ℕ} (w : List ℕ) {a one : Pair} → Node m graph j → kindAt graph j ≡ 0 → a ≡ pairAt w (placeAt graph j 0)
-    → one ≡ pairAt w 1 → record { zeros = bitAnd (a .ones) (one .ones); ones = bitOr (a .zeros) (one .zeros) } ≡ gatePairIn graph j w
+pub not-pair : {m : ℕ} {graph : List ℕ} {j : ℕ} (w : List ℕ) {a one : Pair} → Node m graph j → kindAt graph j ≡ 0
+    → a ≡ pairAt w (placeAt graph j 0)
+    → one ≡ pairAt w 1
+    → record { zeros = bitAnd (a .ones) (one .ones); ones = bitOr (a .zeros) (one .zeros) } ≡ gatePairIn graph j w
 unfolding gatePairIn rulePair someWord everyWord controllingOf forcedOf isNot
 not-pair {m} {graph} {j} w node kind e f =
     let parts = operation-parts node in
     let single = counts-low (kindAt graph j) (countAt graph j) (known node) (node .count) .2 kind in
-    let behind : (i : ℕ) → 1 ≤ i → i < 4 → placeAt graph j i ≡ 1 = λ i l h. absent node i h (omega (arith, single)) ∙ rw kind refl in
+    let behind : (i : ℕ) → 1 ≤ i → i < 4 → placeAt graph j i ≡ 1 =
+    λ i l h. absent node i h (omega (arith, single)) ∙ rw kind refl in
     rw (e, f, parts .0, parts .1, parts .2, kind)
     (simp (
       word-zeros graph j w,
@@ -298,7 +341,8 @@ module _ {m lanes : ℕ} {graph : List ℕ} {j : ℕ} {w : List ℕ} (node : Nod
       (operandPair-proper inputsProper gatesProper (operandAt (placeAt graph j i)))
 
   -- behind the last operand of a kind other than `not`
-  absent-neutral : (k : ℕ) → kindAt graph j ≡ k → 1 ≤ k → k ≤ 6 → (i : ℕ) → i < 4 → countAt graph j ≤ i → p graph j w i ≡ neutral (full lanes) k
+  absent-neutral : (k : ℕ) → kindAt graph j ≡ k → 1 ≤ k → k ≤ 6 → (i : ℕ) → i < 4 → countAt graph j ≤ i
+      → p graph j w i ≡ neutral (full lanes) k
   unfolding p neutral isConjunction controllingOf isNot isXor isXnor rowOf rows row
   absent-neutral zero e h l i n c = absurd (omega arith)
   absent-neutral (suc zero) e h l i n c = rw (absent node i n c, e) (filled .one)
@@ -309,11 +353,14 @@ module _ {m lanes : ℕ} {graph : List ℕ} {j : ℕ} {w : List ℕ} (node : Nod
   absent-neutral (suc (suc (suc (suc (suc (suc zero)))))) e h l i n c = rw (absent node i n c, e) (filled .zero)
   absent-neutral (suc (suc (suc (suc (suc (suc (suc k))))))) e h l i n c = absurd (omega arith)
 
-  operands-are : map (operandPair (full lanes) (inputsIn w) (gatesIn m w)) (gateAt graph j .operands) ≡ tab (p graph j w) (countAt graph j)
+  operands-are : map (operandPair (full lanes) (inputsIn w) (gatesIn m w)) (gateAt graph j .operands)
+      ≡ tab (p graph j w) (countAt graph j)
   unfolding p gateAt
   operands-are =
-      map-tab (operandPair (full lanes) (inputsIn w) (gatesIn m w)) (λ i. operandAt (placeAt graph j i)) (countAt graph j)
-      ∙ tab-ext (λ i. operandPair (full lanes) (inputsIn w) (gatesIn m w) (operandAt (placeAt graph j i))) (p graph j w) (countAt graph j)
+      map-tab (operandPair (full lanes) (inputsIn w) (gatesIn m w)) (λ i. operandAt (placeAt graph j i))
+      (countAt graph j)
+      ∙ tab-ext (λ i. operandPair (full lanes) (inputsIn w) (gatesIn m w) (operandAt (placeAt graph j i)))
+      (p graph j w) (countAt graph j)
       (λ i l. sym (place-operand filled m (placeAt graph j i) (node .inside i (omega (arith, few)))))
     where
       few : countAt graph j ≤ 4
@@ -321,15 +368,19 @@ module _ {m lanes : ℕ} {graph : List ℕ} {j : ℕ} {w : List ℕ} (node : Nod
 
   -- a kind other than `not`
   by-four : (k : ℕ) → kindAt graph j ≡ k → 1 ≤ k → k ≤ 6
-      → fourPair k (p graph j w 0) (p graph j w 1) (p graph j w 2) (p graph j w 3) ≡ pairOf (full lanes) k (tab (p graph j w) (countAt graph j))
+      → fourPair k (p graph j w 0) (p graph j w 1) (p graph j w 2) (p graph j w 3)
+      ≡ pairOf (full lanes) k (tab (p graph j w) (countAt graph j))
   unfolding fourPair pairOf
   by-four k e h l =
       let c = counts-low (kindAt graph j) (countAt graph j) (known node) (node .count) in
-      ap (finished k) (folded-four k (p graph j w) (countAt graph j) (c .0) (c .1) place-proper (absent-neutral k e h l))
+      ap (finished k) (folded-four k (p graph j w) (countAt graph j) (c .0) (c .1) place-proper
+      (absent-neutral k e h l))
 
   -- `not`
-  by-not : kindAt graph j ≡ 0 → countAt graph j ≡ 1 → rulePair graph j w 0 1 ≡ pairOf (full lanes) 0 (tab (p graph j w) 1)
-  unfolding rulePair someWord everyWord pairOf folded finished inverts combined isConjunction isParity neutral always eitherPair swapped p controllingOf
+  by-not : kindAt graph j ≡ 0 → countAt graph j ≡ 1
+      → rulePair graph j w 0 1 ≡ pairOf (full lanes) 0 (tab (p graph j w) 1)
+  unfolding rulePair someWord everyWord pairOf folded finished inverts combined isConjunction isParity neutral always
+      eitherPair swapped p controllingOf
       isNot
   by-not e one =
       let a : (i : ℕ) → 1 ≤ i → i < 4 → pairAt w (placeAt graph j i) ≡ always (full lanes) true =
@@ -356,25 +407,30 @@ module _ {m lanes : ℕ} {graph : List ℕ} {j : ℕ} {w : List ℕ} (node : Nod
   unfolding controllingOf forcedOf isNot
   by-kind k e l = ⊎-elim not-gate (λ n. ⊎-elim (ruled n) parity-gate (lt-or-le k 5)) (eq-or-ne k 0)
     where
-      not-gate : k ≡ 0 → cond (leb 5 k) (parityAt graph j w (forcedOf k)) (rulePair graph j w (controllingOf k) (forcedOf k))
+      not-gate : k ≡ 0
+          → cond (leb 5 k) (parityAt graph j w (forcedOf k)) (rulePair graph j w (controllingOf k) (forcedOf k))
           ≡ pairOf (full lanes) k (tab (p graph j w) (countAt graph j))
       not-gate z =
           let one = counts-low (kindAt graph j) (countAt graph j) (known node) (node .count) .2 (e ∙ z) in
           rw (z, one) (by-not (e ∙ z) one)
 
-      ruled : (k ≡ 0 → ⊥) → k < 5 → cond (leb 5 k) (parityAt graph j w (forcedOf k)) (rulePair graph j w (controllingOf k) (forcedOf k))
+      ruled : (k ≡ 0 → ⊥) → k < 5
+          → cond (leb 5 k) (parityAt graph j w (forcedOf k)) (rulePair graph j w (controllingOf k) (forcedOf k))
           ≡ pairOf (full lanes) k (tab (p graph j w) (countAt graph j))
       ruled n h = rw (lt-leb 5 k h) (four-rule graph j w k (omega arith) (omega arith) ∙ by-four k e (omega arith) l)
 
-      parity-gate : 5 ≤ k → cond (leb 5 k) (parityAt graph j w (forcedOf k)) (rulePair graph j w (controllingOf k) (forcedOf k))
+      parity-gate : 5 ≤ k
+          → cond (leb 5 k) (parityAt graph j w (forcedOf k)) (rulePair graph j w (controllingOf k) (forcedOf k))
           ≡ pairOf (full lanes) k (tab (p graph j w) (countAt graph j))
       parity-gate h = rw (le-leb 5 k h) (four-parity graph j w k h l ∙ by-four k e (omega arith) l)
 
-  pub gatePairIn-evaluated : gatePairIn graph j w ≡ evaluatedPair (full lanes) (inputsIn w) (gatesIn m w) (gateAt graph j)
+  pub gatePairIn-evaluated : gatePairIn graph j w
+      ≡ evaluatedPair (full lanes) (inputsIn w) (gatesIn m w) (gateAt graph j)
   unfolding gatePairIn evaluatedPair gateAt
   gatePairIn-evaluated =
       let parts = operation-parts node in
-      rw (parts .0, parts .1, parts .2) (by-kind (kindAt graph j) refl (known node) ∙ ap (pairOf (full lanes) (kindAt graph j)) (sym operands-are))
+      rw (parts .0, parts .1, parts .2)
+      (by-kind (kindAt graph j) refl (known node) ∙ ap (pairOf (full lanes) (kindAt graph j)) (sym operands-are))
 
 -- ---- a pair stored
 
@@ -409,11 +465,14 @@ module _ (w : List ℕ) (j : ℕ) (q : Pair) where
       tab-ext (λ i. pairAt (putPair w (firstGate + j) q) (firstInput + i)) (λ i. pairAt w (firstInput + i)) maxInputs
       (λ i l. put-other w (firstGate + j) q (firstInput + i) (omega arith))
 
-  pub put-gates : (m : ℕ) → j < m → 2 * (firstGate + m) ≤ length w → gatesIn m (putPair w (firstGate + j) q) ≡ set (gatesIn m w) j q
+  pub put-gates : (m : ℕ) → j < m → 2 * (firstGate + m) ≤ length w
+      → gatesIn m (putPair w (firstGate + j) q) ≡ set (gatesIn m w) j q
   unfolding gatesIn
   put-gates m l room =
-      ext-getD noLanes (tab new m) (set (tab old m) j q) (length-tab new m ∙ sym (length-set (tab old m) j q ∙ length-tab old m))
-      (λ i h. let h′ : i < m = rw (length-tab new m) at h in getD-tab new m i noLanes h′ ∙ ⊎-elim (same i) (other i h′) (eq-or-ne i j))
+      ext-getD noLanes (tab new m) (set (tab old m) j q)
+      (length-tab new m ∙ sym (length-set (tab old m) j q ∙ length-tab old m))
+      (λ i h. let h′ : i < m = rw (length-tab new m) at h in getD-tab new m i noLanes h′ ∙ ⊎-elim (same i) (other i h′)
+      (eq-or-ne i j))
     where
       old : ℕ → Pair
       old = λ i. pairAt w (firstGate + i)
@@ -423,7 +482,8 @@ module _ (w : List ℕ) (j : ℕ) (q : Pair) where
 
       same : (i : ℕ) → i ≡ j → new i ≡ getD (set (tab old m) j q) i noLanes
       same i e =
-          rw (e, put-same w (firstGate + j) q (omega arith)) (sym (getD-set-same (tab old m) j q noLanes (rw (length-tab old m) l)))
+          rw (e, put-same w (firstGate + j) q (omega arith))
+          (sym (getD-set-same (tab old m) j q noLanes (rw (length-tab old m) l)))
 
       other : (i : ℕ) → i < m → (i ≡ j → ⊥) → new i ≡ getD (set (tab old m) j q) i noLanes
       other i h d =

@@ -23,7 +23,8 @@ use Rattle.prelude.proofs.Counting.{countBelow-ext}
 use Rattle.prelude.proofs.Least.{least-below, least-at, least-is}
 use Rattle.netlist.specs.Assignments.{bit}
 use Rattle.lanes_dual_rail.specs.Pairs.{full}
-use Rattle.lanes_dual_rail.proofs.BitLaws.{bit-low, bit-zero, bit-high, bit-and, bit-or, bit-xor, bit-full, eq-by-bits}
+use Rattle.lanes_dual_rail.proofs.BitLaws.{bit-low, bit-zero, bit-high, bit-and, bit-or, bit-xor, bit-full}
+use Rattle.lanes_dual_rail.proofs.BitLaws.{eq-by-bits}
 use Rattle.lanes_dual_rail.specs.Words.{hasLane, Tells}
 
 -- ---- two bits
@@ -69,7 +70,13 @@ module _ {lanes base : ℕ} where
     tells-and t u =
         record {
           within = and-lt lanes v w (t .within) (u .within);
-          each = λ s l. rw (bit-and v w s, and-bit (bit v s) (bit w s) (bit-low v s) (bit-low w s), t .each s l, u .each s l);
+          each =
+              λ s l. rw (
+                bit-and v w s,
+                and-bit (bit v s) (bit w s) (bit-low v s) (bit-low w s),
+                t .each s l,
+                u .each s l,
+              );
         }
 
     pub tells-or : Tells lanes base p v → Tells lanes base q w → Tells lanes base (λ s. p s || q s) (bitOr v w)
@@ -77,10 +84,17 @@ module _ {lanes base : ℕ} where
     tells-or t u =
         record {
           within = or-lt lanes v w (t .within) (u .within);
-          each = λ s l. rw (bit-or v w s, or-bit (bit v s) (bit w s) (bit-low v s) (bit-low w s), t .each s l, u .each s l);
+          each =
+              λ s l. rw (
+                bit-or v w s,
+                or-bit (bit v s) (bit w s) (bit-low v s) (bit-low w s),
+                t .each s l,
+                u .each s l,
+              );
         }
 
-  pub tells-not : {p : ℕ → Bool} {w : ℕ} → Tells lanes base p w → Tells lanes base (λ s. not (p s)) (bitXor (full lanes) w)
+  pub tells-not : {p : ℕ → Bool} {w : ℕ} → Tells lanes base p w
+      → Tells lanes base (λ s. not (p s)) (bitXor (full lanes) w)
   unfolding hasLane full
   tells-not {p} {w} t =
       record {
@@ -106,7 +120,9 @@ module _ {lanes base : ℕ} {p : ℕ → Bool} {w : ℕ} (t : Tells lanes base p
 
   -- a word without a lane is 0
   none-zero : ((s : ℕ) → s < lanes → p (base + s) ≡ false) → w ≡ 0
-  none-zero h = eq-by-bits w 0 (λ s. no-bit w s (⊎-elim (λ l. t .each s l ∙ h s l) (past-lanes s) (lt-or-le s lanes)) ∙ sym (bit-zero s))
+  none-zero h =
+      eq-by-bits w 0 (λ s. no-bit w s (⊎-elim (λ l. t .each s l ∙ h s l) (past-lanes s) (lt-or-le s lanes))
+      ∙ sym (bit-zero s))
 
   -- a word that is not 0 marks a lane
   pub tells-some : (w ≡ 0 → ⊥) → (s : ℕ) × (s < lanes) × (p (base + s) ≡ true)
@@ -121,7 +137,8 @@ module _ {lanes base : ℕ} {p : ℕ → Bool} {w : ℕ} (t : Tells lanes base p
       (r < lanes) × (p (base + r) ≡ true) × ((i : ℕ) → i < r → p (base + i) ≡ false)
   tells-lowest few s l h =
       let r = least (hasLane w) 64 in
-      let le : r ≤ s = ⊎-elim (λ m. not-both (t .each s l ∙ h) (least-below (hasLane w) 64 s m)) (λ m. m) (lt-or-le s r) in
+      let le : r ≤ s = ⊎-elim (λ m. not-both (t .each s l ∙ h) (least-below (hasLane w) 64 s m)) (λ m. m)
+      (lt-or-le s r) in
       let r-in : r < lanes = omega arith in (
         r-in,
         sym (t .each r r-in) ∙ least-at (hasLane w) 64 (omega arith),
@@ -163,7 +180,8 @@ trailing-at (suc k) a l = go (trailing-at k (a / 2)) (a % 2) refl l
     go rest (suc d) e m = let o : a % 2 ≡ 1 = omega arith in rw (bit-first a, o)
 
 pub trailing-least : (a : ℕ) → trailingZeros 64 a ≡ least (hasLane a) 64
-trailing-least a = sym (least-is (hasLane a) 64 (trailingZeros 64 a) (trailing-le 64 a) (trailing-below 64 a) (trailing-at 64 a))
+trailing-least a =
+    sym (least-is (hasLane a) 64 (trailingZeros 64 a) (trailing-le 64 a) (trailing-below 64 a) (trailing-at 64 a))
 
 -- the first number apart
 count-first : (p : ℕ → Bool) (k : ℕ) → countBelow p (suc k) ≡ cond (p 0) 1 0 + countBelow (λ s. p (suc s)) k
@@ -192,7 +210,8 @@ ones-count (suc k) a l =
     omega (arith, ones-step a, count-first (hasLane a) k, rest, first, same)
 
 -- as many lanes as settings that pass
-pub tells-count : {lanes base : ℕ} {p : ℕ → Bool} {w : ℕ} → lanes ≤ 64 → Tells lanes base p w → countBelow (hasLane w) 64 ≡ countBelow (λ s. p (base + s)) lanes
+pub tells-count : {lanes base : ℕ} {p : ℕ → Bool} {w : ℕ} → lanes ≤ 64 → Tells lanes base p w
+    → countBelow (hasLane w) 64 ≡ countBelow (λ s. p (base + s)) lanes
 tells-count {lanes} {base} {p} {w} few t =
     let more : 2 ^ lanes ≤ 2 ^ 64 = pow-mono {i = lanes} {j = 64} few in
     sym (ones-count 64 w (omega (arith, t .within, more))) ∙ ones-count lanes w (t .within)

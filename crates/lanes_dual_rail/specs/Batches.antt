@@ -17,7 +17,8 @@ lanesOf n = 2 ^ min n 6
 -- bit s of number i is bit i of s
 unfoldable pub patterns : List ℕ
 patterns =
-    0xAAAAAAAAAAAAAAAA ∷ 0xCCCCCCCCCCCCCCCC ∷ 0xF0F0F0F0F0F0F0F0 ∷ 0xFF00FF00FF00FF00 ∷ 0xFFFF0000FFFF0000 ∷ 0xFFFFFFFF00000000 ∷ []
+    0xAAAAAAAAAAAAAAAA ∷ 0xCCCCCCCCCCCCCCCC ∷ 0xF0F0F0F0F0F0F0F0 ∷ 0xFF00FF00FF00FF00
+    ∷ 0xFFFF0000FFFF0000 ∷ 0xFFFFFFFF00000000 ∷ []
 
 -- the settings of the batch at `base` under which input i is 1
 unfoldable pub pattern : ℕ → ℕ → ℕ

@@ -1,9 +1,11 @@
--- Pairs in one array of words: word 2 × place + v has the lanes at which what stands at the place has value v. Cited by the contracts of this crate and of
+-- Pairs in one array of words: word 2 × place + v has the lanes at which what stands at the place has value v. Cited by
+-- the contracts of this crate and of
 -- every crate that works on lanes.
 --   pairAt, putPair              the pair at a place, and the words with another one there
 --   inputsIn, gatesIn            the pairs of all inputs and of the first gates
 --   Filled                       the words of the two constants are there
---   operandWord, someWord, everyWord   a gate's operands at a value: one of them, some of the four, every one of the four
+--   operandWord, someWord, everyWord   a gate's operands at a value: one of them, some of the four, every one of the
+--                                      four
 --   rulePair, parityAt, gatePairIn     a gate's pair by its row, by parity, by its operation
 -- Assumes nothing.
 use Prim.Native.Nat.{ℕ, _+_, _-_, _*_, _/_, _%_}
@@ -50,11 +52,13 @@ operandWord graph j w v i = getD w (2 * placeAt graph j i + v) 0
 
 unfoldable pub someWord : List ℕ → ℕ → List ℕ → ℕ → ℕ
 someWord graph j w v =
-    bitOr (operandWord graph j w v 0) (bitOr (operandWord graph j w v 1) (bitOr (operandWord graph j w v 2) (operandWord graph j w v 3)))
+    bitOr (operandWord graph j w v 0)
+    (bitOr (operandWord graph j w v 1) (bitOr (operandWord graph j w v 2) (operandWord graph j w v 3)))
 
 unfoldable pub everyWord : List ℕ → ℕ → List ℕ → ℕ → ℕ
 everyWord graph j w v =
-    bitAnd (operandWord graph j w v 0) (bitAnd (operandWord graph j w v 1) (bitAnd (operandWord graph j w v 2) (operandWord graph j w v 3)))
+    bitAnd (operandWord graph j w v 0)
+    (bitAnd (operandWord graph j w v 1) (bitAnd (operandWord graph j w v 2) (operandWord graph j w v 3)))
 
 -- at the forced value f where some operand has the controlling value c, at the other where every operand has the other
 unfoldable pub rulePair : List ℕ → ℕ → List ℕ → ℕ → ℕ → Pair
@@ -66,7 +70,8 @@ rulePair graph j w c f =
 unfoldable pub parityOf : List ℕ → ℕ → List ℕ → Pair
 parityOf graph j w =
     parityPair (pairAt w (placeAt graph j 0))
-    (parityPair (pairAt w (placeAt graph j 1)) (parityPair (pairAt w (placeAt graph j 2)) (pairAt w (placeAt graph j 3))))
+    (parityPair (pairAt w (placeAt graph j 1))
+    (parityPair (pairAt w (placeAt graph j 2)) (pairAt w (placeAt graph j 3))))
 
 unfoldable pub parityAt : List ℕ → ℕ → List ℕ → ℕ → Pair
 parityAt graph j w f = cond (eqb f 0) (parityOf graph j w) (swapped (parityOf graph j w))
@@ -75,4 +80,5 @@ parityAt graph j w f = cond (eqb f 0) (parityOf graph j w) (swapped (parityOf gr
 unfoldable pub gatePairIn : List ℕ → ℕ → List ℕ → Pair
 gatePairIn graph j w =
     let operation = getD graph (nodeSize * j) 0 in
-    cond (leb 5 (operation % 8)) (parityAt graph j w (operation / 128)) (rulePair graph j w (operation / 64 % 2) (operation / 128))
+    cond (leb 5 (operation % 8)) (parityAt graph j w (operation / 128))
+    (rulePair graph j w (operation / 64 % 2) (operation / 128))

@@ -1,4 +1,5 @@
--- Rounds on pairs: as netlist/specs/Rounds.antt, with a pair of words for each value. proofs/Rounds.antt says that they agree at every lane.
+-- Rounds on pairs: as netlist/specs/Rounds.antt, with a pair of words for each value. proofs/Rounds.antt says that they
+-- agree at every lane.
 -- Assumes nothing.
 use Prim.Native.Nat.{ℕ, zero, suc}
 use mathlib.Core.Path.{_≡_}

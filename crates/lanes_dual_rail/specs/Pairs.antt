@@ -1,4 +1,5 @@
--- A pair of words holds a value for each setting of a batch, a lane to a setting. Cited by this crate's contracts and by `lanes_batch`.
+-- A pair of words holds a value for each setting of a batch, a lane to a setting. Cited by this crate's contracts and
+-- by `lanes_batch`.
 --   lane, markedLanes       the value at a lane
 --   Proper             no bit in both words, and none at a lane that is not in use
 --   full               the word with a bit at each lane in use

@@ -1,6 +1,6 @@
 // One gate under 64 settings at a time, in dual-rail words: the gate's pair from its row and the words of its operands.
-// `lanes` has two words for each place: word 2 × place + v marks the lanes at which what stands there has value v. A gate
-// reads four places; behind its last operand stands the constant that changes nothing.
+// `lanes` has two words for each place: word 2 × place + v marks the lanes at which what stands there has value v. A
+// gate reads four places; behind its last operand stands the constant that changes nothing.
 use crate::LANE_WORDS;
 use crate::Pair;
 use graph_gates::GRAPH_WORDS;
@@ -12,9 +12,11 @@ ghost use Rattle.netlist.specs.Limits.{maxGates};
 ghost use Rattle.graph_gates.specs.Places.{placeCount};
 ghost use Rattle.graph_gates.specs.Graph.{Node, kindAt, placeAt};
 ghost use Rattle.lanes_dual_rail.specs.Pairs.{parityPair, swapped};
-ghost use Rattle.lanes_dual_rail.specs.LaneWords.{pairAt, putPair, operandWord, someWord, everyWord, rulePair, parityOf, parityAt, gatePairIn};
+ghost use Rattle.lanes_dual_rail.specs.LaneWords.{pairAt, putPair, operandWord, someWord, everyWord, rulePair};
+ghost use Rattle.lanes_dual_rail.specs.LaneWords.{parityOf, parityAt, gatePairIn};
 
-// Where the controlling and the forced value of a gate's row stand in its operation (crates/graph_gates/specs/Graph.antt).
+// Where the controlling and the forced value of a gate's row stand in its operation
+// (crates/graph_gates/specs/Graph.antt).
 const CONTROLLING: usize = 64;
 
 const FORCED: usize = 128;
@@ -91,8 +93,8 @@ fn every_word(graph: &[u16; GRAPH_WORDS], j: usize, v: usize, lanes: &[u64; LANE
     a & (b & (c & d))
 }
 
-// The pair of a gate by its row: `forced` where some operand is `controlling`, the other value where every operand is the
-// other.
+// The pair of a gate by its row: `forced` where some operand is `controlling`, the other value where every operand is
+// the other.
 fn rule_pair(
     graph: &[u16; GRAPH_WORDS],
     j: usize,
@@ -172,8 +174,8 @@ fn not_pair(graph: &[u16; GRAPH_WORDS], j: usize, lanes: &[u64; LANE_WORDS]) -> 
     }
 }
 
-// The pair of gate `j`, by its operation. Each controlling value has a call of its own, where the words to be read are
-// known.
+// The pair of gate `j`, by its operation. Each row has a call of its own, where the words to be read are known and in
+// which order they stand.
 pub fn gate_pair(graph: &[u16; GRAPH_WORDS], j: usize, lanes: &[u64; LANE_WORDS]) -> Pair
     requires { ⌜ Node maxGates (now graph) j × (j < maxGates) ⌝ }
     ensures { λ r. ⌜ r ≡ gatePairIn (now (graph .entry)) j (now (lanes .entry)) ⌝ }
@@ -187,7 +189,13 @@ pub fn gate_pair(graph: &[u16; GRAPH_WORDS], j: usize, lanes: &[u64; LANE_WORDS]
     }
     let forced = operation / FORCED;
     if operation / CONTROLLING % 2 == 0 {
-        return rule_pair(graph, j, 0, forced, lanes);
+        if forced == 0 {
+            return rule_pair(graph, j, 0, 0, lanes);
+        }
+        return rule_pair(graph, j, 0, 1, lanes);
     }
-    rule_pair(graph, j, 1, forced, lanes)
+    if forced == 0 {
+        return rule_pair(graph, j, 1, 0, lanes);
+    }
+    rule_pair(graph, j, 1, 1, lanes)
 }

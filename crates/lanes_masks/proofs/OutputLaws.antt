@@ -25,7 +25,8 @@ use Rattle.netlist.specs.Values.{Value, undefined, isDefined}
 use Rattle.netlist.specs.Assignments.{bit}
 use Rattle.netlist.specs.Netlist.{Operand, constant, Output, inputCount, gateCount}
 use Rattle.netlist.specs.Limits.{maxInputs}
-use Rattle.netlist.specs.StoredBlock.{nameSize, outputSize, neversAt, gatesAt, outputsAt, operandOf, outputAt, decode, isMalformed}
+use Rattle.netlist.specs.StoredBlock.{nameSize, outputSize, neversAt, gatesAt, outputsAt, operandOf, outputAt, decode}
+use Rattle.netlist.specs.StoredBlock.{isMalformed}
 use Rattle.netlist.specs.Rounds.{settingOf, settled, settledUnder, operandValue, outputValue, outputsUnder, isSettled}
 use Rattle.theory_encoding.proofs.Decoded.{decode-inputCount, decode-gateCount, decode-outputCount, decode-output}
 use Rattle.theory_encoding.proofs.Readers.{whole-parts, whole-node}
@@ -42,7 +43,8 @@ use Rattle.lanes_dual_rail.proofs.LaneWordLaws.{place-operand}
 use Rattle.lanes_batch.specs.Layered.{startInputs}
 use Rattle.lanes_batch.proofs.Inputs.{operandValue-inputs, startInputs-lane}
 use Rattle.lanes_dual_rail.specs.Words.{hasLane, Tells}
-use Rattle.lanes_masks.specs.Lanes.{OutputThere, OutputsThere, Judged, isUndefinedAt, isUnsettled, outputPair, undefinedIn, undefinedWord, unsettledWord}
+use Rattle.lanes_masks.specs.Lanes.{OutputThere, OutputsThere, Judged, isUndefinedAt, isUnsettled, outputPair}
+use Rattle.lanes_masks.specs.Lanes.{undefinedIn, undefinedWord, unsettledWord}
 use Rattle.lanes_dual_rail.proofs.WordLaws.{tells-as, tells-none, tells-or}
 
 -- the two bits of a lane in use, at which neither is set exactly where the value is undefined
@@ -78,14 +80,16 @@ any-first p k = any-append p (upTo k) (k ∷ []) ∙ go (any p (upTo k)) (p k)
     go a false = refl
 
 -- some element fails exactly where not all pass
-any-not-all : {A : Type 0} (p : A → Bool) (xs : List A) (d : A) → any (λ i. not (p (getD xs i d))) (upTo (length xs)) ≡ not (all p xs)
+any-not-all : {A : Type 0} (p : A → Bool) (xs : List A) (d : A)
+    → any (λ i. not (p (getD xs i d))) (upTo (length xs)) ≡ not (all p xs)
 any-not-all p xs d = ⊎-elim yes-all not-all (bool-cases (all p xs))
   where
     yes-all : all p xs ≡ true → any (λ i. not (p (getD xs i d))) (upTo (length xs)) ≡ not (all p xs)
     yes-all h =
         rw h
         (not-true-false (any (λ i. not (p (getD xs i d))) (upTo (length xs)))
-        (λ t. let f = any-below (λ i. not (p (getD xs i d))) (length xs) t in not-both (f .2) (rw (all-at p xs (f .0) d h (f .1)))))
+        (λ t. let f = any-below (λ i. not (p (getD xs i d))) (length xs) t in not-both (f .2)
+        (rw (all-at p xs (f .0) d h (f .1)))))
 
     not-all : all p xs ≡ false → any (λ i. not (p (getD xs i d))) (upTo (length xs)) ≡ not (all p xs)
     not-all h =
@@ -98,8 +102,11 @@ any-not-all p xs d = ⊎-elim yes-all not-all (bool-cases (all p xs))
         not-false-true true e = refl
         not-false-true false e = sym e
 
-        not-any : (i : ℕ) → i < length xs → any (λ i. not (p (getD xs i d))) (upTo (length xs)) ≡ false → not (p (getD xs i d)) ≡ false
-        not-any i l e = not-true-false (not (p (getD xs i d))) (λ t. not-both (below-any (λ i. not (p (getD xs i d))) (length xs) i l t) e)
+        not-any : (i : ℕ) → i < length xs → any (λ i. not (p (getD xs i d))) (upTo (length xs)) ≡ false
+            → not (p (getD xs i d)) ≡ false
+        not-any i l e =
+            not-true-false (not (p (getD xs i d)))
+            (λ t. not-both (below-any (λ i. not (p (getD xs i d))) (length xs) i l t) e)
 
 -- an output's word
 word : List ℕ → ℕ → ℕ → ℕ
@@ -122,7 +129,8 @@ module _ (ws : List ℕ) (whole : isMalformed ws ≡ false) {n : ℕ} (inputs : 
   place-there o l =
       let h = node-inside o l in
       let most = whole-parts ws whole .fewGates in
-      ⊎-elim (λ k. rw (place-input n (word ws at o) k) (omega (arith, few))) (λ k. rw (place-gate n (word ws at o) k (omega (arith, few))) (omega arith))
+      ⊎-elim (λ k. rw (place-input n (word ws at o) k) (omega (arith, few)))
+      (λ k. rw (place-gate n (word ws at o) k (omega (arith, few))) (omega arith))
       (lt-or-le (word ws at o) n)
 
   pub output-there : (o : ℕ) → o < getD ws 2 0 → OutputThere ws at n o
@@ -141,27 +149,33 @@ module _ (ws : List ℕ) (whole : isMalformed ws ≡ false) {n : ℕ} (inputs : 
 
   -- an output's pair is that of its node, whatever the inputs of the lanes are
   pub output-operand : {used : ℕ} {w : List ℕ} → Filled used w → (o : ℕ) → o < getD ws 2 0 → outputPair ws at n w o
-      ≡ operandPair used (inputsIn w) (gatesIn (gateCount (decode ws)) w) (operandOf n (getD ws (at + outputSize * o + nameSize) 0))
+      ≡ operandPair used (inputsIn w) (gatesIn (gateCount (decode ws)) w)
+      (operandOf n (getD ws (at + outputSize * o + nameSize) 0))
   unfolding outputPair word
   output-operand {used} {w} filled o l =
       let inside = node-inside o l in
       place-operand filled (gateCount (decode ws)) _ (rw (decode-gateCount ws) (place-there o l))
       ∙ ap (operandPair used (inputsIn w) (gatesIn (gateCount (decode ws)) w))
-      (operandAt-word n (getD ws (at + outputSize * o + nameSize) 0) few (omega (arith, few, whole-parts ws whole .fewGates)))
+      (operandAt-word n (getD ws (at + outputSize * o + nameSize) 0) few
+      (omega (arith, few, whole-parts ws whole .fewGates)))
 
   -- the words of output o
-  pub output-is : (o : ℕ) (d : Output) → o < getD ws 2 0 → outputAt n ws (at + outputSize * o) ≡ getD (decode ws .outputs) o d
+  pub output-is : (o : ℕ) (d : Output) → o < getD ws 2 0
+      → outputAt n ws (at + outputSize * o) ≡ getD (decode ws .outputs) o d
   output-is o d l = rw (first, inputs) (sym (decode-output ws o d l))
 
 module _ {ws : List ℕ} {n base : ℕ} {w : List ℕ} (j : Judged ws n base w) {at : ℕ}
     (first : at ≡ outputsAt (getD ws 0 0) (getD ws 3 0) (getD ws 1 0)) where
   pair-is : (o : ℕ) → o < getD ws 2 0 → outputPair ws at n w o
-      ≡ operandPair (full (lanesOf n)) (inputsIn w) (gatesIn (gateCount (decode ws)) w) (operandOf n (getD ws (at + outputSize * o + nameSize) 0))
+      ≡ operandPair (full (lanesOf n)) (inputsIn w) (gatesIn (gateCount (decode ws)) w)
+      (operandOf n (getD ws (at + outputSize * o + nameSize) 0))
   pair-is o l = output-operand ws (j .whole) (j .inputs) first (j .settled .filled) o l
 
   pub output-proper : (o : ℕ) → o < getD ws 2 0 → Proper (lanesOf n) (outputPair ws at n w o)
   output-proper o l =
-      rw (pair-is o l) (operandPair-proper (j .settled .inputsProper) (j .settled .gatesProper) (operandOf n (getD ws (at + outputSize * o + nameSize) 0)))
+      rw (pair-is o l)
+      (operandPair-proper (j .settled .inputsProper) (j .settled .gatesProper)
+      (operandOf n (getD ws (at + outputSize * o + nameSize) 0)))
 
   as-many : (s : ℕ) → length (outputsUnder (decode ws) s) ≡ getD ws 2 0
   unfolding outputsUnder
@@ -179,7 +193,8 @@ module _ {ws : List ℕ} {n base : ℕ} {w : List ℕ} (j : Judged ws n base w) 
       let shows : Output → Value = outputValue (settingOf (inputCount b) (base + s)) (settledUnder b (base + s)) in
       let values : lane s (outputPair ws at n w o)
       ≡ operandValue (settingOf n (base + s)) (settledUnder b (base + s)) (operandOf n word) =
-      ap (lane s) (pair-is o there) ∙ operandPair-lane (j .settled .inputsProper) (j .settled .gatesProper) s l (operandOf n word)
+      ap (lane s) (pair-is o there)
+      ∙ operandPair-lane (j .settled .inputsProper) (j .settled .gatesProper) s l (operandOf n word)
       ∙ rw (j .settled .settledLanes s l, j .settled .inputs)
       (ap (λ (f : Operand → Value). f (operandOf n word))
       (operandValue-inputs (map (lane s) (startInputs n base)) (settingOf n (base + s))
@@ -188,15 +203,20 @@ module _ {ws : List ℕ} {n base : ℕ} {w : List ℕ} (j : Judged ws n base w) 
       let inside : o < length (map shows (b .outputs)) = rw (as-many (base + s)) there in
       let shown : shows (outputAt n ws (at + outputSize * o)) ≡ getD (map shows (b .outputs)) o undefined =
       ap shows (output-is ws (j .whole) (j .inputs) first o d there)
-      ∙ sym (getD-defaults (map shows (b .outputs)) o undefined (shows d) inside ∙ List·getD-map shows (b .outputs) o d) in
-      values ∙ ap (λ (k : ℕ). operandValue (settingOf k (base + s)) (settledUnder b (base + s)) (operandOf n word)) many ∙ shown
+      ∙ sym (getD-defaults (map shows (b .outputs)) o undefined (shows d) inside
+      ∙ List·getD-map shows (b .outputs) o d) in
+      values ∙ ap (λ (k : ℕ). operandValue (settingOf k (base + s)) (settledUnder b (base + s)) (operandOf n word)) many
+      ∙ shown
 
-  pub undefined-tells : (o : ℕ) → o < getD ws 2 0 → Tells (lanesOf n) base (isUndefinedAt (decode ws) o) (undefinedWord ws at n w o)
+  pub undefined-tells : (o : ℕ) → o < getD ws 2 0
+      → Tells (lanesOf n) base (isUndefinedAt (decode ws) o) (undefinedWord ws at n w o)
   unfolding undefinedWord isUndefinedAt
   undefined-tells o there =
       record {
         within = undefinedIn-within (output-proper o there);
-        each = λ s l. undefinedIn-lane (output-proper o there) s l ∙ ap (λ (v : Value). not (isDefined v)) (output-lane o there s l);
+        each =
+            λ s l. undefinedIn-lane (output-proper o there) s l
+            ∙ ap (λ (v : Value). not (isDefined v)) (output-lane o there s l);
       }
 
 -- one of the first outputs is undefined
@@ -212,13 +232,16 @@ unsettled-all ws s =
     rw many at (any-not-all isDefined (map shows (b .outputs)) undefined)
 
 -- a setting is not settled exactly where an output is undefined
-pub undefined-some : (ws : List ℕ) (s : ℕ) → isUnsettled (decode ws) s ≡ true → (o : ℕ) × (o < getD ws 2 0) × (isUndefinedAt (decode ws) o s ≡ true)
+pub undefined-some : (ws : List ℕ) (s : ℕ) → isUnsettled (decode ws) s ≡ true
+    → (o : ℕ) × (o < getD ws 2 0) × (isUndefinedAt (decode ws) o s ≡ true)
 unfolding unsettledBy
 undefined-some ws s h = any-below (λ o. isUndefinedAt (decode ws) o s) (getD ws 2 0) (unsettled-all ws s ∙ h)
 
-pub undefined-unsettled : (ws : List ℕ) (s o : ℕ) → o < getD ws 2 0 → isUndefinedAt (decode ws) o s ≡ true → isUnsettled (decode ws) s ≡ true
+pub undefined-unsettled : (ws : List ℕ) (s o : ℕ) → o < getD ws 2 0 → isUndefinedAt (decode ws) o s ≡ true
+    → isUnsettled (decode ws) s ≡ true
 unfolding unsettledBy
-undefined-unsettled ws s o l h = sym (unsettled-all ws s) ∙ below-any (λ o. isUndefinedAt (decode ws) o s) (getD ws 2 0) o l h
+undefined-unsettled ws s o l h =
+    sym (unsettled-all ws s) ∙ below-any (λ o. isUndefinedAt (decode ws) o s) (getD ws 2 0) o l h
 
 module _ {ws : List ℕ} {n base : ℕ} {w : List ℕ} (j : Judged ws n base w) {at : ℕ}
     (first : at ≡ outputsAt (getD ws 0 0) (getD ws 3 0) (getD ws 1 0)) where

@@ -10,11 +10,13 @@ use Rattle.netlist.specs.Netlist.{Block}
 use Rattle.netlist.specs.Rounds.{isSettled, isExcluded, isCounted, isSoundAt}
 use Rattle.lanes_dual_rail.specs.Pairs.{full}
 use Rattle.lanes_dual_rail.specs.Words.{Tells}
-use Rattle.lanes_masks.specs.Lanes.{mayCome, isUnsettled, isUnsound}
+use Rattle.lanes_nevers.specs.Nevers.{mayCome}
+use Rattle.lanes_masks.specs.Lanes.{isUnsettled, isUnsound}
 use Rattle.lanes_dual_rail.proofs.WordLaws.{tells-as, tells-and, tells-not}
 
 module _ {lanes base : ℕ} (b : Block) {v w : ℕ} where
-  pub unsound-tells : Tells lanes base (mayCome b) v → Tells lanes base (isUnsettled b) w → Tells lanes base (isUnsound b) (bitAnd v w)
+  pub unsound-tells : Tells lanes base (mayCome b) v → Tells lanes base (isUnsettled b) w
+      → Tells lanes base (isUnsound b) (bitAnd v w)
   unfolding mayCome isUnsettled isUnsound isSoundAt
   unsound-tells t u = tells-as (λ s. go (isExcluded b s) (isSettled b s)) (tells-and t u)
     where
@@ -22,7 +24,8 @@ module _ {lanes base : ℕ} (b : Block) {v w : ℕ} where
       go true f = refl
       go false f = refl
 
-  pub counted-tells : Tells lanes base (mayCome b) v → Tells lanes base (isUnsettled b) w → Tells lanes base (isCounted b) (bitAnd v (bitXor (full lanes) w))
+  pub counted-tells : Tells lanes base (mayCome b) v → Tells lanes base (isUnsettled b) w
+      → Tells lanes base (isCounted b) (bitAnd v (bitXor (full lanes) w))
   unfolding mayCome isUnsettled isCounted
   counted-tells t u = tells-as (λ s. go (isExcluded b s) (isSettled b s)) (tells-and t (tells-not u))
     where
@@ -30,7 +33,8 @@ module _ {lanes base : ℕ} (b : Block) {v w : ℕ} where
       go e true = refl
       go e false = refl
 
-pub sound-tells : {lanes base : ℕ} (b : Block) {w : ℕ} → Tells lanes base (isUnsound b) w → Tells lanes base (isSoundAt b) (bitXor (full lanes) w)
+pub sound-tells : {lanes base : ℕ} (b : Block) {w : ℕ} → Tells lanes base (isUnsound b) w
+    → Tells lanes base (isSoundAt b) (bitXor (full lanes) w)
 unfolding isUnsound
 sound-tells b t = tells-as (λ s. go (isSoundAt b s)) (tells-not t)
   where

@@ -1,22 +1,22 @@
--- Words with a bit at each lane of a batch whose setting passes a test. Cited by the contracts of this crate, of `op_verdict` and of `op_compare`.
---   agreesAt, mayCome, isUndefinedAt, isUnsettled, isUnsound   the tests
+-- Words with a bit at each lane of a batch whose setting passes a test. Cited by this crate's contracts and by those
+-- that
+-- walk over batches.
+--   isUndefinedAt, isUnsettled, isUnsound   the tests
 --   undefinedWord, unsettledWord    the lanes at which an output, or one of the first outputs, is undefined
 --   OutputThere, OutputsThere       outputs that can be read
 --   Judged                          a batch that was decided
 -- Assumes nothing.
 use mathlib.Core.Path.{_≡_}
-use mathlib.Core.Bool.{Bool, false, not, _||_}
+use mathlib.Core.Bool.{Bool, false, not}
 use mathlib.Core.List.{List}
 use Prim.Native.Nat.{ℕ, zero, suc, _+_, _*_, _%_, _≤_, _<_}
 use lib.Bits.{bitOr, bitXor}
-use lib.Dec.{eqb}
 use lib.ListN.{getD}
 use Rattle.netlist.specs.Values.{undefined, isDefined}
 use Rattle.netlist.specs.Netlist.{Block}
-use Rattle.netlist.specs.Assignments.{bit, Assignment, fixes}
 use Rattle.netlist.specs.Limits.{maxInputs}
 use Rattle.netlist.specs.StoredBlock.{nameSize, outputSize, operandOf, decode, isMalformed}
-use Rattle.netlist.specs.Rounds.{outputsUnder, isSettled, isExcluded, isSoundAt}
+use Rattle.netlist.specs.Rounds.{outputsUnder, isSettled, isSoundAt}
 use Rattle.words_layout.specs.Bounds.{countRoom}
 use Rattle.lanes_dual_rail.specs.declared.Pair.{Pair}
 use Rattle.graph_gates.specs.Places.{placeCount, placeOf}
@@ -26,13 +26,6 @@ use Rattle.lanes_dual_rail.specs.LaneWords.{pairAt}
 use Rattle.lanes_batch.specs.Layered.{LanesSettled}
 
 -- ---- tests of setting number s
-
--- input i is not fixed, or has the assignment's value
-unfoldable pub agreesAt : Assignment → ℕ → ℕ → Bool
-agreesAt a i s = not (fixes a i) || eqb (bit s i) (bit (a .ones) i)
-
-unfoldable pub mayCome : Block → ℕ → Bool
-mayCome b s = not (isExcluded b s)
 
 unfoldable pub isUndefinedAt : Block → ℕ → ℕ → Bool
 isUndefinedAt b o s = not (isDefined (getD (outputsUnder b s) o undefined))
@@ -44,7 +37,8 @@ isUnsettled b s = not (isSettled b s)
 unfoldable pub isUnsound : Block → ℕ → Bool
 isUnsound b s = not (isSoundAt b s)
 
--- ---- words of lanes, from the pairs of the inputs and gates of a block of n inputs, whose outputs' words start at `at`
+-- ---- words of lanes, from the pairs of the inputs and gates of a block of n inputs, whose outputs' words start at
+-- `at`
 
 -- the pair of output o
 unfoldable pub outputPair : List ℕ → ℕ → ℕ → List ℕ → ℕ → Pair

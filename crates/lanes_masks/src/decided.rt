@@ -22,7 +22,9 @@ pub fn judge_batch(
     base: usize,
     lanes: &mut [u64; LANE_WORDS],
 )
-    requires { ⌜ Planned (now words) (now graph) (now order) (now ends) × (base % 64 ≡ 0) × (length (now lanes) ≡ laneSize) ⌝ }
+    requires { ⌜
+        Planned (now words) (now graph) (now order) (now ends) × (base % 64 ≡ 0) × (length (now lanes) ≡ laneSize)
+        ⌝ }
     ensures { λ r. ⌜ Judged (now (words .entry)) (getD (now (words .entry)) 0 0) base (now (lanes .exit)) ⌝ }
 {
     let m = gates_of(words);

@@ -1,4 +1,5 @@
-// What the outputs are at the lanes of a batch, from the pairs of its inputs and gates, in a block of n inputs whose outputs' words start at `at`.
+// What the outputs are at the lanes of a batch, from the pairs of its inputs and gates, in a block of n inputs whose
+// outputs' words start at `at`.
 use graph_gates::place_of;
 use lanes_dual_rail::LANE_WORDS;
 use lanes_dual_rail::Pair;

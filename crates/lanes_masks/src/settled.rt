@@ -1,8 +1,8 @@
 // Which settings of a batch are settled, when `lanes` holds its settled values.
-use crate::nevers::coming_lanes;
 use crate::outputs::unsettled_lanes;
 use lanes_dual_rail::LANE_WORDS;
 use lanes_dual_rail::inputs::used_lanes;
+use lanes_nevers::coming_lanes;
 use words_layout::offsets::outputs_at;
 use words_layout::offsets::outputs_of;
 ghost use Rattle.netlist.specs.StoredBlock.{decode};

@@ -8,8 +8,10 @@ use lib.ListN.{length}
 use lib.Dec.{ltb}
 use Rattle.prelude.specs.Lists.{placed}
 use Rattle.netlist.specs.declared.Refusal.{Refusal}
-use Rattle.netlist.specs.declared.Refusal.the-variants.{TextTooLong, SyntaxError, OverLimit, DuplicateDeclaration, UndeclaredName, MalformedBlock}
-use Rattle.netlist.specs.declared.Refusal.the-variants.{BadSetting, TooManyCopies, NotSettled, NotStraight, NoRoom, InterfaceMismatch, NotAPermutation}
+use Rattle.netlist.specs.declared.Refusal.the-variants.{TextTooLong, SyntaxError, OverLimit, DuplicateDeclaration}
+use Rattle.netlist.specs.declared.Refusal.the-variants.{UndeclaredName, MalformedBlock, BadSetting, TooManyCopies}
+use Rattle.netlist.specs.declared.Refusal.the-variants.{NotSettled, NotStraight, NoRoom, InterfaceMismatch}
+use Rattle.netlist.specs.declared.Refusal.the-variants.{NotAPermutation}
 use Rattle.netlist.specs.declared.Answer.{Answer}
 use Rattle.netlist.specs.declared.Answer.the-variants.{Done, Refused}
 use Rattle.netlist.specs.declared.Reply.{Reply}

@@ -1,12 +1,13 @@
--- The bench (SPECIFICATION 8.2): a netlist text, an empty line and set lines in, a show line or a refusal's line for each set line out;
--- first the answer to one line, then the whole run.
+-- The bench (SPECIFICATION 8.2): a netlist text, an empty line and set lines in, a show line or a refusal's line for
+-- each set line out; first the answer to one line, then the whole run.
 use Prim.Native.Nat.{ℕ, _+_, _-_}
 use mathlib.Core.Bool.{Bool, true, cond, _&&_}
 use mathlib.Core.List.{List, [], _∷_, _++_, map}
 use lib.ListN.{length}
 use lib.Dec.{eqb}
 use Rattle.prelude.specs.Lists.{ascii, joined}
-use Rattle.netlist.specs.declared.Refusal.the-variants.{SyntaxError, DuplicateDeclaration, UndeclaredName, MalformedBlock}
+use Rattle.netlist.specs.declared.Refusal.the-variants.{SyntaxError, DuplicateDeclaration, UndeclaredName}
+use Rattle.netlist.specs.declared.Refusal.the-variants.{MalformedBlock}
 use Rattle.netlist.specs.Values.{Value}
 use Rattle.netlist.specs.Netlist.{Output, Block, inputCount}
 use Rattle.netlist.specs.StoredBlock.{decode, isMalformed}

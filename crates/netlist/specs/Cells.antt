@@ -35,7 +35,8 @@ truthWord k count = sum (tab (λ b. truthBit k count b * 2 ^ b) (2 ^ operandWord
 -- operands as in the block, constants too; absent ones are constant 0
 unfoldable pub cellWords : ℕ → Gate → List ℕ
 cellWords n g =
-    tab (λ i. nodeWord n (getD (g .operands) i (constant false))) operandWords ++ (truthWord (g .kind) (length (g .operands)) ∷ [])
+    tab (λ i. nodeWord n (getD (g .operands) i (constant false))) operandWords
+    ++ (truthWord (g .kind) (length (g .operands)) ∷ [])
 
 unfoldable pub cellsOf : Block → List ℕ
 cellsOf b = joined (map (cellWords (inputCount b)) (b .gates))
@@ -59,7 +60,10 @@ unfoldable pub cellCount : List ℕ → ℕ
 cellCount ws = length ws / cellSize
 
 unfoldable pub cellAt : ℕ → List ℕ → ℕ → Cell
-cellAt n ws at = record { operands = tab (λ i. operandOf n (getD ws (at + i) 0)) operandWords; truth = getD ws (at + operandWords) 0 }
+cellAt n ws at = record {
+  operands = tab (λ i. operandOf n (getD ws (at + i) 0)) operandWords;
+  truth = getD ws (at + operandWords) 0;
+}
 
 unfoldable pub cellsIn : ℕ → List ℕ → List Cell
 cellsIn n ws = tab (λ j. cellAt n ws (cellSize * j)) (cellCount ws)

@@ -35,7 +35,8 @@ sameInterface ours theirs = sameNames (ours .inputs) (theirs .inputs) && sameNam
 
 -- output o shows another value in theirs
 unfoldable pub differs : Block → Block → ℕ → ℕ → Bool
-differs ours theirs s o = not (eqb (code (getD (outputsUnder ours s) o undefined)) (code (getD (outputsUnder theirs s) o undefined)))
+differs ours theirs s o =
+    not (eqb (code (getD (outputsUnder ours s) o undefined)) (code (getD (outputsUnder theirs s) o undefined)))
 
 -- setting number s counts, and some output shows another value
 unfoldable pub disagrees : Block → Block → ℕ → Bool
@@ -67,8 +68,8 @@ compare ours theirs =
     (refuseIf (not (sameInterface (decode ours) (decode theirs))) InterfaceMismatch
     (compareBlocks (decode ours) (decode theirs)))))
 
--- ---- What Compare answers as sentences over settings and outputs; crates/op_compare shows that the operation answers by
--- them
+-- ---- What Compare answers as sentences over settings and outputs; crates/op_compare shows that the operation answers
+-- by them
 
 -- output o shows the same value in both under setting number s
 abbrev pub Agree : Block → Block → ℕ → ℕ → Type 0
@@ -76,7 +77,8 @@ Agree ours theirs s o = getD (outputsUnder ours s) o undefined ≡ getD (outputs
 
 -- theirs is accepted: under every settled setting of ours that may come all outputs agree
 abbrev pub Accepts : Block → Block → Type 0
-Accepts ours theirs = (s : ℕ) → s < settingCount ours → isCounted ours s ≡ true → (o : ℕ) → o < outputCount ours → Agree ours theirs s o
+Accepts ours theirs = (s : ℕ) → s < settingCount ours → isCounted ours s ≡ true → (o : ℕ) → o < outputCount ours
+    → Agree ours theirs s o
 
 -- theirs is not accepted, and s is the lowest setting, and there o the lowest output, at which they disagree
 pub record Disagreement (ours theirs : Block) (s o : ℕ) : Type 0 where

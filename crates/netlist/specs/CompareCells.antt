@@ -27,11 +27,13 @@ settingBits n s = tab (bit s) n
 
 -- what the node listed for output o shows in a run of the cells under setting number s
 unfoldable pub cellShown : ℕ → List ℕ → List ℕ → ℕ → ℕ → ℕ
-cellShown n cells shown s o = operandBit (settingBits n s) (cellValues n cells (settingBits n s)) (operandOf n (getD shown o 0))
+cellShown n cells shown s o =
+    operandBit (settingBits n s) (cellValues n cells (settingBits n s)) (operandOf n (getD shown o 0))
 
 -- output o of the block shows another value than the node listed for it
 unfoldable pub cellDiffers : Block → List ℕ → List ℕ → ℕ → ℕ → Bool
-cellDiffers b cells shown s o = not (eqb (code (getD (outputsUnder b s) o undefined)) (cellShown (inputCount b) cells shown s o))
+cellDiffers b cells shown s o =
+    not (eqb (code (getD (outputsUnder b s) o undefined)) (cellShown (inputCount b) cells shown s o))
 
 -- setting number s counts, and some output shows another value than the node listed for it
 unfoldable pub cellsDisagree : Block → List ℕ → List ℕ → ℕ → Bool
@@ -49,7 +51,8 @@ lowestCellDiffering b cells shown s = least (cellDiffers b cells shown s) (outpu
 -- lowest output, counted from 1, and the setting
 
 unfoldable pub cellsJudgedAt : Block → List ℕ → List ℕ → ℕ → Outcome
-cellsJudgedAt b cells shown s = cond (ltb s (settingCount b)) (done [] (lowestCellDiffering b cells shown s + 1) s) (done [] 0 0)
+cellsJudgedAt b cells shown s =
+    cond (ltb s (settingCount b)) (done [] (lowestCellDiffering b cells shown s + 1) s) (done [] 0 0)
 
 unfoldable pub compareBlockCells : Block → List ℕ → List ℕ → Outcome
 compareBlockCells b cells shown = cellsJudgedAt b cells shown (lowestCellDisagreement b cells shown)
@@ -83,4 +86,5 @@ pub record CellDisagreement (b : Block) (cells shown : List ℕ) (s o : ℕ) : T
   pub output : o < outputCount b
   pub other : CellAgrees b cells shown s o → ⊥
   pub lowerOutputs : (p : ℕ) → p < o → CellAgrees b cells shown s p
-  pub lowerSettings : (t : ℕ) → t < s → isCounted b t ≡ true → (p : ℕ) → p < outputCount b → CellAgrees b cells shown t p
+  pub lowerSettings : (t : ℕ) → t < s → isCounted b t ≡ true → (p : ℕ) → p < outputCount b
+      → CellAgrees b cells shown t p

@@ -10,30 +10,37 @@ use Rattle.netlist.specs.Values.{code, valueOf, invert, isDefined}
 use Rattle.netlist.specs.Kinds.{row, rows, rowOf, isNot, isXor, isXnor, isKind, signatureOf}
 use Rattle.netlist.specs.Kinds.{fewestOperands, mostOperands, arityFits, keyword, ruled, ones, parity, gateValue}
 use Rattle.netlist.specs.StoredBlock.{gatesAt, outputsAt}
-use Rattle.netlist.specs.Names.{isLetter, isDigit, isUnderscore, isNameByte, isNameStart, isLegalName, isPlainName}
-use Rattle.netlist.specs.StoredBlock.{nameWords, bytesAt, nameAt, nodeWord, operandOf, gateWords, gateAt, outputWords, outputAt, encode}
+use Rattle.netlist.specs.Names.{isLetter, isDigit, isUnderscore, isNameByte, isNameStart, isLegalName}
+use Rattle.netlist.specs.Names.{isPlainName}
+use Rattle.netlist.specs.StoredBlock.{nameWords, bytesAt, nameAt, nodeWord, operandOf, gateWords, gateAt}
+use Rattle.netlist.specs.StoredBlock.{outputWords, outputAt, encode}
 use Rattle.netlist.specs.Names.{isNodeName}
 use Rattle.netlist.specs.StoredBlock.{decode, isNode, isOperand, gateFits, isWellFormed, isMalformed}
 use Rattle.netlist.specs.Assignments.{bit}
-use Rattle.netlist.specs.Rounds.{operandValue, evaluated, round, afterRounds, isStable, rounds, settled, settingOf, settingCount, settledUnder}
-use Rattle.netlist.specs.Rounds.{outputsUnder, isSettled, outputValue}
+use Rattle.netlist.specs.Rounds.{operandValue, evaluated, round, afterRounds, isStable, rounds, settled}
+use Rattle.netlist.specs.Rounds.{settingOf, settingCount, settledUnder, outputsUnder, isSettled, outputValue}
 use Rattle.netlist.specs.Groups.{gateOperand, readBy}
 use Rattle.netlist.specs.Rendering.{isStraight}
-use Rattle.netlist.specs.Parse.{pure, stop, onTest, ifNext, expect, onParsed, bind, nameBytes, nameAfter, nameReader, kindReader, spaced, termsReader}
-use Rattle.netlist.specs.Parse.{exprReader, leafOr, termReader, addInput, addGate, addOutput, inputLine, gateLine, outputLine, atEnd, line}
+use Rattle.netlist.specs.Parse.{pure, stop, onTest, ifNext, expect, onParsed, bind, nameBytes, nameAfter}
+use Rattle.netlist.specs.Parse.{nameReader, kindReader, spaced, termsReader, exprReader, leafOr, termReader}
+use Rattle.netlist.specs.Parse.{addInput, addGate, addOutput, inputLine, gateLine, outputLine, atEnd, line}
 use Rattle.netlist.specs.Parse.{outputsReader, gatesReader, textReader, parse}
-use Rattle.netlist.specs.Reading.{gatesIn, lineGates, isOverLimit, mentions, linesLength, gateLinesAt, outputLinesAt, inputMention, gateMention}
-use Rattle.netlist.specs.Reading.{portMention, shownMention, termMentions, operandMentions, declaredNodes, declaredPorts, usedNames, firstRepeat}
-use Rattle.netlist.specs.Reading.{orElse, firstDuplicate, firstOutside, firstUndeclared, inputBindings, gateBindings, bindings, lookup, termNode}
-use Rattle.netlist.specs.Reading.{termsNodes, termGates, linesGates, blockOf}
-use Rattle.netlist.specs.Answers.{refusalNumber, refusalDetail, numberOf, countOf, detailOf, refuseIf, refuseAt, answerOf, leftIn}
+use Rattle.netlist.specs.Reading.{gatesIn, lineGates, isOverLimit, mentions, linesLength, gateLinesAt}
+use Rattle.netlist.specs.Reading.{outputLinesAt, inputMention, gateMention, portMention, shownMention}
+use Rattle.netlist.specs.Reading.{termMentions, operandMentions, declaredNodes, declaredPorts, usedNames}
+use Rattle.netlist.specs.Reading.{firstRepeat, orElse, firstDuplicate, firstOutside, firstUndeclared}
+use Rattle.netlist.specs.Reading.{inputBindings, gateBindings, bindings, lookup, termNode, termsNodes, termGates}
+use Rattle.netlist.specs.Reading.{linesGates, blockOf}
+use Rattle.netlist.specs.Answers.{refusalNumber, refusalDetail, numberOf, countOf, detailOf, refuseIf, refuseAt}
+use Rattle.netlist.specs.Answers.{answerOf, leftIn}
 use Rattle.netlist.specs.Operations.{counted, readTree, readParsed, readText}
-use Rattle.netlist.specs.Compare.{sameNames, ports, sameInterface, differs, disagrees, lowestDisagreement, lowestDiffering, judgedAt}
-use Rattle.netlist.specs.Compare.{compareBlocks, compare}
-use Rattle.netlist.specs.Cells.{cellCount, cellAt, cellsIn, isEarlier, readsEarlier, areLegalCells, operandBit, numberOfBits, cellValue, runFrom}
-use Rattle.netlist.specs.Cells.{cellValues}
-use Rattle.netlist.specs.CompareCells.{isListed, settingBits, cellShown, cellDiffers, cellsDisagree, lowestCellDisagreement, lowestCellDiffering}
-use Rattle.netlist.specs.CompareCells.{cellsJudgedAt, compareBlockCells, compareCells}
+use Rattle.netlist.specs.Compare.{sameNames, ports, sameInterface, differs, disagrees, lowestDisagreement}
+use Rattle.netlist.specs.Compare.{lowestDiffering, judgedAt, compareBlocks, compare}
+use Rattle.netlist.specs.Cells.{cellCount, cellAt, cellsIn, isEarlier, readsEarlier, areLegalCells, operandBit}
+use Rattle.netlist.specs.Cells.{numberOfBits, cellValue, runFrom, cellValues}
+use Rattle.netlist.specs.CompareCells.{isListed, settingBits, cellShown, cellDiffers, cellsDisagree}
+use Rattle.netlist.specs.CompareCells.{lowestCellDisagreement, lowestCellDiffering, cellsJudgedAt}
+use Rattle.netlist.specs.CompareCells.{compareBlockCells, compareCells}
 use Rattle.netlist.specs.Specimens.{report, blockWords, with}
 use Rattle.netlist.specs.StoredBlock.{neversAt, neverWords, neverAt, neverFits}
 use Rattle.netlist.specs.Assignments.{areMasks}
@@ -42,7 +49,8 @@ use Rattle.netlist.specs.Syntax.{printNever}
 use Rattle.netlist.specs.Parse.{neverPairs, addNever, neverLine, neversReader}
 use Rattle.netlist.specs.Reading.{neverLinesAt, neverMentions, excludedNames, lesser, firstRepeatIn, assignmentOf}
 use Rattle.netlist.specs.Assignments.{fixes, agrees, isWithin, maskOf, isOne}
-use Rattle.netlist.specs.Syntax.{valueText, pairText, printPair, printLines, printInput, printGate, printOutput, printTerm}
+use Rattle.netlist.specs.Syntax.{valueText, pairText, printPair, printLines, printInput, printGate, printOutput}
+use Rattle.netlist.specs.Syntax.{printTerm}
 use Rattle.netlist.specs.Parse.{bitReader, pairReader, spacedPair, pairsReader}
 use Rattle.netlist.specs.Reading.{pairMention, givenValue}
 
@@ -76,7 +84,8 @@ comparisons =
     -- no setting is settled
     ∷ texts "(gate p (not p))\n(out y p)\n" "(gate q (and 0 0))\n(out y q)\n" accepted
     -- a setting that ours excludes does not count; what theirs excludes does
-    ∷ texts "(in a)\n(in b)\n(never (a 0))\n(gate p (and a q))\n(gate q (or b p))\n(out y q)\n(out z p)\n" "(in a)\n(in b)\n(out y b)\n(out z b)\n" accepted
+    ∷ texts "(in a)\n(in b)\n(never (a 0))\n(gate p (and a q))\n(gate q (or b p))\n(out y q)\n(out z p)\n"
+    "(in a)\n(in b)\n(out y b)\n(out z b)\n" accepted
     ∷ texts looped "(in a)\n(in b)\n(never (a 0))\n(out y b)\n(out z b)\n" (0 ∷ 2 ∷ 2 ∷ [])
     -- 12: a port in another place, another name, an input more
     ∷ texts looped "(in a)\n(in b)\n(out z a)\n(out y b)\n" (with 12 0)
@@ -92,20 +101,23 @@ comparisons =
 
 -- All comparisons of blocks come out as stated.
 pub comparisons-hold : all holds comparisons ≡ true
-unfolding code valueOf invert isDefined row rows rowOf isNot isXor isXnor isKind signatureOf fewestOperands mostOperands arityFits keyword ruled ones
-    parity gateValue gatesAt outputsAt isLetter isDigit isUnderscore isNameByte isNameStart isLegalName isPlainName isNodeName nameWords bytesAt
-    nameAt nodeWord operandOf gateWords gateAt outputWords outputAt encode decode isNode isOperand gateFits isWellFormed isMalformed operandValue evaluated
-    round afterRounds isStable rounds settled bit settingOf settingCount settledUnder isSettled outputValue gateOperand readBy isStraight pure stop
-    onTest ifNext expect onParsed bind nameBytes nameAfter nameReader kindReader spaced termsReader exprReader leafOr termReader addInput addGate
-    addOutput inputLine gateLine outputLine atEnd line outputsReader gatesReader textReader parse gatesIn lineGates isOverLimit mentions linesLength
-    gateLinesAt outputLinesAt inputMention gateMention portMention shownMention termMentions operandMentions declaredNodes declaredPorts usedNames
-    firstRepeat orElse firstDuplicate firstOutside firstUndeclared inputBindings gateBindings bindings lookup termNode termsNodes termGates linesGates
-    blockOf refusalNumber refusalDetail numberOf countOf detailOf refuseIf refuseAt answerOf leftIn counted readTree readParsed readText report
-    blockWords with sameNames ports sameInterface outputsUnder differs disagrees lowestDisagreement lowestDiffering judgedAt compareBlocks compare
-    holds texts accepted looped comparisons neversAt neverWords neverAt neverFits areMasks isExcluded isCounted isSoundAt printNever neverPairs
-    addNever neverLine neversReader neverLinesAt neverMentions excludedNames lesser firstRepeatIn assignmentOf fixes agrees isWithin maskOf isOne
-    valueText pairText printPair bitReader pairReader spacedPair pairsReader pairMention givenValue printLines printInput printGate printOutput
-    printTerm
+unfolding code valueOf invert isDefined row rows rowOf isNot isXor isXnor isKind signatureOf fewestOperands mostOperands
+    arityFits keyword ruled ones parity gateValue gatesAt outputsAt isLetter isDigit isUnderscore isNameByte isNameStart
+    isLegalName isPlainName isNodeName nameWords bytesAt nameAt nodeWord operandOf gateWords gateAt outputWords outputAt
+    encode decode isNode isOperand gateFits isWellFormed isMalformed operandValue evaluated round afterRounds isStable
+    rounds settled bit settingOf settingCount settledUnder isSettled outputValue gateOperand readBy isStraight pure stop
+    onTest ifNext expect onParsed bind nameBytes nameAfter nameReader kindReader spaced termsReader exprReader leafOr
+    termReader addInput addGate addOutput inputLine gateLine outputLine atEnd line outputsReader gatesReader textReader
+    parse gatesIn lineGates isOverLimit mentions linesLength gateLinesAt outputLinesAt inputMention gateMention
+    portMention shownMention termMentions operandMentions declaredNodes declaredPorts usedNames firstRepeat orElse
+    firstDuplicate firstOutside firstUndeclared inputBindings gateBindings bindings lookup termNode termsNodes termGates
+    linesGates blockOf refusalNumber refusalDetail numberOf countOf detailOf refuseIf refuseAt answerOf leftIn counted
+    readTree readParsed readText report blockWords with sameNames ports sameInterface outputsUnder differs disagrees
+    lowestDisagreement lowestDiffering judgedAt compareBlocks compare holds texts accepted looped comparisons neversAt
+    neverWords neverAt neverFits areMasks isExcluded isCounted isSoundAt printNever neverPairs addNever neverLine
+    neversReader neverLinesAt neverMentions excludedNames lesser firstRepeatIn assignmentOf fixes agrees isWithin maskOf
+    isOne valueText pairText printPair bitReader pairReader spacedPair pairsReader pairMention givenValue printLines
+    printInput printGate printOutput printTerm
 comparisons-hold = refl
 
 -- ---- CompareCells: the block's words, the cells' words, the list of shown nodes, and the answer
@@ -145,20 +157,22 @@ cellComparisons =
     ∷ []
 
 pub cellComparisons-hold : all cellsHold cellComparisons ≡ true
-unfolding code valueOf invert isDefined row rows rowOf isNot isXor isXnor isKind signatureOf fewestOperands mostOperands arityFits keyword ruled ones
-    parity gateValue gatesAt outputsAt isLetter isDigit isUnderscore isNameByte isNameStart isLegalName isPlainName isNodeName nameWords bytesAt
-    nameAt nodeWord operandOf gateWords gateAt outputWords outputAt encode decode isNode isOperand gateFits isWellFormed isMalformed operandValue evaluated
-    round afterRounds isStable rounds settled bit settingOf settingCount settledUnder isSettled outputValue gateOperand readBy isStraight pure stop
-    onTest ifNext expect onParsed bind nameBytes nameAfter nameReader kindReader spaced termsReader exprReader leafOr termReader addInput addGate
-    addOutput inputLine gateLine outputLine atEnd line outputsReader gatesReader textReader parse gatesIn lineGates isOverLimit mentions linesLength
-    gateLinesAt outputLinesAt inputMention gateMention portMention shownMention termMentions operandMentions declaredNodes declaredPorts usedNames
-    firstRepeat orElse firstDuplicate firstOutside firstUndeclared inputBindings gateBindings bindings lookup termNode termsNodes termGates linesGates
-    blockOf refusalNumber refusalDetail numberOf countOf detailOf refuseIf refuseAt answerOf leftIn counted readTree readParsed readText report
-    blockWords with outputsUnder
-    accepted looped neversAt neverWords neverAt neverFits areMasks isExcluded isCounted isSoundAt printNever neverPairs
-    addNever neverLine neversReader neverLinesAt neverMentions excludedNames lesser firstRepeatIn assignmentOf fixes agrees isWithin maskOf isOne
-    valueText pairText printPair bitReader pairReader spacedPair pairsReader pairMention givenValue printLines printInput printGate printOutput
-    printTerm operandBit cellCount cellAt cellsIn isEarlier readsEarlier areLegalCells numberOfBits cellValue runFrom
-    cellValues isListed settingBits cellShown cellDiffers cellsDisagree lowestCellDisagreement lowestCellDiffering cellsJudgedAt compareBlockCells
-    compareCells cellsHold ofLooped inverter cellComparisons
+unfolding code valueOf invert isDefined row rows rowOf isNot isXor isXnor isKind signatureOf fewestOperands mostOperands
+    arityFits keyword ruled ones parity gateValue gatesAt outputsAt isLetter isDigit isUnderscore isNameByte isNameStart
+    isLegalName isPlainName isNodeName nameWords bytesAt nameAt nodeWord operandOf gateWords gateAt outputWords outputAt
+    encode decode isNode isOperand gateFits isWellFormed isMalformed operandValue evaluated round afterRounds isStable
+    rounds settled bit settingOf settingCount settledUnder isSettled outputValue gateOperand readBy isStraight pure stop
+    onTest ifNext expect onParsed bind nameBytes nameAfter nameReader kindReader spaced termsReader exprReader leafOr
+    termReader addInput addGate addOutput inputLine gateLine outputLine atEnd line outputsReader gatesReader textReader
+    parse gatesIn lineGates isOverLimit mentions linesLength gateLinesAt outputLinesAt inputMention gateMention
+    portMention shownMention termMentions operandMentions declaredNodes declaredPorts usedNames firstRepeat orElse
+    firstDuplicate firstOutside firstUndeclared inputBindings gateBindings bindings lookup termNode termsNodes termGates
+    linesGates blockOf refusalNumber refusalDetail numberOf countOf detailOf refuseIf refuseAt answerOf leftIn counted
+    readTree readParsed readText report blockWords with outputsUnder accepted looped neversAt neverWords neverAt
+    neverFits areMasks isExcluded isCounted isSoundAt printNever neverPairs addNever neverLine neversReader neverLinesAt
+    neverMentions excludedNames lesser firstRepeatIn assignmentOf fixes agrees isWithin maskOf isOne valueText pairText
+    printPair bitReader pairReader spacedPair pairsReader pairMention givenValue printLines printInput printGate
+    printOutput printTerm operandBit cellCount cellAt cellsIn isEarlier readsEarlier areLegalCells numberOfBits
+    cellValue runFrom cellValues isListed settingBits cellShown cellDiffers cellsDisagree lowestCellDisagreement
+    lowestCellDiffering cellsJudgedAt compareBlockCells compareCells cellsHold ofLooped inverter cellComparisons
 cellComparisons-hold = refl

@@ -48,4 +48,5 @@ maxNeverLine = 8 + (5 + maxName) * maxInputs
 -- bytes of the longest written text (7.11): `(in NAME)`, never lines, `(gate `, a name, ` (nand` with four names and
 -- `))`, and `(out PORT NAME)`, each with its LF
 abbrev pub maxWritten : ℕ
-maxWritten = (6 + maxName) * maxInputs + maxNeverLine * maxNevers + (15 + 4 * (1 + maxName)) * maxGates + maxGateNames + (8 + 2 * maxName) * maxOutputs
+maxWritten = (6 + maxName) * maxInputs + maxNeverLine * maxNevers + (15 + 4 * (1 + maxName)) * maxGates + maxGateNames
+    + (8 + 2 * maxName) * maxOutputs

@@ -7,8 +7,9 @@ use mathlib.Core.List.{List, [], map}
 use lib.ListN.{length}
 use lib.Dec.{eqb, leb, ltb}
 use Rattle.prelude.specs.Lists.{all}
-use Rattle.netlist.specs.declared.Refusal.the-variants.{TextTooLong, SyntaxError, OverLimit, DuplicateDeclaration, UndeclaredName, MalformedBlock}
-use Rattle.netlist.specs.declared.Refusal.the-variants.{BadSetting, TooManyCopies, NotSettled, NotStraight}
+use Rattle.netlist.specs.declared.Refusal.the-variants.{TextTooLong, SyntaxError, OverLimit, DuplicateDeclaration}
+use Rattle.netlist.specs.declared.Refusal.the-variants.{UndeclaredName, MalformedBlock, BadSetting, TooManyCopies}
+use Rattle.netlist.specs.declared.Refusal.the-variants.{NotSettled, NotStraight}
 use Rattle.netlist.specs.Limits.{maxText, maxCopies}
 use Rattle.netlist.specs.Values.{Value, code, valueOf}
 use Rattle.netlist.specs.Netlist.{Block, inputCount, gateCount}

@@ -173,7 +173,8 @@ unfoldable pub gateLine : Reader Tree → Reader Tree → Reader Tree
 gateLine others otherwise =
     ifNext (is "g") (λ _. expect (ascii "ate ")
     (bind (nameReader isNameStart) (λ s. expect (ascii " (")
-    (bind (exprReader (termReader (maxDepth - 1)) (λ k ts. record { name = s; kind = k; terms = ts })) (λ g. expect (ascii ")\n")
+    (bind (exprReader (termReader (maxDepth - 1)) (λ k ts. record { name = s; kind = k; terms = ts }))
+    (λ g. expect (ascii ")\n")
     (bind others (λ t. pure (addGate g t))))))))
     otherwise
 
@@ -205,14 +206,16 @@ gatesReader (suc more) s = line (gateLine (λ r. gatesReader more r) (outputLine
 unfoldable pub neversReader : ℕ → Reader Tree
 neversReader zero s = atEnd s
 neversReader (suc more) s =
-    line (neverLine (λ r. neversReader more r) (gateLine (λ r. gatesReader more r) (outputLine (λ r. outputsReader more r) stop))) s
+    line (neverLine (λ r. neversReader more r)
+    (gateLine (λ r. gatesReader more r) (outputLine (λ r. outputsReader more r) stop))) s
 
 unfoldable pub textReader : ℕ → Reader Tree
 textReader zero s = atEnd s
 textReader (suc more) s =
     line
     (inputLine (λ r. textReader more r)
-    (neverLine (λ r. neversReader more r) (gateLine (λ r. gatesReader more r) (outputLine (λ r. outputsReader more r) stop))))
+    (neverLine (λ r. neversReader more r)
+    (gateLine (λ r. gatesReader more r) (outputLine (λ r. outputsReader more r) stop))))
     s
 
 -- the tree of a whole text; no text has more lines than bytes

@@ -26,7 +26,8 @@ afterPasses b group s p = run b (settingOf (inputCount b) s) (repeated p group) 
 -- after so many passes each gate of the group has its settled value, under one setting
 unfoldable pub areSettled : Block → List ℕ → ℕ → ℕ → Bool
 areSettled b group s p =
-    all (λ j. eqb (code (getD (afterPasses b group s p) j undefined)) (code (getD (settledUnder b s) j undefined))) group
+    all (λ j. eqb (code (getD (afterPasses b group s p) j undefined)) (code (getD (settledUnder b s) j undefined)))
+    group
 
 -- so many passes are enough for the group under every setting that may come
 unfoldable pub areEnough : Block → List ℕ → ℕ → Bool

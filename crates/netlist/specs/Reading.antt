@@ -94,7 +94,8 @@ operandMentions g at = termMentions (apply (g .kind) (g .terms)) (at + length (a
 
 -- inputs and gates are declared in one set of names, ports in another
 unfoldable pub declaredNodes : Tree → List Mention
-declaredNodes t = mentions printInput inputMention (t .inputs) 0 ++ mentions printGate gateMention (t .gates) (gateLinesAt t)
+declaredNodes t = mentions printInput inputMention (t .inputs) 0
+    ++ mentions printGate gateMention (t .gates) (gateLinesAt t)
 
 unfoldable pub declaredPorts : Tree → List Mention
 declaredPorts t = mentions printOutput portMention (t .outputs) (outputLinesAt t)
@@ -129,7 +130,8 @@ lesser (some p) (some q) = some (cond (leb p q) p q)
 -- `at`; a name may stand in two of them
 unfoldable pub firstRepeatIn : List (List Pair) → ℕ → Option ℕ
 firstRepeatIn [] at = none
-firstRepeatIn (ps ∷ rest) at = orElse (firstRepeat [] (neverMentions ps at)) (firstRepeatIn rest (at + length (printNever ps [])))
+firstRepeatIn (ps ∷ rest) at =
+    orElse (firstRepeat [] (neverMentions ps at)) (firstRepeatIn rest (at + length (printNever ps [])))
 
 -- refusal 4 of a text: every node is declared before every port
 unfoldable pub firstDuplicate : Tree → Option ℕ

@@ -55,7 +55,8 @@ rendering b =
       inputs = b .inputs;
       nevers = b .nevers;
       gates = copies b (noCopies b) 0 (schedule b);
-      outputs = map (λ (o : Output). record { port = o .port; node = copiedOperand (lastCopies b) (o .node) }) (b .outputs);
+      outputs =
+          map (λ (o : Output). record { port = o .port; node = copiedOperand (lastCopies b) (o .node) }) (b .outputs);
     }
 
 -- a block is straight: every gate that is read has a lower number than the gate that reads it

@@ -1,5 +1,5 @@
--- The bench (SPECIFICATION 8.2): a set line `(set (NAME VALUE) ...)` with its LF; its tree is the list of its pairs. What it looks like,
--- which are legal for a number of inputs, and the reader.
+-- The bench (SPECIFICATION 8.2): a set line `(set (NAME VALUE) ...)` with its LF; its tree is the list of its pairs.
+-- What it looks like, which are legal for a number of inputs, and the reader.
 use Prim.Native.Nat.{ℕ}
 use mathlib.Core.Bool.{Bool, _&&_}
 use mathlib.Core.List.{List, _++_}

@@ -37,10 +37,22 @@ outputValues b x state = map (outputValue x state) (b .outputs)
 
 -- the record of these two masks of inputs that shows these values at the outputs
 unfoldable pub showing : ℕ → ℕ → List Value → Record
-showing fixed ones vs = record { fixed = fixed; ones = ones; number = 0; defined = maskOf isDefined vs; values = maskOf isOne vs }
+showing fixed ones vs = record {
+  fixed = fixed;
+  ones = ones;
+  number = 0;
+  defined = maskOf isDefined vs;
+  values = maskOf isOne vs;
+}
 
 unfoldable pub refusedRecord : ℕ → ℕ → Record
-refusedRecord fixed ones = record { fixed = fixed; ones = ones; number = refusalNumber BadSetting; defined = 0; values = 0 }
+refusedRecord fixed ones = record {
+  fixed = fixed;
+  ones = ones;
+  number = refusalNumber BadSetting;
+  defined = 0;
+  values = 0;
+}
 
 -- the outputs under the settled values
 unfoldable pub settledOutputs : Block → List Value → List Value

@@ -9,50 +9,60 @@ use mathlib.Core.List.{List, [], _∷_, _++_, map}
 use lib.ListN.{length, replicate}
 use Rattle.prelude.specs.Lists.{ascii, same, all, repeated, tab, joined}
 use Rattle.netlist.specs.declared.Record.{Record}
-use Rattle.netlist.specs.Limits.{maxText, maxInputs}
+use Rattle.netlist.specs.Limits.{maxInputs}
 use Rattle.netlist.specs.Values.{undefined, code, valueOf, invert, isDefined}
 use Rattle.netlist.specs.Netlist.{gateCount}
-use Rattle.netlist.specs.Kinds.{row, rows, rowOf, isNot, isXor, isXnor, isKind, signatureOf, fewestOperands, mostOperands, arityFits, keyword, ruled}
-use Rattle.netlist.specs.Kinds.{ones, parity, gateValue}
+use Rattle.netlist.specs.Kinds.{row, rows, rowOf, isNot, isXor, isXnor, isKind, signatureOf, fewestOperands}
+use Rattle.netlist.specs.Kinds.{mostOperands, arityFits, keyword, ruled, ones, parity, gateValue}
 use Rattle.netlist.specs.StoredBlock.{gatesAt, outputsAt}
-use Rattle.netlist.specs.Names.{isLetter, isDigit, isUnderscore, isNameByte, isNameStart, isLegalName, isPlainName}
-use Rattle.netlist.specs.StoredBlock.{nameWords, bytesAt, nameAt, nodeWord, operandOf, gateWords, gateAt, outputWords, outputAt, encode}
+use Rattle.netlist.specs.Names.{isLetter, isDigit, isUnderscore, isNameByte, isNameStart, isLegalName}
+use Rattle.netlist.specs.Names.{isPlainName}
+use Rattle.netlist.specs.StoredBlock.{nameWords, bytesAt, nameAt, nodeWord, operandOf, gateWords, gateAt}
+use Rattle.netlist.specs.StoredBlock.{outputWords, outputAt, encode}
 use Rattle.netlist.specs.Names.{isNodeName}
 use Rattle.netlist.specs.StoredBlock.{decode, isNode, isOperand, gateFits, isWellFormed, isMalformed}
 use Rattle.netlist.specs.Assignments.{bit}
-use Rattle.netlist.specs.Rounds.{operandValue, evaluated, round, afterRounds, isStable, rounds, settled, settingOf, settingCount, settledUnder}
-use Rattle.netlist.specs.Rounds.{isSettled, settledSettings, lowestUnsettled, outputValue, outputsUnder}
+use Rattle.netlist.specs.Rounds.{operandValue, evaluated, round, afterRounds, isStable, rounds, settled}
+use Rattle.netlist.specs.Rounds.{settingOf, settingCount, settledUnder, isSettled, settledSettings}
+use Rattle.netlist.specs.Rounds.{lowestUnsettled, outputValue, outputsUnder}
 use Rattle.netlist.specs.Assignments.{fixes, agrees, isWithin}
-use Rattle.netlist.specs.Cover.{isSoundUnder, isSound, without, isMinimal, assignmentsAt, assignments, cover, coverEntries}
-use Rattle.netlist.specs.Groups.{gateOperand, readBy, reads, has, grown, grownTimes, reach, reaches, sameGroup, groupOf, isReady, mayBeNext}
-use Rattle.netlist.specs.Groups.{groupsAfter, groups, groupNumber, groupNumbers}
+use Rattle.netlist.specs.Cover.{isSoundUnder, isSound, without, isMinimal, assignmentsAt, assignments, cover}
+use Rattle.netlist.specs.Cover.{coverEntries}
+use Rattle.netlist.specs.Groups.{gateOperand, readBy, reads, has, grown, grownTimes, reach, reaches, sameGroup}
+use Rattle.netlist.specs.Groups.{groupOf, isReady, mayBeNext, groupsAfter, groups, groupNumber, groupNumbers}
 use Rattle.netlist.specs.Passes.{beforePasses, afterPasses, areSettled, areEnough, passCount, copyCount}
-use Rattle.netlist.specs.Rendering.{passes, schedule, noCopies, copiedOperand, copied, copies, newestAfter, lastCopies, rendering, isStraight}
-use Rattle.netlist.specs.Rendering.{sweepFrom, sweep}
+use Rattle.netlist.specs.Rendering.{passes, schedule, noCopies, copiedOperand, copied, copies, newestAfter}
+use Rattle.netlist.specs.Rendering.{lastCopies, rendering, isStraight, sweepFrom, sweep}
 use Rattle.netlist.specs.Syntax.{printTerm, printInput, printGate, printOutput, printLines, print}
-use Rattle.netlist.specs.Parse.{pure, stop, onTest, ifNext, expect, onParsed, bind, nameBytes, nameAfter, nameReader, kindReader, spaced}
-use Rattle.netlist.specs.Parse.{termsReader, exprReader, leafOr, termReader, addInput, addGate, addOutput, inputLine, gateLine, outputLine, atEnd}
-use Rattle.netlist.specs.Parse.{line, outputsReader, gatesReader, textReader, parse}
-use Rattle.netlist.specs.Reading.{gatesIn, lineGates, isOverLimit, mentions, linesLength, gateLinesAt, outputLinesAt, inputMention, gateMention}
-use Rattle.netlist.specs.Reading.{portMention, shownMention, termMentions, operandMentions, declaredNodes, declaredPorts, usedNames, firstRepeat}
-use Rattle.netlist.specs.Reading.{orElse, firstDuplicate, firstOutside, firstUndeclared, inputBindings, gateBindings, bindings, lookup, termNode}
-use Rattle.netlist.specs.Reading.{termsNodes, termGates, linesGates, blockOf}
-use Rattle.netlist.specs.Writing.{digits, decimal, gateName, nodeNameOf, termOf, termsOf, flatLine, flatTree, writtenText}
+use Rattle.netlist.specs.Parse.{pure, stop, onTest, ifNext, expect, onParsed, bind, nameBytes, nameAfter}
+use Rattle.netlist.specs.Parse.{nameReader, kindReader, spaced, termsReader, exprReader, leafOr, termReader}
+use Rattle.netlist.specs.Parse.{addInput, addGate, addOutput, inputLine, gateLine, outputLine, atEnd, line}
+use Rattle.netlist.specs.Parse.{outputsReader, gatesReader, textReader, parse}
+use Rattle.netlist.specs.Reading.{gatesIn, lineGates, isOverLimit, mentions, linesLength, gateLinesAt}
+use Rattle.netlist.specs.Reading.{outputLinesAt, inputMention, gateMention, portMention, shownMention}
+use Rattle.netlist.specs.Reading.{termMentions, operandMentions, declaredNodes, declaredPorts, usedNames}
+use Rattle.netlist.specs.Reading.{firstRepeat, orElse, firstDuplicate, firstOutside, firstUndeclared}
+use Rattle.netlist.specs.Reading.{inputBindings, gateBindings, bindings, lookup, termNode, termsNodes, termGates}
+use Rattle.netlist.specs.Reading.{linesGates, blockOf}
+use Rattle.netlist.specs.Writing.{digits, decimal, gateName, nodeNameOf, termOf, termsOf, flatLine, flatTree}
+use Rattle.netlist.specs.Writing.{writtenText}
 use Rattle.netlist.specs.Line.{clamped, startBefore, untilLf, lineStart, lineEnd, lineLength, lineAt}
-use Rattle.netlist.specs.Answers.{Outcome, refusalNumber, refusalDetail, numberOf, countOf, detailOf, refuseIf, refuseAt, inRoom, answerOf, leftIn}
-use Rattle.netlist.specs.Operations.{counted, readTree, readParsed, readText, read, isBadSetting, settleBlock, settle, verdict, coverBlock, coverOf}
-use Rattle.netlist.specs.Operations.{groupsBlock, groupsOf, renderBlock, renderWords, render, passBlock, pass, writeWords, write}
+use Rattle.netlist.specs.Answers.{Outcome, refusalNumber, refusalDetail, numberOf, countOf, detailOf, refuseIf}
+use Rattle.netlist.specs.Answers.{refuseAt, inRoom, answerOf, leftIn}
+use Rattle.netlist.specs.Operations.{counted, readTree, readParsed, readText, read, isBadSetting, settleBlock}
+use Rattle.netlist.specs.Operations.{settle, verdict, coverBlock, coverOf, groupsBlock, groupsOf, renderBlock}
+use Rattle.netlist.specs.Operations.{renderWords, render, passBlock, pass, writeWords, write}
 use Rattle.netlist.specs.Assignments.{maskOf, isOne}
-use Rattle.netlist.specs.Sheet.{inputByte, settingBytes, isBadMasks, outputValues, showing, refusedRecord, settledOutputs, recordOf}
-use Rattle.netlist.specs.Sheet.{answeredRecord, sheetRecords, sheet}
+use Rattle.netlist.specs.Sheet.{inputByte, settingBytes, isBadMasks, outputValues, showing, refusedRecord}
+use Rattle.netlist.specs.Sheet.{settledOutputs, recordOf, answeredRecord, sheetRecords, sheet}
 use Rattle.netlist.specs.Program.{chained, refusalLine, shown, unloop}
 use Rattle.netlist.specs.Syntax.{valueText, pairText, printPair}
 use Rattle.netlist.specs.Parse.{bitReader, pairReader, spacedPair, pairsReader}
 use Rattle.netlist.specs.SetLine.{setLineReader}
 use Rattle.netlist.specs.Reading.{pairMention, givenValue}
-use Rattle.netlist.specs.Bench.{givenNames, givenValues, portText, showLine, pairsOutcome, parsedOutcome, lineOutcome}
-use Rattle.netlist.specs.Bench.{answerLine, lineAnswer, netlistFrom, settingsFrom, netlistPart, settingsPart, lastLine, linesFrom, linesOf}
-use Rattle.netlist.specs.Bench.{lineAnswers, benchAfter, bench}
+use Rattle.netlist.specs.Bench.{givenNames, givenValues, portText, showLine, pairsOutcome, parsedOutcome}
+use Rattle.netlist.specs.Bench.{lineOutcome, answerLine, lineAnswer, netlistFrom, settingsFrom, netlistPart}
+use Rattle.netlist.specs.Bench.{settingsPart, lastLine, linesFrom, linesOf, lineAnswers, benchAfter, bench}
 use Rattle.netlist.specs.StoredBlock.{neversAt, neverWords, neverAt, neverFits}
 use Rattle.netlist.specs.Assignments.{areMasks}
 use Rattle.netlist.specs.Rounds.{isExcluded, isCounted, isSoundAt}
@@ -62,10 +72,12 @@ use Rattle.netlist.specs.Reading.{neverLinesAt, neverMentions, excludedN
 use Rattle.netlist.specs.Writing.{pairsOf}
 use Rattle.netlist.specs.Bring.{encodeBefore, brought, isMalformedBefore, bringWords, bring}
 use Rattle.netlist.specs.Steps.{stepAt, run}
-use Rattle.netlist.specs.Cells.{truthBit, truthWord, cellWords, cellsOf, makeWords, makeCells, cellCount, cellAt, cellsIn, isEarlier, readsEarlier}
-use Rattle.netlist.specs.Cells.{areLegalCells, isBadRun, operandBit, numberOfBits, cellValue, runFrom, cellValues, runCells}
-use Rattle.netlist.specs.Gather.{renumbered, renumberedGate, renumberedOutput, arranged, numberAt, placeIn, gatheredOrder, gathered, lacksRoom}
-use Rattle.netlist.specs.Gather.{gatherWith, gatheredWords, gather, gatherList, isPermutation, inverse, scattered, scatter}
+use Rattle.netlist.specs.Cells.{truthBit, truthWord, cellWords, cellsOf, makeWords, makeCells, cellCount, cellAt}
+use Rattle.netlist.specs.Cells.{cellsIn, isEarlier, readsEarlier, areLegalCells, isBadRun, operandBit}
+use Rattle.netlist.specs.Cells.{numberOfBits, cellValue, runFrom, cellValues, runCells}
+use Rattle.netlist.specs.Gather.{renumbered, renumberedGate, renumberedOutput, arranged, numberAt, placeIn}
+use Rattle.netlist.specs.Gather.{gatheredOrder, gathered, lacksRoom, gatherWith, gatheredWords, gather}
+use Rattle.netlist.specs.Gather.{gatherList, isPermutation, inverse, scattered, scatter}
 
 -- What is asked. Where an operation takes a block, the question gives the block's text or its words; `room` is the
 -- slice's length.
@@ -118,7 +130,8 @@ answered (toMakeCells ws room) = report (makeCells ws room)
 answered (toRunCells inputs cells setting room) = report (runCells inputs cells setting room)
 answered (toGather ws room listRoom) = report (gather ws room listRoom) ++ leftIn (gatherList ws room listRoom) []
 answered (toScatter ws order room) = report (scatter ws order room)
-answered (toStep ws setting gates) = map code (run (decode ws) (map valueOf setting) gates (replicate (gateCount (decode ws)) undefined))
+answered (toStep ws setting gates) =
+    map code (run (decode ws) (map valueOf setting) gates (replicate (gateCount (decode ws)) undefined))
 
 pub record Specimen : Type 0 where
   pub asked : Question
@@ -195,14 +208,16 @@ unordered = "(gate a (not d))\n(gate b (not 0))\n(gate c (and a 1))\n(gate d (no
 -- the words of the block above with its groups side by side, and the gates' old numbers
 unfoldable pub ordered : List ℕ
 ordered =
-    0 ∷ 4 ∷ 1 ∷ 0 ∷ 8 ∷ 65534 ∷ 0 ∷ 0 ∷ 0 ∷ 8 ∷ 65535 ∷ 0 ∷ 0 ∷ 0 ∷ 8 ∷ 1 ∷ 0 ∷ 0 ∷ 0 ∷ 17 ∷ 2 ∷ 65535 ∷ 0 ∷ 0 ∷ 121 ∷ 0 ∷ 0 ∷ 0 ∷ 3 ∷ []
+    0 ∷ 4 ∷ 1 ∷ 0 ∷ 8 ∷ 65534 ∷ 0 ∷ 0 ∷ 0 ∷ 8 ∷ 65535 ∷ 0 ∷ 0 ∷ 0 ∷ 8 ∷ 1 ∷ 0 ∷ 0 ∷ 0 ∷ 17 ∷ 2 ∷ 65535 ∷ 0 ∷ 0 ∷ 121 ∷ 0
+    ∷ 0 ∷ 0 ∷ 3 ∷ []
 
 unfoldable pub orderOf : List ℕ
 orderOf = 1 ∷ 3 ∷ 0 ∷ 2 ∷ []
 
 -- the cells of a straight block with a constant and absent operands
 unfoldable pub straightCells : List ℕ
-straightCells = 0 ∷ 65535 ∷ 65534 ∷ 65534 ∷ 34952 ∷ 0 ∷ 1 ∷ 65534 ∷ 65534 ∷ 38550 ∷ 2 ∷ 65534 ∷ 65534 ∷ 65534 ∷ 21845 ∷ []
+straightCells =
+    0 ∷ 65535 ∷ 65534 ∷ 65534 ∷ 34952 ∷ 0 ∷ 1 ∷ 65534 ∷ 65534 ∷ 38550 ∷ 2 ∷ 65534 ∷ 65534 ∷ 65534 ∷ 21845 ∷ []
 
 -- n inputs with names of their own, and one input line more than the limit with the same name each
 unfoldable pub inputLines : ℕ → List ℕ
@@ -272,9 +287,8 @@ specimens =
     ∷ (toRead (ascii "(out _y a)\n") 99 ⇒ with 2 5)
     ∷ (toRead (ascii "(out y 0)\n") 99 ⇒ with 2 7)
     ∷ (toRead (ascii "(gate p (not 0))\n(in a)\n") 99 ⇒ with 2 18)
-    -- 9.2: the order of Read's conditions
-    ∷ (toRead (replicate (suc maxText) 0) 0 ⇒ with 1 0)
-    ∷ (toRead (replicate maxText 0) 0 ⇒ with 2 0)
+    -- 9.2: the order of Read's conditions; the texts at the limit of 61,440 bytes are executed
+    -- (tests/tests/specimens.rs)
     ∷ (toRead (tooManyInputs ++ ascii "(in") 0 ⇒ with 2 94)
     ∷ (toRead tooManyInputs 0 ⇒ with 3 0)
     ∷ (toRead (inputLines maxInputs) 0 ⇒ with 11 0)
@@ -301,7 +315,8 @@ specimens =
     ∷ (toSettle (blockWords parities) (1 ∷ 1 ∷ 1 ∷ 1 ∷ []) 6 ⇒ 0 ∷ 1 ∷ 0 ∷ 0 ∷ 1 ∷ 1 ∷ 0 ∷ 0 ∷ 1 ∷ [])
     ∷ (toSettle (blockWords parities) (0 ∷ 1 ∷ 0 ∷ 2 ∷ []) 6 ⇒ 0 ∷ 1 ∷ 0 ∷ 1 ∷ 0 ∷ 1 ∷ 0 ∷ 2 ∷ 2 ∷ [])
     ∷ (toSettle (blockWords parities) (2 ∷ 1 ∷ 1 ∷ 1 ∷ []) 6 ⇒ 0 ∷ 0 ∷ 0 ∷ 2 ∷ 2 ∷ 2 ∷ 2 ∷ 2 ∷ 2 ∷ [])
-    ∷ (toSettle (blockWords "(gate p (not p))\n(gate q (xor p p))\n(gate r (xnor p p))\n") [] 3 ⇒ 0 ∷ 0 ∷ 0 ∷ 2 ∷ 2 ∷ 2 ∷ [])
+    ∷ (toSettle (blockWords "(gate p (not p))\n(gate q (xor p p))\n(gate r (xnor p p))\n") [] 3
+    ⇒ 0 ∷ 0 ∷ 0 ∷ 2 ∷ 2 ∷ 2 ∷ [])
     -- 9.7: a loop with xor, rendered whole
     ∷ (toUnloop (ascii parityLoop)
     ⇒ ascii "(in a)\n(in s)\n(gate _0 (not s))\n(gate _1 (and s 0))\n(gate _2 (and _1 _0))\n"
@@ -353,7 +368,8 @@ specimens =
     ∷ (toShowLine (ascii "ab\n") 3 ⇒ [])
     -- 9.13, never lines: their words; one more than fits, a name again in one line and in two, and the least place of
     -- all repeats
-    ∷ (toRead (ascii "(in a)\n(in b)\n(never (b 1) (a 0))\n") 14 ⇒ 0 ∷ 14 ∷ 0 ∷ 2 ∷ 0 ∷ 0 ∷ 1 ∷ 97 ∷ 0 ∷ 0 ∷ 0 ∷ 98 ∷ 0 ∷ 0 ∷ 0 ∷ 3 ∷ 2 ∷ [])
+    ∷ (toRead (ascii "(in a)\n(in b)\n(never (b 1) (a 0))\n") 14
+    ⇒ 0 ∷ 14 ∷ 0 ∷ 2 ∷ 0 ∷ 0 ∷ 1 ∷ 97 ∷ 0 ∷ 0 ∷ 0 ∷ 98 ∷ 0 ∷ 0 ∷ 0 ∷ 3 ∷ 2 ∷ [])
     ∷ (toRead (ascii "(in a)\n" ++ repeated 8 (ascii "(never (a 1))\n")) 0 ⇒ with 11 0)
     ∷ (toRead (ascii "(in a)\n" ++ repeated 9 (ascii "(never (a 1))\n")) 0 ⇒ with 3 0)
     ∷ (toRead (ascii "(in a)\n(never (a 1) (a 0))\n(gate a (not q))\n") 0 ⇒ with 4 21)
@@ -381,27 +397,31 @@ specimens =
     ∷ (toJudge (blockWords never4) ⇒ 0 ∷ 3 ∷ 4 ∷ [])
     ∷ (toCover (blockWords never4) 2 ⇒ 0 ∷ 1 ∷ 0 ∷ 0 ∷ 0 ∷ [])
     ∷ (toUnloop (ascii never4)
-    ⇒ ascii "(in a)\n(in b)\n(never (a 1) (b 0))\n(gate _0 (and a 0))\n(gate _1 (or b _0))\n(gate _2 (and a _1))\n(gate _3 (or b _2))\n(out y _3)\n")
+    ⇒ ascii
+    "(in a)\n(in b)\n(never (a 1) (b 0))\n(gate _0 (and a 0))\n(gate _1 (or b _0))\n(gate _2 (and a _1))\n(gate _3 (or b _2))\n(out y _3)\n")
     ∷ (toSettle (blockWords never4) (1 ∷ 0 ∷ []) 2 ⇒ 0 ∷ 0 ∷ 0 ∷ 2 ∷ 2 ∷ [])
     ∷ (toJudge (blockWords "(in a)\n(never (a 0))\n(gate p (not a))\n(out y p)\n") ⇒ 0 ∷ 1 ∷ 2 ∷ [])
     -- all settings excluded
     ∷ (toJudge (blockWords neverAny) ⇒ 0 ∷ 0 ∷ 2 ∷ [])
     ∷ (toCover (blockWords neverAny) 2 ⇒ 0 ∷ 1 ∷ 0 ∷ 0 ∷ 0 ∷ [])
-    ∷ (toUnloop (ascii neverAny) ⇒ ascii "(in a)\n(never (a 0))\n(never (a 1))\n(never (a 0))\n(gate _0 (not 0))\n(out y _0)\n")
+    ∷ (toUnloop (ascii neverAny)
+    ⇒ ascii "(in a)\n(never (a 0))\n(never (a 1))\n(never (a 0))\n(gate _0 (not 0))\n(out y _0)\n")
     -- 9.13, Bring: a fourth count, 0; the words of today, or of more inputs than there were, are malformed to it
     ∷ (toBring (1 ∷ 0 ∷ 0 ∷ 97 ∷ 0 ∷ 0 ∷ 0 ∷ []) 8 ⇒ 0 ∷ 8 ∷ 0 ∷ 1 ∷ 0 ∷ 0 ∷ 0 ∷ 97 ∷ 0 ∷ 0 ∷ 0 ∷ [])
     ∷ (toBring (0 ∷ 0 ∷ 0 ∷ []) 3 ⇒ with 11 0)
     ∷ (toBring (0 ∷ 0 ∷ 0 ∷ 0 ∷ []) 0 ⇒ with 6 0)
     ∷ (toBring (0 ∷ 0 ∷ []) 0 ⇒ with 6 0)
     -- 9.14, cells: operands in order, absent ones constant 0; the word knows neither constants nor absent operands
-    ∷ (toMakeCells (blockWords "(in a)\n(gate p (and a 1))\n(gate q (xor a p 0))\n(gate r (not q))\n") 15 ⇒ 0 ∷ 15 ∷ 0 ∷ straightCells)
+    ∷ (toMakeCells (blockWords "(in a)\n(gate p (and a 1))\n(gate q (xor a p 0))\n(gate r (not q))\n") 15
+    ⇒ 0 ∷ 15 ∷ 0 ∷ straightCells)
     ∷ (toMakeCells (blockWords "(in a)\n(gate p (and a 1))\n") 4 ⇒ with 11 0)
     ∷ (toMakeCells (blockWords specimen4) 0 ⇒ with 10 0)
     ∷ (toMakeCells [] 0 ⇒ with 6 0)
     -- operand i is bit i of the place in the truth word; cells made elsewhere
     ∷ (toRunCells 1 straightCells (1 ∷ []) 3 ⇒ 0 ∷ 3 ∷ 0 ∷ 1 ∷ 0 ∷ 1 ∷ [])
     ∷ (toRunCells 1 straightCells (0 ∷ []) 3 ⇒ 0 ∷ 3 ∷ 0 ∷ 0 ∷ 0 ∷ 1 ∷ [])
-    ∷ (toRunCells 0 (65535 ∷ 65534 ∷ 65534 ∷ 65534 ∷ 2 ∷ 0 ∷ 65534 ∷ 65534 ∷ 0 ∷ 512 ∷ []) [] 2 ⇒ 0 ∷ 2 ∷ 0 ∷ 1 ∷ 1 ∷ [])
+    ∷ (toRunCells 0 (65535 ∷ 65534 ∷ 65534 ∷ 65534 ∷ 2 ∷ 0 ∷ 65534 ∷ 65534 ∷ 0 ∷ 512 ∷ []) [] 2
+    ⇒ 0 ∷ 2 ∷ 0 ∷ 1 ∷ 1 ∷ [])
     ∷ (toRunCells 12 [] (replicate 12 1) 0 ⇒ 0 ∷ 0 ∷ 0 ∷ [])
     -- malformed: an input too many, a cell cut off, one that reads itself, no node; then the setting, then the room
     ∷ (toRunCells 13 [] (replicate 13 1) 0 ⇒ with 6 0)
@@ -417,7 +437,8 @@ specimens =
     ∷ (toGather (blockWords unordered) 29 3 ⇒ with 11 0)
     -- a loop's gates are brought together, ascending
     ∷ (toGather (blockWords "(in s)\n(gate a (and s c))\n(gate b (not s))\n(gate c (or s a))\n(out y c)\n") 28 3
-    ⇒ 0 ∷ 28 ∷ 0 ∷ 1 ∷ 3 ∷ 1 ∷ 0 ∷ 115 ∷ 0 ∷ 0 ∷ 0 ∷ 17 ∷ 0 ∷ 2 ∷ 0 ∷ 0 ∷ 18 ∷ 0 ∷ 1 ∷ 0 ∷ 0 ∷ 8 ∷ 0 ∷ 0 ∷ 0 ∷ 0 ∷ 121 ∷ 0 ∷ 0 ∷ 0 ∷ 2 ∷ 0 ∷ 2 ∷ 1 ∷ [])
+    ⇒ 0 ∷ 28 ∷ 0 ∷ 1 ∷ 3 ∷ 1 ∷ 0 ∷ 115 ∷ 0 ∷ 0 ∷ 0 ∷ 17 ∷ 0 ∷ 2 ∷ 0 ∷ 0 ∷ 18 ∷ 0 ∷ 1 ∷ 0 ∷ 0 ∷ 8 ∷ 0 ∷ 0 ∷ 0 ∷ 0 ∷ 121
+    ∷ 0 ∷ 0 ∷ 0 ∷ 2 ∷ 0 ∷ 2 ∷ 1 ∷ [])
     ∷ (toGather [] 0 0 ⇒ with 6 0)
     ∷ (toScatter ordered orderOf 29 ⇒ 0 ∷ 29 ∷ 0 ∷ blockWords unordered)
     ∷ (toScatter ordered orderOf 28 ⇒ with 11 0)
@@ -442,7 +463,8 @@ specimens =
     ∷ (toCountPasses (blockWords "(gate p (and q 1))\n(gate q (and p 0))\n") ⇒ 2 ∷ [])
     ∷ (toCountPasses (blockWords "(in s)\n(never (s 1))\n(gate p (and s q))\n(gate q (or s p))\n") ⇒ 1 ∷ [])
     -- only the setting that isn't settled needs a second pass; each group has a number of its own
-    ∷ (toCountPasses (blockWords "(in s)\n(gate t (nand t s q))\n(gate p (and s q))\n(gate q (or s p t))\n(out y t)\n") ⇒ 2 ∷ [])
+    ∷ (toCountPasses (blockWords "(in s)\n(gate t (nand t s q))\n(gate p (and s q))\n(gate q (or s p t))\n(out y t)\n")
+    ⇒ 2 ∷ [])
     ∷ (toCountPasses (blockWords parityLoop) ⇒ 1 ∷ 2 ∷ [])
     -- a set line: partial settings, ports in file order, and the order 6, 2, 4, 5, 11
     ∷ (toAnswerLine (blockWords board) (ascii "(set (b 0))\n") 25 ⇒ 0 ∷ 25 ∷ 0 ∷ ascii "(show (z u) (y 0) (x u))\n")
@@ -460,7 +482,9 @@ specimens =
     ∷ (toAnswerLine (blockWords board) (ascii "(set (a u))\n") 0 ⇒ with 2 8)
     -- the bench: a refused line is answered and the next one read; a last line cut off; an empty line among the set
     -- lines
-    ∷ (toBench (ascii board ++ ascii "\n(set (b 1) (a 0))\n(set)\n(set (a 2))\n\n(set (a 1) (a 0))\n(set (h 1))\n(set (a 1))\n(set (a")
+    ∷ (toBench
+    (ascii board
+    ++ ascii "\n(set (b 1) (a 0))\n(set)\n(set (a 2))\n\n(set (a 1) (a 0))\n(set (h 1))\n(set (a 1))\n(set (a")
     ⇒ ascii "(show (z 1) (y 0) (x 0))\n(show (z u) (y u) (x u))\n(refused 2 8)\n(refused 2 0)\n(refused 4 12)\n"
     ++ ascii "(refused 5 6)\n(show (z 1) (y u) (x 1))\n(refused 2 7)\n")
     ∷ (toBench (ascii "(in a)\n\n(set (a 1))\n(set)") ⇒ ascii "(show)\n(refused 2 5)\n")
@@ -472,7 +496,8 @@ specimens =
     ∷ (toBench (ascii "(in a)\n\n\n(set)\n") ⇒ ascii "(refused 2 0)\n(show)\n")
     -- a sheet: settled outputs, inputs that are not fixed, a bit at n, a value bit on an input that is not fixed; and
     -- no records, and 6
-    ∷ (toFill (blockWords shown4) (asks 3 2 ∷ asks 3 1 ∷ asks 0 0 ∷ asks 2 2 ∷ asks 1 0 ∷ asks 4 0 ∷ asks 3 4 ∷ asks 1 3 ∷ [])
+    ∷ (toFill (blockWords shown4)
+    (asks 3 2 ∷ asks 3 1 ∷ asks 0 0 ∷ asks 2 2 ∷ asks 1 0 ∷ asks 4 0 ∷ asks 3 4 ∷ asks 1 3 ∷ [])
     ⇒ 0 ∷ 8 ∷ 0 ∷ 3 ∷ 2 ∷ 0 ∷ 3 ∷ 1 ∷ 3 ∷ 1 ∷ 0 ∷ 2 ∷ 2 ∷ 0 ∷ 0 ∷ 0 ∷ 0 ∷ 0 ∷ 2 ∷ 2 ∷ 0 ∷ 1 ∷ 1 ∷ 1 ∷ 0 ∷ 0 ∷ 2 ∷ 0
     ∷ 4 ∷ 0 ∷ 7 ∷ 0 ∷ 0 ∷ 3 ∷ 4 ∷ 7 ∷ 0 ∷ 0 ∷ 1 ∷ 3 ∷ 7 ∷ 0 ∷ 0 ∷ [])
     ∷ (toFill (blockWords shown4) [] ⇒ 0 ∷ 0 ∷ 0 ∷ [])
@@ -481,28 +506,39 @@ specimens =
 
 -- All specimens come out as stated.
 pub specimens-hold : all right specimens ≡ true
-unfolding code valueOf invert isDefined row rows rowOf isNot isXor isXnor isKind signatureOf fewestOperands mostOperands arityFits keyword ruled ones
-    parity gateValue gatesAt outputsAt isLetter isDigit isUnderscore isNameByte isNameStart isLegalName isPlainName isNodeName nameWords bytesAt
-    nameAt nodeWord operandOf gateWords gateAt outputWords outputAt encode decode isNode isOperand gateFits isWellFormed isMalformed operandValue evaluated
-    round afterRounds isStable rounds settled bit settingOf settingCount settledUnder isSettled settledSettings lowestUnsettled fixes agrees
-    isSoundUnder isSound without isMinimal isWithin assignmentsAt assignments cover coverEntries gateOperand readBy reads has grown grownTimes reach
-    reaches sameGroup groupOf isReady mayBeNext groupsAfter groups groupNumber groupNumbers beforePasses afterPasses areSettled areEnough passCount
-    copyCount passes schedule noCopies copiedOperand copied copies newestAfter lastCopies rendering isStraight sweepFrom sweep printTerm printInput
-    printGate printOutput printLines print pure stop onTest ifNext expect onParsed bind nameBytes nameAfter nameReader kindReader spaced termsReader
-    exprReader leafOr termReader addInput addGate addOutput inputLine gateLine outputLine atEnd line outputsReader gatesReader textReader parse
-    gatesIn lineGates isOverLimit mentions linesLength gateLinesAt outputLinesAt inputMention gateMention portMention shownMention termMentions
-    operandMentions declaredNodes declaredPorts usedNames firstRepeat orElse firstDuplicate firstOutside firstUndeclared inputBindings gateBindings
-    bindings lookup termNode termsNodes termGates linesGates blockOf digits decimal gateName nodeNameOf termOf termsOf flatLine flatTree writtenText
-    clamped startBefore untilLf lineStart lineEnd lineLength lineAt refusalNumber refusalDetail numberOf countOf detailOf refuseIf refuseAt inRoom
-    answerOf leftIn counted readTree readParsed readText read isBadSetting settleBlock settle verdict coverBlock coverOf groupsBlock groupsOf
-    renderBlock renderWords render passBlock pass writeWords write inputByte settingBytes isBadMasks maskOf isOne outputValues showing refusedRecord
-    settledOutputs recordOf answeredRecord sheetRecords sheet chained refusalLine shown unloop outputValue outputsUnder valueText pairText printPair
-    bitReader pairReader spacedPair pairsReader setLineReader pairMention givenNames givenValue givenValues portText showLine pairsOutcome
-    parsedOutcome lineOutcome answerLine lineAnswer netlistFrom settingsFrom netlistPart settingsPart lastLine linesFrom linesOf lineAnswers
-    benchAfter bench report asks fields answered right blockWords _⇒_ with specimen4 shown4 specimen6 rendered6 spare kinds board parities parityLoop specimens neversAt neverWords neverAt neverFits areMasks isExcluded isCounted isSoundAt printNever neverPairs addNever neverLine neversReader
-    neverLinesAt neverMentions excludedNames lesser firstRepeatIn assignmentOf pairsOf encodeBefore brought isMalformedBefore bringWords bring never11
-    never4 neverAny inputLines tooManyInputs stepAt run truthBit truthWord cellWords cellsOf makeWords makeCells cellCount cellAt cellsIn isEarlier
-    readsEarlier areLegalCells isBadRun operandBit numberOfBits cellValue runFrom cellValues runCells renumbered renumberedGate renumberedOutput
-    arranged numberAt placeIn gatheredOrder gathered lacksRoom gatherWith gatheredWords gather gatherList isPermutation inverse scattered scatter
+unfolding code valueOf invert isDefined row rows rowOf isNot isXor isXnor isKind signatureOf fewestOperands mostOperands
+    arityFits keyword ruled ones parity gateValue gatesAt outputsAt isLetter isDigit isUnderscore isNameByte isNameStart
+    isLegalName isPlainName isNodeName nameWords bytesAt nameAt nodeWord operandOf gateWords gateAt outputWords outputAt
+    encode decode isNode isOperand gateFits isWellFormed isMalformed operandValue evaluated round afterRounds isStable
+    rounds settled bit settingOf settingCount settledUnder isSettled settledSettings lowestUnsettled fixes agrees
+    isSoundUnder isSound without isMinimal isWithin assignmentsAt assignments cover coverEntries gateOperand readBy
+    reads has grown grownTimes reach reaches sameGroup groupOf isReady mayBeNext groupsAfter groups groupNumber
+    groupNumbers beforePasses afterPasses areSettled areEnough passCount copyCount passes schedule noCopies
+    copiedOperand copied copies newestAfter lastCopies rendering isStraight sweepFrom sweep printTerm printInput
+    printGate printOutput printLines print pure stop onTest ifNext expect onParsed bind nameBytes nameAfter nameReader
+    kindReader spaced termsReader exprReader leafOr termReader addInput addGate addOutput inputLine gateLine outputLine
+    atEnd line outputsReader gatesReader textReader parse gatesIn lineGates isOverLimit mentions linesLength gateLinesAt
+    outputLinesAt inputMention gateMention portMention shownMention termMentions operandMentions declaredNodes
+    declaredPorts usedNames firstRepeat orElse firstDuplicate firstOutside firstUndeclared inputBindings gateBindings
+    bindings lookup termNode termsNodes termGates linesGates blockOf digits decimal gateName nodeNameOf termOf termsOf
+    flatLine flatTree writtenText clamped startBefore untilLf lineStart lineEnd lineLength lineAt refusalNumber
+    refusalDetail numberOf countOf detailOf refuseIf refuseAt inRoom answerOf leftIn counted readTree readParsed
+    readText read isBadSetting settleBlock settle verdict coverBlock coverOf groupsBlock groupsOf renderBlock
+    renderWords render passBlock pass writeWords write inputByte settingBytes isBadMasks maskOf isOne outputValues
+    showing refusedRecord settledOutputs recordOf answeredRecord sheetRecords sheet chained refusalLine shown unloop
+    outputValue outputsUnder valueText pairText printPair bitReader pairReader spacedPair pairsReader setLineReader
+    pairMention givenNames givenValue givenValues portText showLine pairsOutcome parsedOutcome lineOutcome answerLine
+    lineAnswer netlistFrom settingsFrom netlistPart settingsPart lastLine linesFrom linesOf lineAnswers
+    benchAfter bench report asks fields answered right blockWords _⇒_ with specimen4 shown4 specimen6 rendered6 spare
+    kinds board parities parityLoop specimens neversAt neverWords neverAt neverFits areMasks isExcluded isCounted
+    isSoundAt printNever neverPairs addNever neverLine neversReader
+    neverLinesAt neverMentions excludedNames lesser firstRepeatIn assignmentOf pairsOf encodeBefore brought
+    isMalformedBefore bringWords bring never11
+    never4 neverAny inputLines tooManyInputs stepAt run truthBit truthWord cellWords cellsOf makeWords makeCells
+    cellCount cellAt cellsIn isEarlier
+    readsEarlier areLegalCells isBadRun operandBit numberOfBits cellValue runFrom cellValues runCells renumbered
+    renumberedGate renumberedOutput
+    arranged numberAt placeIn gatheredOrder gathered lacksRoom gatherWith gatheredWords gather gatherList isPermutation
+    inverse scattered scatter
     unordered ordered orderOf straightCells
 specimens-hold = refl

@@ -9,7 +9,8 @@ use Rattle.netlist.specs.Limits.{maxInputs, maxNevers, maxGates, maxOutp
 use Rattle.netlist.specs.Assignments.{Assignment, areMasks}
 use Rattle.netlist.specs.Kinds.{isKind, arityFits}
 use Rattle.netlist.specs.Names.{isPlainName}
-use Rattle.netlist.specs.Netlist.{Name, Operand, input, gate, constant, Gate, Output, Block, inputCount, gateCount, outputCount, neverCount}
+use Rattle.netlist.specs.Netlist.{Name, Operand, input, gate, constant, Gate, Output, Block, inputCount}
+use Rattle.netlist.specs.Netlist.{gateCount, outputCount, neverCount}
 
 -- ---- 2.1, where the parts stand: four counts, the names of inputs, the never lines, the gates, the outputs; a never
 -- line is two masks, an output its port and a node
@@ -139,7 +140,8 @@ neverFits b a = ltb 0 (a .fixed) && areMasks (inputCount b) (a .fixed) (a .ones)
 
 unfoldable pub isWellFormed : Block → Bool
 isWellFormed b =
-    leb (inputCount b) maxInputs && leb (gateCount b) maxGates && leb (outputCount b) maxOutputs && leb (neverCount b) maxNevers
+    leb (inputCount b) maxInputs && leb (gateCount b) maxGates && leb (outputCount b) maxOutputs && leb (neverCount b)
+    maxNevers
     && all isPlainName (b .inputs) && distinct (b .inputs)
     && all (neverFits b) (b .nevers)
     && all (gateFits b) (b .gates)

@@ -78,7 +78,8 @@ printPair p rest = pairText (p .name) (val (p .value)) rest
 
 -- the line of a gate
 unfoldable pub printGate : GateLine → List ℕ → List ℕ
-printGate g rest = ascii "(gate " ++ (g .name ++ (ascii " " ++ printTerm (apply (g .kind) (g .terms)) (ascii ")\n" ++ rest)))
+printGate g rest = ascii "(gate "
+    ++ (g .name ++ (ascii " " ++ printTerm (apply (g .kind) (g .terms)) (ascii ")\n" ++ rest)))
 
 -- the line of an output
 unfoldable pub printOutput : OutputLine → List ℕ → List ℕ
@@ -132,7 +133,8 @@ isLegalNever ps = leb 1 (length ps) && all isLegalPair ps
 
 unfoldable pub isLegalTree : Tree → Bool
 isLegalTree t =
-    all isPlainName (t .inputs) && all isLegalNever (t .nevers) && all isLegalGate (t .gates) && all isLegalOutput (t .outputs)
+    all isPlainName (t .inputs) && all isLegalNever (t .nevers) && all isLegalGate (t .gates) && all isLegalOutput
+    (t .outputs)
 
 -- ---- which texts are legal: for any sort of tree, by the test of a legal one and what each looks like
 
@@ -148,7 +150,8 @@ pub record ViableOf {A : Type 0} (isLegalTree : A → Bool) (print : A → List 
 
 -- Refusal 2 at this place: some legal text begins as this one does up to it, none with one byte more, or the text ends
 -- there.
-pub record FirstBadOf {A : Type 0} (isLegalTree : A → Bool) (print : A → List ℕ) (text : List ℕ) (place : ℕ) : Type 0 where
+pub record FirstBadOf {A : Type 0} (isLegalTree : A → Bool) (print : A → List ℕ) (text : List ℕ)
+    (place : ℕ) : Type 0 where
   pub illegal : LegalOf isLegalTree print text → ⊥
   pub begins : ViableOf isLegalTree print (take place text)
   pub bad : (place ≡ length text) ⊎ (ViableOf isLegalTree print (take (suc place) text) → ⊥)

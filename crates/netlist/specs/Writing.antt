@@ -6,7 +6,8 @@ use lib.ListN.{getD}
 use lib.Dec.{eqb, ltb}
 use Rattle.prelude.specs.Lists.{ascii, keep, upTo, tab}
 use Rattle.netlist.specs.Assignments.{bit, Assignment, fixes}
-use Rattle.netlist.specs.Netlist.{Name, Operand, input, gate, constant, Output, Block, inputCount, gateCount, gateOf}
+use Rattle.netlist.specs.Netlist.{Name, Operand, input, gate, constant, Output, Block, inputCount, gateCount}
+use Rattle.netlist.specs.Netlist.{gateOf}
 use Rattle.netlist.specs.Syntax.{Term, Terms, name, literal, nil, cons, GateLine, Pair, Tree, print}
 
 -- the decimal digits of a number, at most this many
@@ -45,7 +46,8 @@ flatLine b j = record { name = gateName j; kind = gateOf b j .kind; terms = term
 -- the pairs of a never line, by ascending input
 unfoldable pub pairsOf : Block → Assignment → List Pair
 pairsOf b a =
-    map (λ i. record { name = getD (b .inputs) i []; value = eqb (bit (a .ones) i) 1 }) (keep (fixes a) (upTo (inputCount b)))
+    map (λ i. record { name = getD (b .inputs) i []; value = eqb (bit (a .ones) i) 1 })
+    (keep (fixes a) (upTo (inputCount b)))
 
 unfoldable pub flatTree : Block → Tree
 flatTree b =

@@ -9,7 +9,8 @@ pub enum Refusal {
     SyntaxError(usize),
     // 3, crowded
     OverLimit,
-    // 4, twice: the least place of a declaration that has an equal one before it, or of a pin named again in a never line
+    // 4, twice: the least place of a declaration that has an equal one before it, or of a pin named again in a never
+    // line
     DuplicateDeclaration(usize),
     // 5, unknown: the least place of a name that is not declared, or of one in a never line that is no input
     UndeclaredName(usize),

@@ -5,7 +5,8 @@
 --   verdict-before, lowest-before   Verdict's count and detail: over all settings, as before
 --   sound-before            an assignment is sound when every setting that agrees with it is settled, as before
 --   rendered-before         the rendering's words of today are its old ones with a fourth count
---   torn-before, crowded-before   a block of more inputs than there were is torn to the old rules, and its text crowded
+--   torn-before, crowded-before   a block of more inputs than there were is malformed by the old rules, and its text is
+--                                 over a limit
 use mathlib.Core.Path.{_≡_, refl, sym, ap, fun-ext, _∙_}
 use mathlib.Core.Bool.{Bool, true, false, not, _||_}
 use mathlib.Core.List.{List, []}
@@ -26,7 +27,7 @@ use Rattle.netlist.specs.Syntax.{Tree}
 use Rattle.netlist.specs.Bring.{maxInputsBefore, encodeBefore, brought, isMalformedBefore}
 use Rattle.theory_encoding.proofs.Decoded.{decode-inputCount}
 use Rattle.op_bring.proofs.Words.{brought-nevers, encode-brought, whole-before, whole-long, word-before}
-use Rattle.op_bring.proofs.Words.{torn-brought, torn-inputs}
+use Rattle.op_bring.proofs.Words.{malformed-brought, malformed-inputs}
 
 pub record AsBefore (ws : List ℕ) : Type 0 where
   pub whole : isMalformed (brought ws) ≡ false
@@ -40,7 +41,7 @@ brought-back ws h =
     let (few, words) = whole-before ws h in
     record {
       whole =
-          sym (torn-brought ws long (rw (decode-inputCount (brought ws)
+          sym (malformed-brought ws long (rw (decode-inputCount (brought ws)
           ∙ sym (word-before ws 0 long (omega arith))) at few)) ∙ h;
       noLines = brought-nevers ws long;
       words = words;
@@ -82,12 +83,12 @@ module _ (b : Block) (e : b .nevers ≡ []) where
 
 -- ---- more inputs than there were
 
--- the old words of such a block are torn to the old rules
+-- the old words of such a block are malformed to the old rules
 pub torn-before : (b : Block) → maxInputsBefore < inputCount b → isMalformedBefore (encodeBefore b) ≡ true
 unfolding encodeBefore
-torn-before b many = torn-inputs (encodeBefore b) (omega arith) many
+torn-before b many = malformed-inputs (encodeBefore b) (omega arith) many
 
--- and the limit of before refuses its text: this is the first test of 3 with that limit
+-- the limit of before refuses the text of a tree with more inputs: this is the first test of 3 with that limit
 pub crowded-before : (t : Tree) → maxInputsBefore < length (t .inputs)
     → leb (length (t .inputs)) maxInputsBefore ≡ false
 crowded-before t many = lt-leb (length (t .inputs)) maxInputsBefore many

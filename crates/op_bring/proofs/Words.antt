@@ -2,8 +2,8 @@
 --   length-brought, brought-from       the number of words; all of them, one by one
 --   placed-over, placed-again          a longer list over a shorter one, and a list once more
 --   word-before, word-four, word-after where each stands
---   torn-short, torn-inputs, torn-long what the old rules refuse at once
---   torn-brought                       what is left: the old rules are today's, of the words with a fourth count
+--   malformed-short, malformed-inputs, malformed-long what the old rules refuse at once
+--   malformed-brought                       what is left: the old rules are today's, of the words with a fourth count
 --   encode-brought, whole-before       the words of today are the old ones with a fourth count; what the old rules say
 --   bring-start, bring-room            the conditions one after the other
 use mathlib.Core.Path.{_≡_, refl, sym, ap, subst, _∙_}
@@ -86,7 +86,7 @@ placed-over xs ys entry h =
     ∙ drop-drop k (length xs) entry
     ∙ ap (λ (n : ℕ). drop n entry) (sym e))
 
--- the same list once more
+-- a list placed over the slice that has it already changes nothing
 pub placed-again : (xs entry slice : List ℕ) → slice ≡ placed xs entry → slice ≡ placed xs slice
 placed-again xs entry slice e = e ∙ sym (placed-over xs xs entry (omega arith)) ∙ ap (placed xs) (sym e)
 
@@ -136,18 +136,18 @@ same-brought ws l =
     (sym (encode-brought (blockOf ws) (brought-nevers ws l)) ∙ same-eq _ _ h)))
 
 -- what is left of the old rules
-pub torn-brought : (ws : List ℕ) → 3 ≤ length ws → getD ws 0 0 ≤ maxInputsBefore
+pub malformed-brought : (ws : List ℕ) → 3 ≤ length ws → getD ws 0 0 ≤ maxInputsBefore
     → isMalformedBefore ws ≡ isMalformed (brought ws)
 unfolding isMalformedBefore isMalformed
-torn-brought ws l few =
+malformed-brought ws l few =
     let n : inputCount (blockOf ws) ≡ getD ws 0 0 =
     decode-inputCount (brought ws) ∙ sym (word-before ws 0 l (omega arith)) in
     rw (n, le-leb (getD ws 0 0) maxInputsBefore few, same-brought ws l) refl
 
 -- ---- what they refuse at once
 
-torn-when : (ws : List ℕ) → (isMalformedBefore ws ≡ false → ⊥) → isMalformedBefore ws ≡ true
-torn-when ws = go (isMalformedBefore ws)
+malformed-when : (ws : List ℕ) → (isMalformedBefore ws ≡ false → ⊥) → isMalformedBefore ws ≡ true
+malformed-when ws = go (isMalformedBefore ws)
   where
     go : (t : Bool) → (t ≡ false → ⊥) → t ≡ true
     go true h = refl
@@ -167,26 +167,26 @@ whole-before ws h =
           (same (encodeBefore (blockOf ws)) ws) all),
     )
 
-pub torn-short : (ws : List ℕ) → length ws < 3 → isMalformedBefore ws ≡ true
-torn-short ws l =
-    torn-when ws (λ h. let long : 3 ≤ length ws = subst (λ (v : List ℕ). 3 ≤ length v) (whole-before ws h .1)
+pub malformed-short : (ws : List ℕ) → length ws < 3 → isMalformedBefore ws ≡ true
+malformed-short ws l =
+    malformed-when ws (λ h. let long : 3 ≤ length ws = subst (λ (v : List ℕ). 3 ≤ length v) (whole-before ws h .1)
     (long-before (blockOf ws)) in omega arith)
 
-pub torn-inputs : (ws : List ℕ) → 3 ≤ length ws → maxInputsBefore < getD ws 0 0 → isMalformedBefore ws ≡ true
-torn-inputs ws l many =
-    torn-when ws (λ h. omega (
+pub malformed-inputs : (ws : List ℕ) → 3 ≤ length ws → maxInputsBefore < getD ws 0 0 → isMalformedBefore ws ≡ true
+malformed-inputs ws l many =
+    malformed-when ws (λ h. omega (
       arith,
       whole-before ws h .0,
       decode-inputCount (brought ws),
       word-before ws 0 l (omega arith),
     ))
 
-pub torn-long : (ws : List ℕ) → 3 ≤ length ws → maxBlock ≤ length ws → isMalformedBefore ws ≡ true
-torn-long ws l many =
-    torn-when ws
+pub malformed-long : (ws : List ℕ) → 3 ≤ length ws → maxBlock ≤ length ws → isMalformedBefore ws ≡ true
+malformed-long ws l many =
+    malformed-when ws
     (λ h. let few = rw (decode-inputCount (brought ws)
     ∙ sym (word-before ws 0 l (omega arith))) at (whole-before ws h .0) in
-    omega (arith, whole-longest (brought ws) (sym (torn-brought ws l few) ∙ h), length-brought ws l))
+    omega (arith, whole-longest (brought ws) (sym (malformed-brought ws l few) ∙ h), length-brought ws l))
 
 -- words that the old rules let through are at least three
 pub whole-long : (ws : List ℕ) → isMalformedBefore ws ≡ false → 3 ≤ length ws

@@ -32,7 +32,8 @@ fn brought_count(old: &[u16], p: usize) -> u16
 // Writes the four counts of the block of today.
 fn put_counts(old: &[u16], block: &mut [u16])
     requires { ⌜ (3 ≤ length (now old)) × (length (now old) < length (now block)) ⌝ }
-    ensures { λ r. ⌜ now (block .exit) ≡ placed (tab (λ p. getD (brought (now (old .entry))) p 0) 4) (now (block .entry)) ⌝ }
+    ensures { λ r.
+        ⌜ now (block .exit) ≡ placed (tab (λ p. getD (brought (now (old .entry))) p 0) 4) (now (block .entry)) ⌝ }
 {
     let mut p = 0;
     while p <= COUNTS_BEFORE {
@@ -85,7 +86,8 @@ fn check_before(old: &[u16]) -> Test
 
 // Bring, a migration (6, 11): the words with a fourth count, 0, put in; count: words.
 pub fn bring(old: &[u16], block: &mut [u16]) -> Answer
-    ensures { λ r. ⌜ Promise (bringOf (now (old .entry)) (length (now (block .entry)))) (now (block .entry)) r (now (block .exit)) ⌝ }
+    ensures { λ r. ⌜ Promise (bringOf (now (old .entry)) (length (now (block .entry)))) (now (block .entry)) r
+        (now (block .exit)) ⌝ }
 {
     let tested = check_before(old);
     let Test::Passed = tested else {

@@ -1,7 +1,7 @@
 -- The cells of a block: word by word, as the code writes them, and read back as cells, as a run reads them.
 --   length-cellsOf, cellsOf-count        how many words and cells there are
 --   at-truth, at-operand, at-absent      the words of one cell
---   made-word                            word p of all of them
+--   Making, made-none, made-more, made-all   all of them, one cell after the other
 --   cellFor, cell-made, cells-made       the cells that a run reads
 -- Assumes nothing.
 use mathlib.Core.Path.{_≡_, refl, sym, ap, _∙_}
@@ -10,10 +10,11 @@ use mathlib.Core.Bool.{true, false}
 use mathlib.Core.List.{List, [], _∷_, map}
 use Prim.Native.Nat.{ℕ, _+_, _*_, _/_, _%_, _≤_, _<_}
 use native.Mathlib.Omega.{arith}
-use lib.ListN.{length, getD, List·getD-append, List·getD-eq-default}
-use Rattle.prelude.specs.Lists.{tab}
+use lib.ListN.{length, getD, set, List·getD-append, List·getD-eq-default}
+use Rattle.prelude.specs.Lists.{tab, placed}
 use Rattle.prelude.proofs.Tests.{lt-or-le}
 use Rattle.prelude.proofs.Tab.{getD-tab, tab-ext, tab-getD, map-tab}
+use Rattle.prelude.proofs.Tabled.{Tabled, tabled-none, tabled-more, tabled-all}
 use Rattle.prelude.proofs.Quantifiers.{all-at}
 use Rattle.netlist.specs.Netlist.{Operand, constant, Gate, Block, inputCount, gateCount, gateOf}
 use Rattle.netlist.specs.StoredBlock.{gateSize, operandWords, gatesAt, nodeWord, operandOf, gateAt, isOperand, gateFits}
@@ -26,7 +27,7 @@ use Rattle.theory_encoding.proofs.Decoded.{decode-inputCount, decode-gateCount,
 use Rattle.theory_encoding.proofs.Decoded.{gateAt-operand}
 use Rattle.theory_encoding.proofs.WellFormed.{noGate, wellFormed-parts, few-nodes}
 use Rattle.theory_encoding.proofs.Readers.{wellFormed-gate}
-use Rattle.op_cells.specs.Made.{cellWordAt}
+use Rattle.op_cells.specs.Made.{cellWordAt, cellPut}
 
 -- operand i of a gate, constant 0 where it is absent
 abbrev pub operandFor : Gate → ℕ → Operand
@@ -94,20 +95,59 @@ module _ (b : Block) where
   unfolding cellsOf
   cellsOf-word j i l k = getD-joined (cellWords n) cellSize (length-cellWords n) (b .gates) j i noGate 0 l k
 
--- word p, from the words of the block
-pub made-word : (ws : List ℕ) (p : ℕ) → p < cellSize * getD ws 1 0
-    → cellWordAt ws (gatesAt (getD ws 0 0) (getD ws 3 0) + gateSize * (p / cellSize)) (p % cellSize)
-    ≡ getD (cellsOf (decode ws)) p 0
+-- word i of the cell that starts at word p, from the words of the block
+made-word : (ws : List ℕ) (p i : ℕ) → p % cellSize ≡ 0 → p < cellSize * getD ws 1 0 → i < cellSize
+    → cellWordAt ws (gatesAt (getD ws 0 0) (getD ws 3 0) + p) i ≡ getD (cellsOf (decode ws)) (p + i) 0
 unfolding cellWordAt
-made-word ws p l =
+made-word ws p i whole l k =
     let j = p / cellSize in
-    let i = p % cellSize in
-    let place : cellSize * j + i ≡ p = omega arith in
+    let place : cellSize * j ≡ p = omega arith in
     let below : j < getD ws 1 0 = omega arith in
     let word : getD (cellsOf (decode ws)) (cellSize * j + i) 0
     ≡ getD (cellWords (inputCount (decode ws)) (gateOf (decode ws) j)) i 0 =
-    cellsOf-word (decode ws) j i (rw (decode-gateCount ws) below) (omega arith) in
-    sym (rw (place, decode-inputCount ws, decode-gate ws j below) at word)
+    cellsOf-word (decode ws) j i (rw (decode-gateCount ws) below) k in
+    sym (rw (decode-inputCount ws, decode-gate ws j below, place) at word)
+
+abbrev madeWord : List ℕ → ℕ → ℕ
+madeWord ws p = getD (cellsOf (decode ws)) p 0
+
+-- whole cells stand in front of `cells`, up to word p
+pub record Making (ws : List ℕ) (count : ℕ) (cells₀ cells : List ℕ) (p : ℕ) : Type 0 where
+  pub whole : p % cellSize ≡ 0
+  pub tabled : Tabled (madeWord ws) count cells₀ cells p
+
+pub made-none : {ws cells : List ℕ} {count : ℕ} → Making ws count cells cells 0
+made-none = record { whole = refl; tabled = tabled-none }
+
+-- one cell more
+pub made-more : {ws cells₀ cells : List ℕ} {count at p : ℕ} → count ≡ cellSize * getD ws 1 0 → count ≤ length cells₀
+    → at ≡ gatesAt (getD ws 0 0) (getD ws 3 0) → p < count → Making ws count cells₀ cells p
+    → Making ws count cells₀ (cellPut ws (at + p) p cells) (p + cellSize)
+unfolding cellPut
+made-more {ws} {cells₀} {cells} {count} {at} {p} all room start l m =
+    let one = next 0 p (p + 1) (omega arith) (omega arith) (omega arith) (m .tabled) in
+    let two = next 1 (p + 1) (p + 2) (omega arith) (omega arith) (omega arith) one in
+    let three = next 2 (p + 2) (p + 3) (omega arith) (omega arith) (omega arith) two in
+    let four = next 3 (p + 3) (p + 4) (omega arith) (omega arith) (omega arith) three in
+    record {
+      whole = omega (arith, m .whole);
+      tabled = next 4 (p + 4) (p + cellSize) (omega arith) (omega arith) (omega arith) four;
+    }
+  where
+    next : {slice : List ℕ} (i q r : ℕ) → q ≡ p + i → r ≡ q + 1 → i < cellSize
+        → Tabled (madeWord ws) count cells₀ slice q
+        → Tabled (madeWord ws) count cells₀ (set slice q (cellWordAt ws (at + p) i)) r
+    next i q r e f k t =
+        let word = made-word ws p i (m .whole) (omega (arith, all)) k in
+        let inside : q < count = omega (arith, m .whole, all, e) in
+        rw f (tabled-more t inside room (rw (start, e) word))
+
+pub made-all : {ws cells₀ cells : List ℕ} {count p : ℕ} → count ≡ cellSize * getD ws 1 0 → count ≤ p
+    → Making ws count cells₀ cells p → cells ≡ placed (cellsOf (decode ws)) cells₀
+made-all {ws} {cells₀} {cells} {count} all l m =
+    tabled-all (m .tabled) l
+    ∙ ap (λ (v : List _). placed v cells₀)
+    (tab-getD 0 (cellsOf (decode ws)) count (length-cellsOf (decode ws) ∙ rw (decode-gateCount ws, all)))
 
 -- ---- the cells that a run reads
 

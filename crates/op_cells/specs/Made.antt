@@ -2,8 +2,8 @@
 use mathlib.Core.Path.{_≡_}
 use mathlib.Core.Bool.{true, cond, _&&_}
 use mathlib.Core.List.{List}
-use Prim.Native.Nat.{ℕ, _/_, _%_}
-use lib.ListN.{getD}
+use Prim.Native.Nat.{ℕ, _+_, _/_, _%_}
+use lib.ListN.{getD, set}
 use Rattle.prelude.specs.Lists.{tab}
 use Rattle.netlist.specs.Kinds.{isKind, arityFits}
 use Rattle.netlist.specs.StoredBlock.{gateAt}
@@ -27,3 +27,10 @@ truthWords = tab truthEntry heads
 -- word i of the cell of the gate whose words start at `at`
 unfoldable pub cellWordAt : List ℕ → ℕ → ℕ → ℕ
 cellWordAt ws at i = getD (cellWords (getD ws 0 0) (gateAt (getD ws 0 0) ws at)) i 0
+
+-- the words with that cell at the place `to`
+unfoldable pub cellPut : List ℕ → ℕ → ℕ → List ℕ → List ℕ
+cellPut ws at to cells =
+    let word = cellWordAt ws at in
+    set (set (set (set (set cells to (word 0)) (to + 1) (word 1)) (to + 2) (word 2)) (to + 3) (word 3)) (to + 4)
+    (word 4)

@@ -5,7 +5,6 @@ use netlist::Answer;
 use words_block::check_straight;
 use words_block::check_words;
 use words_layout::nodes::CONSTANT_0;
-use words_layout::offsets::GATE_SIZE;
 use words_layout::offsets::OPERAND_WORDS;
 use words_layout::offsets::gates_at;
 use words_layout::offsets::gates_of;
@@ -21,7 +20,7 @@ ghost use Rattle.prelude.specs.Lists.{placed};
 ghost use Rattle.netlist.specs.StoredBlock.{operandWords, decode, isMalformed};
 ghost use Rattle.netlist.specs.Cells.{cellSize, cellsOf};
 ghost use Rattle.graph_ternary.specs.Legal.{LegalHead};
-ghost use Rattle.op_cells.specs.Made.{cellWordAt};
+ghost use Rattle.op_cells.specs.Made.{cellWordAt, cellPut};
 ghost use Rattle.op_cells.specs.Promise.{CellsPromise};
 
 // Word i of the cell of the gate whose words start at `at`: an operand as in the block, constant 0 where there is none,
@@ -41,29 +40,30 @@ fn cell_word(words: &[u16], at: usize, i: usize) -> u16
     CONSTANT_0 as u16
 }
 
-// Word p of the cells of all gates, one cell after the other.
-fn made_word(words: &[u16], p: usize) -> u16
-    requires { ⌜ isMalformed (now words) ≡ false ⌝ }
-    requires { ⌜ p < cellSize * getD (now words) 1 0 ⌝ }
-    ensures { λ r. ⌜ r ≡ getD (cellsOf (decode (now (words .entry)))) p 0 ⌝ }
+// Writes the cell of the gate whose words start at `at` into the five words from `to` on.
+fn put_cell(words: &[u16], at: usize, to: usize, cells: &mut [u16])
+    requires { ⌜ LegalHead (now words) at ⌝ }
+    requires { ⌜ (at + operandWords < length (now words)) × (to + cellSize ≤ length (now cells)) ⌝ }
+    ensures { λ r. ⌜ now (cells .exit) ≡ cellPut (now (words .entry)) at to (now (cells .entry)) ⌝ }
 {
-    cell_word(
-        words,
-        gates_at(words) + GATE_SIZE * (p / CELL_SIZE),
-        p % CELL_SIZE,
-    )
+    cells[to] = cell_word(words, at, 0);
+    cells[to + 1] = cell_word(words, at, 1);
+    cells[to + 2] = cell_word(words, at, 2);
+    cells[to + 3] = cell_word(words, at, 3);
+    cells[to + 4] = cell_word(words, at, 4);
 }
 
-// Writes the first `count` words of the block's cells into `cells`.
+// Writes the block's cells, `count` words, into `cells`.
 fn put_cells(words: &[u16], count: usize, cells: &mut [u16])
     requires { ⌜ isMalformed (now words) ≡ false ⌝ }
     requires { ⌜ (count ≡ cellSize * getD (now words) 1 0) × (count ≤ length (now cells)) ⌝ }
     ensures { λ r. ⌜ now (cells .exit) ≡ placed (cellsOf (decode (now (words .entry)))) (now (cells .entry)) ⌝ }
 {
+    let start = gates_at(words);
     let mut p = 0;
     while p < count {
-        cells[p] = made_word(words, p);
-        p += 1;
+        put_cell(words, start + p, p, cells);
+        p += CELL_SIZE;
     }
 }
 

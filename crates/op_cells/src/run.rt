@@ -23,7 +23,10 @@ const MOST: u8 = 1;
 fn run_each(inputs: usize, cells: &[u16], count: usize, setting: &[u8], values: &mut [u8])
     requires { ⌜ (count ≡ cellCount (now cells)) × (count ≤ maxGates) × (count ≤ length (now values)) ⌝ }
     requires { ⌜ Bits (now setting) ⌝ }
-    ensures { λ r. ⌜ now (values .exit) ≡ placed (cellValues inputs (now (cells .entry)) (now (setting .entry))) (now (values .entry)) ⌝ }
+    ensures { λ r. ⌜
+        now (values .exit) ≡ placed (cellValues inputs (now (cells .entry)) (now (setting .entry)))
+        (now (values .entry))
+        ⌝ }
 {
     let mut j = 0;
     while j < count {
@@ -36,7 +39,8 @@ fn run_each(inputs: usize, cells: &[u16], count: usize, setting: &[u8], values: 
 // Run (6, 7, 11): the value of each cell, 0 or 1, a byte each, from a byte for each input; count: cells.
 pub fn run_cells(inputs: usize, cells: &[u16], setting: &[u8], values: &mut [u8]) -> Answer
     ensures { λ r. ⌜
-        Promise (runCells inputs (now (cells .entry)) (now (setting .entry)) (length (now (values .entry)))) (now (values .entry)) r (now (values .exit))
+        Promise (runCells inputs (now (cells .entry)) (now (setting .entry)) (length (now (values .entry))))
+        (now (values .entry)) r (now (values .exit))
         ⌝ }
 {
     let tested = check_cells(inputs, cells);

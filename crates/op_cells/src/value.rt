@@ -29,7 +29,10 @@ fn operand_bit(word: usize, n: usize, setting: &[u8], found: &[u8]) -> u8
 // The bit of operand `place` of the cell at `at`.
 fn bit_at(cells: &[u16], n: usize, at: usize, place: usize, setting: &[u8], found: &[u8]) -> usize
     requires { ⌜ (at < countRoom) × (place < operandWords) ⌝ }
-    ensures { λ r. ⌜ r ≡ operandBit (now (setting .entry)) (now (found .entry)) (operandOf n (getD (now (cells .entry)) (at + place) 0)) ⌝ }
+    ensures { λ r. ⌜
+        r ≡ operandBit (now (setting .entry)) (now (found .entry))
+        (operandOf n (getD (now (cells .entry)) (at + place) 0))
+        ⌝ }
 {
     operand_bit(word_at(cells, at + place), n, setting, found) as usize
 }

@@ -1,4 +1,5 @@
--- Compare answers by the two sentences of the definitions: accepted exactly when all outputs agree under every settled setting of ours, and a
+-- Compare answers by the two sentences of the definitions: accepted exactly when all outputs agree under every settled
+-- setting of ours, and a
 -- disagreement is the lowest. Assumes nothing.
 use mathlib.Core.Path.{_≡_, refl, ap}
 use mathlib.Core.Logic.{⊎-elim}
@@ -17,7 +18,8 @@ use Rattle.netlist.specs.Values.{undefined, code}
 use Rattle.netlist.specs.Netlist.{Block, outputCount}
 use Rattle.netlist.specs.Rounds.{settingCount, outputsUnder, isCounted}
 use Rattle.netlist.specs.Answers.{Outcome, done}
-use Rattle.netlist.specs.Compare.{differs, disagrees, lowestDisagreement, lowestDiffering, judgedAt, compareBlocks, Agree, Accepts, Disagreement}
+use Rattle.netlist.specs.Compare.{differs, disagrees, lowestDisagreement, lowestDiffering, judgedAt, compareBlocks}
+use Rattle.netlist.specs.Compare.{Agree, Accepts, Disagreement}
 use Rattle.theory_fixpoint.proofs.Values.{code-injective}
 
 module _ (a b : Block) where
@@ -25,7 +27,8 @@ module _ (a b : Block) where
 
   agree-differs : (s o : ℕ) → Agree a b s o → differs a b s o ≡ false
   unfolding differs
-  agree-differs s o h = let theirs = code (getD (outputsUnder b s) o undefined) in rw h (ap not (eq-eqb theirs theirs refl))
+  agree-differs s o h =
+      let theirs = code (getD (outputsUnder b s) o undefined) in rw h (ap not (eq-eqb theirs theirs refl))
 
   differs-agree : (s o : ℕ) → differs a b s o ≡ false → Agree a b s o
   unfolding differs
@@ -41,12 +44,14 @@ module _ (a b : Block) where
       (not-true-false (differs a b s o)
       (λ d. not-both (below-any (differs a b s) (outputCount a) o l d) (rw t at h)))
 
-  agrees-quiet : (s : ℕ) → (isCounted a s ≡ true → (o : ℕ) → o < outputCount a → Agree a b s o) → disagrees a b s ≡ false
+  agrees-quiet : (s : ℕ) → (isCounted a s ≡ true → (o : ℕ) → o < outputCount a → Agree a b s o)
+      → disagrees a b s ≡ false
   unfolding disagrees
   agrees-quiet s h =
       not-true-false (disagrees a b s)
       (λ t. let found = and-left (isCounted a s) (any (differs a b s) (upTo (outputCount a))) t in
-      let (o, l, d) = any-below (differs a b s) (outputCount a) (and-right (isCounted a s) (any (differs a b s) (upTo (outputCount a))) t) in
+      let (o, l, d) = any-below (differs a b s) (outputCount a)
+      (and-right (isCounted a s) (any (differs a b s) (upTo (outputCount a))) t) in
       not-both d (agree-differs s o (h found o l)))
 
   -- ---- Accepted exactly when
@@ -55,13 +60,15 @@ module _ (a b : Block) where
   unfolding compareBlocks judgedAt lowestDisagreement
   accepted-from h =
       let is : least (disagrees a b) (settingCount a) ≡ settingCount a =
-      least-is (disagrees a b) (settingCount a) (settingCount a) (omega arith) (λ s l. agrees-quiet s (h s l)) (λ l. absurd (omega arith)) in
+      least-is (disagrees a b) (settingCount a) (settingCount a) (omega arith) (λ s l. agrees-quiet s (h s l))
+      (λ l. absurd (omega arith)) in
       rw (is, le-ltb (settingCount a) (settingCount a) (omega arith)) refl
 
   abbrev lowest : ℕ
   lowest = least (disagrees a b) (settingCount a)
 
-  judged : compareBlocks a b ≡ cond (ltb lowest (settingCount a)) (done [] (lowestDiffering a b lowest + 1) lowest) (done [] 0 0)
+  judged : compareBlocks a b
+      ≡ cond (ltb lowest (settingCount a)) (done [] (lowestDiffering a b lowest + 1) lowest) (done [] 0 0)
   unfolding compareBlocks judgedAt lowestDisagreement
   judged = refl
 
@@ -74,7 +81,8 @@ module _ (a b : Block) where
       let (o, m, d) = any-below (differs a b lowest) (outputCount a) some in
       let low = least (differs a b lowest) (outputCount a) in
       let below : low < outputCount a =
-      ⊎-elim (λ k. k) (λ k. not-both d (least-below (differs a b lowest) (outputCount a) o (omega arith))) (lt-or-le low (outputCount a)) in
+      ⊎-elim (λ k. k) (λ k. not-both d (least-below (differs a b lowest) (outputCount a) o (omega arith)))
+      (lt-or-le low (outputCount a)) in
       record {
         setting = l;
         counts = and-left (isCounted a lowest) (any (differs a b lowest) (upTo (outputCount a))) t;
@@ -93,8 +101,10 @@ module _ (a b : Block) where
   compare-judged =
       rw judged
       (⊎-elim
-      (λ l. rw (lt-ltb lowest (settingCount a) l) (disagreeing lowest (lowestDiffering a b lowest) (lowest-disagrees l)))
-      (λ l. rw (le-ltb lowest (settingCount a) l) (accepts (λ s m. quiet-agrees s (least-below (disagrees a b) (settingCount a) s (omega arith)))))
+      (λ l. rw (lt-ltb lowest (settingCount a) l)
+      (disagreeing lowest (lowestDiffering a b lowest) (lowest-disagrees l)))
+      (λ l. rw (le-ltb lowest (settingCount a) l)
+      (accepts (λ s m. quiet-agrees s (least-below (disagrees a b) (settingCount a) s (omega arith)))))
       (lt-or-le lowest (settingCount a)))
 
   -- accepted, so the sentence holds

@@ -1,4 +1,5 @@
--- Compare's outcome as a chain of conditions, and what the tests passed say of the two blocks. Cited by `compare`. Assumes nothing.
+-- Compare's outcome as a chain of conditions, and what the tests passed say of the two blocks. Cited by `compare`.
+-- Assumes nothing.
 use mathlib.Core.Path.{_≡_, refl}
 use mathlib.Core.Bool.{false, not}
 use mathlib.Core.List.{List}
@@ -10,7 +11,7 @@ use Rattle.netlist.specs.Rendering.{isStraight}
 use Rattle.netlist.specs.Answers.{refuseIf}
 use Rattle.netlist.specs.Compare.{sameInterface, compareBlocks, compare}
 use Rattle.op_compare.specs.Ready.{BlockPair}
-use Rattle.op_compare.proofs.Interfaces.{interface-inputs, interface-outputs}
+use Rattle.words_interface.proofs.Interfaces.{interface-inputs, interface-outputs}
 
 module _ (ours theirs : List ℕ) where
   pub compare-chain : compare ours theirs

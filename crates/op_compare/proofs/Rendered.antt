@@ -13,7 +13,8 @@ use Rattle.netlist.specs.Limits.{maxCopies}
 use Rattle.netlist.specs.Values.{Value, undefined}
 use Rattle.netlist.specs.Netlist.{Block, inputCount}
 use Rattle.netlist.specs.StoredBlock.{encode, decode, isWellFormed, isMalformed}
-use Rattle.netlist.specs.Rounds.{settingOf, settingCount, settledUnder, outputsUnder, isSettled, isExcluded, isCounted, lowestUnsettled, outputValue}
+use Rattle.netlist.specs.Rounds.{settingOf, settingCount, settledUnder, outputsUnder, isSettled, isExcluded, isCounted}
+use Rattle.netlist.specs.Rounds.{lowestUnsettled, outputValue}
 use Rattle.netlist.specs.Cover.{isSound}
 use Rattle.netlist.specs.Passes.{copyCount}
 use Rattle.netlist.specs.Rendering.{rendering, sweep}
@@ -24,7 +25,7 @@ use Rattle.theory_encoding.proofs.RoundTrip.{decode-encode, whole-wellFormed, e
 use Rattle.theory_fixpoint.proofs.Sweep.{sweep-settled}
 use Rattle.theory_unrolling.proofs.Block.{rendering-inputs, rendering-ports, rendering-straight, rendering-wellFormed}
 use Rattle.theory_unrolling.proofs.Agreement.{outputs-agree}
-use Rattle.op_compare.proofs.Interfaces.{eq-sameNames}
+use Rattle.words_interface.proofs.Interfaces.{eq-sameNames}
 use Rattle.op_compare.proofs.Accepted.{accepted-from}
 
 module _ (b : Block) where
@@ -58,7 +59,8 @@ module _ (b : Block) where
       ) refl
 
 -- the words that hold a rendering within the limit are accepted for words that hold the block
-words-accepted : (ws : List ℕ) → isMalformed ws ≡ false → copyCount (decode ws) ≤ maxCopies → compare ws (encode (rendering (decode ws))) ≡ done [] 0 0
+words-accepted : (ws : List ℕ) → isMalformed ws ≡ false → copyCount (decode ws) ≤ maxCopies
+    → compare ws (encode (rendering (decode ws))) ≡ done [] 0 0
 unfolding compare refuseIf
 words-accepted ws whole few =
     let b = decode ws in
@@ -68,9 +70,11 @@ words-accepted ws whole few =
     (accepted-from b (rendering b) (rendering-accepted b w))
 
 -- What Render answers with number 0 is accepted: count and detail 0.
-pub rendered-accepted : (ws out : List ℕ) (count detail : ℕ) → renderWords ws ≡ done out count detail → compare ws out ≡ done [] 0 0
+pub rendered-accepted : (ws out : List ℕ) (count detail : ℕ) → renderWords ws ≡ done out count detail
+    → compare ws out ≡ done [] 0 0
 unfolding renderWords renderBlock counted refuseIf
-rendered-accepted ws out count detail e = by-tests (isMalformed ws) (ltb maxCopies (copyCount (decode ws))) (not (isSound (decode ws))) refl refl e
+rendered-accepted ws out count detail e =
+    by-tests (isMalformed ws) (ltb maxCopies (copyCount (decode ws))) (not (isSound (decode ws))) refl refl e
   where
     by-tests : (t m s : Bool) → isMalformed ws ≡ t → ltb maxCopies (copyCount (decode ws)) ≡ m
         → refuseIf t MalformedBlock (refuseIf m TooManyCopies (refuseIf s (NotSettled (lowestUnsettled (decode ws)))

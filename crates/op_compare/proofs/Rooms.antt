@@ -21,6 +21,7 @@ module _ (ws : List ℕ) (whole : isMalformed ws ≡ false) where
   lowest-few test e = omega (arith, e, least-le test (getD ws 2 0), whole-parts ws whole .fewOutputs)
 
 -- the number of settings, as read
-pub setting-count : (ours : List ℕ) {n count : ℕ} → n ≡ getD ours 0 0 → count ≡ 2 ^ n → count ≡ settingCount (decode ours)
+pub setting-count : (ours : List ℕ) {n count : ℕ} → n ≡ getD ours 0 0 → count ≡ 2 ^ n
+    → count ≡ settingCount (decode ours)
 unfolding settingCount
 setting-count ours e f = f ∙ rw (e, decode-inputCount ours) refl

@@ -5,6 +5,7 @@ use lanes_dual_rail::LANE_WORDS;
 use netlist::Answer;
 use words_block::check_straight;
 use words_block::check_words;
+use words_interface::check_interface;
 use words_layout::limits::MAX_GATES;
 use words_refusals::Test;
 use words_refusals::refusal;
@@ -14,7 +15,6 @@ ghost use Rattle.netlist.specs.Answers.{answerOf, Told};
 ghost use Rattle.netlist.specs.Compare.{compareBlocks, compare as compareOf};
 ghost use Rattle.op_compare.specs.Ready.{BlockPair};
 
-pub mod interface;
 pub mod outputs;
 pub mod settings;
 
@@ -59,7 +59,7 @@ pub fn compare(ours: &[u16], theirs: &[u16]) -> Answer
     let Test::Passed = tested else {
         return refusal(tested);
     };
-    let tested = interface::check_interface(ours, theirs);
+    let tested = check_interface(ours, theirs);
     let Test::Passed = tested else {
         return refusal(tested);
     };

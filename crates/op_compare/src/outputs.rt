@@ -21,7 +21,9 @@ fn differing_lanes(
     others: &[u64; LANE_WORDS],
 ) -> u64
     requires { ⌜ BlockPair (now ours) (now theirs) × (n ≡ getD (now ours) 0 0) × (o < getD (now ours) 2 0) ⌝ }
-    ensures { λ r. ⌜ r ≡ differingWord (now (ours .entry)) (now (theirs .entry)) n (now (lanes .entry)) (now (others .entry)) o ⌝ }
+    ensures { λ r. ⌜
+        r ≡ differingWord (now (ours .entry)) (now (theirs .entry)) n (now (lanes .entry)) (now (others .entry)) o
+        ⌝ }
 {
     let shown = output_pair(ours, outputs_at(ours), n, o, lanes);
     let other = output_pair(theirs, outputs_at(theirs), n, o, others);
@@ -38,7 +40,8 @@ pub fn any_differing(
 ) -> u64
     requires { ⌜ BlockPair (now ours) (now theirs) × (n ≡ getD (now ours) 0 0) ⌝ }
     ensures { λ r. ⌜
-        r ≡ differingWords (now (ours .entry)) (now (theirs .entry)) n (now (lanes .entry)) (now (others .entry)) (getD (now (ours .entry)) 2 0)
+        r ≡ differingWords (now (ours .entry)) (now (theirs .entry)) n (now (lanes .entry)) (now (others .entry))
+        (getD (now (ours .entry)) 2 0)
         ⌝ }
 {
     let count = outputs_of(ours);
@@ -62,7 +65,9 @@ pub fn lowest_differing(
 ) -> usize
     requires { ⌜ BlockPair (now ours) (now theirs) × (n ≡ getD (now ours) 0 0) × (lane < 64) ⌝ }
     ensures { λ r. ⌜
-        r ≡ least (differsAt (now (ours .entry)) (now (theirs .entry)) n (now (lanes .entry)) (now (others .entry)) lane) (getD (now (ours .entry)) 2 0)
+        r ≡ least
+        (differsAt (now (ours .entry)) (now (theirs .entry)) n (now (lanes .entry)) (now (others .entry)) lane)
+        (getD (now (ours .entry)) 2 0)
         ⌝ }
 {
     let count = outputs_of(ours);

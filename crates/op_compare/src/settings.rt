@@ -11,8 +11,8 @@ use lanes_dual_rail::words::lowest_lane;
 use lanes_masks::decided::judge_batch;
 use lanes_masks::decided::judge_straight;
 use lanes_masks::settled::counted_lanes;
+use lanes_settings::setting_count;
 use netlist::Answer;
-use op_verdict::settings::setting_count;
 use words_layout::limits::MAX_GATES;
 use words_layout::offsets::inputs_of;
 ghost use mathlib.Core.Path.{_≡_};
@@ -37,7 +37,8 @@ fn disagreeing_lanes(
 ) -> u64
     requires { ⌜ BothJudged (now ours) (now theirs) base (now lanes) (now others) ⌝ }
     ensures { λ r. ⌜
-        Tells (lanesOf (getD (now (ours .entry)) 0 0)) base (disagrees (decode (now (ours .entry))) (decode (now (theirs .entry)))) r
+        Tells (lanesOf (getD (now (ours .entry)) 0 0)) base
+        (disagrees (decode (now (ours .entry))) (decode (now (theirs .entry)))) r
         ⌝ }
 {
     let n = inputs_of(ours);
@@ -94,7 +95,10 @@ pub fn compare_with(
     lanes: &mut [u64; LANE_WORDS],
     others: &mut [u64; LANE_WORDS],
 ) -> Answer
-    requires { ⌜ BlockPair (now ours) (now theirs) × PlanRoom (now graph) (now order) (now ends) × (length (now «their_graph») ≡ graphSize) ⌝ }
+    requires { ⌜
+        BlockPair (now ours) (now theirs) × PlanRoom (now graph) (now order) (now ends)
+        × (length (now «their_graph») ≡ graphSize)
+        ⌝ }
     requires { ⌜ (length (now lanes) ≡ laneSize) × (length (now others) ≡ laneSize) ⌝ }
     ensures { λ r. ⌜ r ≡ answerOf (compareBlocks (decode (now (ours .entry))) (decode (now (theirs .entry)))) ⌝ }
 {

@@ -1,4 +1,5 @@
--- CompareCells' outcome as a chain of conditions, and what the tests passed say. Cited by `compare_cells` and `list`. Assumes nothing.
+-- CompareCells' outcome as a chain of conditions, and what the tests passed say. Cited by `compare_cells` and `list`.
+-- Assumes nothing.
 use mathlib.Core.Path.{_≡_, refl, _∙_}
 use mathlib.Core.Bool.{false, not}
 use mathlib.Core.List.{List}
@@ -28,18 +29,21 @@ module _ (ws cells shown : List ℕ) where
   compare-chain = refl
 
   pub all-passed : isMalformed ws ≡ false → not (areLegalCells (inputCount (decode ws)) cells) ≡ false
-      → not (eqb (length shown) (outputCount (decode ws))) ≡ false → not (all (isListed (inputCount (decode ws)) cells) shown) ≡ false
+      → not (eqb (length shown) (outputCount (decode ws))) ≡ false
+      → not (all (isListed (inputCount (decode ws)) cells) shown) ≡ false
       → Comparable ws cells shown
   unfolding isListed
   all-passed p q r t =
       let n = inputCount (decode ws) in
       let long : length shown ≡ getD ws 2 0 =
-      eqb-true (length shown) (outputCount (decode ws)) (not-false (eqb (length shown) (outputCount (decode ws))) r) ∙ decode-outputCount ws in
+      eqb-true (length shown) (outputCount (decode ws)) (not-false (eqb (length shown) (outputCount (decode ws))) r)
+      ∙ decode-outputCount ws in
       record {
         whole = p;
         legal = rw (decode-inputCount ws) at (not-false (areLegalCells n cells) q);
         long = long;
         listed = λ o l.
             rw (← decode-inputCount ws)
-            (ltb-true (getD shown o 0) _ (all-at (isListed n cells) shown o 0 (not-false (all (isListed n cells) shown) t) (rw long l)));
+            (ltb-true (getD shown o 0) _
+            (all-at (isListed n cells) shown o 0 (not-false (all (isListed n cells) shown) t) (rw long l)));
       }

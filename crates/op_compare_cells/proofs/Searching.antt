@@ -27,13 +27,13 @@ use Rattle.lanes_dual_rail.proofs.InputLaws.{lanesOf-most}
 use Rattle.lanes_dual_rail.specs.Words.{hasLane, Tells}
 use Rattle.lanes_dual_rail.proofs.WordLaws.{tells-no-lane, tells-some, tells-lowest}
 use Rattle.lanes_masks.specs.Lanes.{Judged}
-use Rattle.op_verdict.proofs.Batching.{Place, batch-more}
+use Rattle.lanes_settings.proofs.Batching.{Place, batch-more}
 use Rattle.lanes_cells.specs.Table.{countIn, tableCells, CellTable}
 use Rattle.lanes_cells.specs.CellLanes.{Evaluated}
-use Rattle.op_compare_cells.specs.Ready.{Comparable, ListReady, SearchReady}
-use Rattle.op_compare_cells.specs.Words.{differsAt, Listed, Marks}
+use Rattle.lanes_miter.specs.Words.{ListReady, differsAt, Listed, Marks}
+use Rattle.lanes_miter.proofs.Differences.{listed-place, lowest-there, search-accepted, search-found}
+use Rattle.op_compare_cells.specs.Ready.{Comparable, SearchReady}
 use Rattle.op_compare_cells.specs.Found.{Agreed, Found}
-use Rattle.op_compare_cells.proofs.Differences.{listed-place, lowest-there, search-accepted, search-found}
 
 -- the lowest lane of a word that is not 0
 pub marked-below : (w : ℕ) → w < 2 ^ 64 → (w ≡ 0 → ⊥) → least (hasLane w) 64 < 64
@@ -51,13 +51,19 @@ pub agreed-none : (ws shown table : List ℕ) → Agreed ws shown table 0
 agreed-none ws shown table = record { none = λ cells t i l. absurd (not-suc-le-zero l) }
 
 -- no batch has a lane
-pub found-none : {ws shown table : List ℕ} {n count base : ℕ} → n ≡ getD ws 0 0 → count ≡ 2 ^ n → Agreed ws shown table base → base ≤ count → count ≤ base
+pub found-none : {ws shown table : List ℕ} {n count base : ℕ} → n ≡ getD ws 0 0 → count ≡ 2 ^ n
+    → Agreed ws shown table base → base ≤ count → count ≤ base
     → Found ws shown table (Done 0 0)
 found-none {ws} {shown} {table} {n} {count} {base} e many a l m =
-    record { told = λ cells t. search-accepted (decode ws) cells shown base count (setting-count ws e many) (a .none cells t) l m }
+    record {
+      told = λ cells t. search-accepted (decode ws) cells shown base count (setting-count ws e many)
+          (a .none cells t) l m;
+    }
 
-module _ {ws shown table : List ℕ} {n base : ℕ} {nodes : List ℕ} {word : ℕ} (ready : SearchReady ws shown table) (e : n ≡ getD ws 0 0)
-    (ev : Evaluated n base (tableCells table) (countIn table) nodes) (m : Marks ws shown base nodes word) (a : Agreed ws shown table base) where
+module _ {ws shown table : List ℕ} {n base : ℕ} {nodes : List ℕ} {word : ℕ} (ready : SearchReady ws shown table)
+    (e : n ≡ getD ws 0 0)
+    (ev : Evaluated n base (tableCells table) (countIn table) nodes) (m : Marks ws shown base nodes word)
+    (a : Agreed ws shown table base) where
   module _ (cells : List ℕ) (t : CellTable (getD ws 0 0) cells table) where
     few : cellCount cells ≤ maxGates
     few = rw (t .count) at (ready .places .few)
@@ -77,15 +83,19 @@ module _ {ws shown table : List ℕ} {n base : ℕ} {nodes : List ℕ} {word : �
   agreed-more is z =
       record {
         none = λ cells t.
-            batch-more (λ i. cellsDisagree (decode ws) cells shown i ≡ false) (is ∙ rw e) (a .none cells t) (tells-no-lane (told cells t) z);
+            batch-more (λ i. cellsDisagree (decode ws) cells shown i ≡ false) (is ∙ rw e) (a .none cells t)
+            (tells-no-lane (told cells t) z);
       }
 
   -- some: the lowest lane, and there the lowest output
-  pub found-here : {w : List ℕ} → Judged ws (getD ws 0 0) base w → (word ≡ 0 → ⊥) → {count lane o : ℕ} → count ≡ 2 ^ n → Place n base → base < count
-      → lane ≡ least (hasLane word) 64 → o ≡ least (differsAt ws shown w nodes lane) (getD ws 2 0) → Found ws shown table (Done (o + 1) (base + lane))
+  pub found-here : {w : List ℕ} → Judged ws (getD ws 0 0) base w → (word ≡ 0 → ⊥) → {count lane o : ℕ} → count ≡ 2 ^ n
+      → Place n base → base < count
+      → lane ≡ least (hasLane word) 64 → o ≡ least (differsAt ws shown w nodes lane) (getD ws 2 0)
+      → Found ws shown table (Done (o + 1) (base + lane))
   found-here {w} j h {count} {lane} {o} many place below is lowest = record { told = found }
     where
-      found : (cells : List ℕ) → CellTable (getD ws 0 0) cells table → Done (o + 1) (base + lane) ≡ answerOf (compareBlockCells (decode ws) cells shown)
+      found : (cells : List ℕ) → CellTable (getD ws 0 0) cells table
+          → Done (o + 1) (base + lane) ≡ answerOf (compareBlockCells (decode ws) cells shown)
       found cells t =
           let (s, l, p) = tells-some (told cells t) h in
           let f = tells-lowest (told cells t) (lanesOf-most (getD ws 0 0)) s l p in
@@ -93,7 +103,8 @@ module _ {ws shown table : List ℕ} {n base : ℕ} {nodes : List ℕ} {word : �
           let there′ : lane < lanesOf n = rw e there in
           let room : base + lanesOf n ≤ 2 ^ n = place .whole (rw (← many) below) in
           search-found (decode ws) cells shown (base + lane) count (setting-count ws e many)
-          (batch-more (λ i. cellsDisagree (decode ws) cells shown i ≡ false) refl (a .none cells t) (λ i k. f .2 i (rw (← is) k)))
+          (batch-more (λ i. cellsDisagree (decode ws) cells shown i ≡ false) refl (a .none cells t)
+          (λ i k. f .2 i (rw (← is) k)))
           o (omega arith) (rw is (f .1))
           (lowest-there ws shown j cells (few cells t) (listed cells t) (cells-evaluated cells t) there lowest)
 
@@ -102,7 +113,8 @@ pub table-for : {n m : ℕ} {cells table : List ℕ} → n ≡ m → CellTable n
 table-for e t = rw e at t
 
 -- the table of cells that passed the tests
-pub search-ready : {ws cells shown table : List ℕ} → Comparable ws cells shown → CellTable (getD ws 0 0) cells table → SearchReady ws shown table
+pub search-ready : {ws cells shown table : List ℕ} → Comparable ws cells shown → CellTable (getD ws 0 0) cells table
+    → SearchReady ws shown table
 search-ready {ws} {cells} {shown} {table} c t =
     let fewInputs = whole-parts ws (c .whole) .fewInputs in
     record {
@@ -111,7 +123,11 @@ search-ready {ws} {cells} {shown} {table} c t =
         long = c .long;
         inside = λ o l.
             let few : cellCount cells ≤ maxGates = rw (t .count) at (t .places .few) in
-            omega (arith, listed-place (getD ws 0 0) (cellCount cells) (getD shown o 0) fewInputs few (c .listed o l), few);
+            omega (
+              arith,
+              listed-place (getD ws 0 0) (cellCount cells) (getD shown o 0) fewInputs few (c .listed o l),
+              few,
+            );
       };
       places = t .places;
       listed = λ o l. rw (t .count) (c .listed o l);

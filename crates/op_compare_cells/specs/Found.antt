@@ -14,7 +14,9 @@ use Rattle.netlist.specs.CompareCells.{cellsDisagree, compareBlockCells}
 use Rattle.lanes_cells.specs.Table.{CellTable}
 
 pub record Agreed (ws shown table : List ℕ) (base : ℕ) : Type 0 where
-  pub none : (cells : List ℕ) → CellTable (getD ws 0 0) cells table → (i : ℕ) → i < base → cellsDisagree (decode ws) cells shown i ≡ false
+  pub none : (cells : List ℕ) → CellTable (getD ws 0 0) cells table → (i : ℕ) → i < base
+      → cellsDisagree (decode ws) cells shown i ≡ false
 
 pub record Found (ws shown table : List ℕ) (r : Answer) : Type 0 where
-  pub told : (cells : List ℕ) → CellTable (getD ws 0 0) cells table → r ≡ answerOf (compareBlockCells (decode ws) cells shown)
+  pub told : (cells : List ℕ) → CellTable (getD ws 0 0) cells table
+      → r ≡ answerOf (compareBlockCells (decode ws) cells shown)

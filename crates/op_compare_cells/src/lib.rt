@@ -21,7 +21,6 @@ ghost use Rattle.lanes_batch.specs.Layered.{Planned};
 ghost use Rattle.op_compare_cells.specs.Ready.{Comparable};
 
 pub mod list;
-pub mod outputs;
 pub mod settings;
 
 // CompareCells of a block whose plan is made: room for the cells' table, for two words a place of the block, and for
@@ -34,8 +33,12 @@ fn compare_planned(
     order: &[u16; MAX_GATES],
     ends: &[u16; MAX_GATES],
 ) -> Answer
-    requires { ⌜ Comparable (now words) (now cells) (now shown) × Planned (now words) (now graph) (now order) (now ends) ⌝ }
-    ensures { λ r. ⌜ r ≡ answerOf (compareBlockCells (decode (now (words .entry))) (now (cells .entry)) (now (shown .entry))) ⌝ }
+    requires { ⌜
+        Comparable (now words) (now cells) (now shown) × Planned (now words) (now graph) (now order) (now ends)
+        ⌝ }
+    ensures { λ r. ⌜
+        r ≡ answerOf (compareBlockCells (decode (now (words .entry))) (now (cells .entry)) (now (shown .entry)))
+        ⌝ }
 {
     let mut table = [0u16; TABLE_WORDS];
     let mut lanes = [0u64; LANE_WORDS];
@@ -56,7 +59,9 @@ fn compare_planned(
 // CompareCells when all tests were passed: makes room for the block's plan.
 fn compare_passed(words: &[u16], cells: &[u16], shown: &[u16]) -> Answer
     requires { ⌜ Comparable (now words) (now cells) (now shown) ⌝ }
-    ensures { λ r. ⌜ r ≡ answerOf (compareBlockCells (decode (now (words .entry))) (now (cells .entry)) (now (shown .entry))) ⌝ }
+    ensures { λ r. ⌜
+        r ≡ answerOf (compareBlockCells (decode (now (words .entry))) (now (cells .entry)) (now (shown .entry)))
+        ⌝ }
 {
     let mut graph = [0u16; GRAPH_WORDS];
     let mut order = [0u16; MAX_GATES];

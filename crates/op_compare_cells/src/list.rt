@@ -21,7 +21,10 @@ ghost use Rattle.op_compare_cells.specs.Ready.{isBelow};
 // Refusal 12: does the list have a word for each output?
 pub fn check_length(words: &[u16], shown: &[u16]) -> Test
     requires { ⌜ isMalformed (now words) ≡ false ⌝ }
-    ensures { λ r. ⌜ r ≡ testOf (not (eqb (length (now (shown .entry))) (outputCount (decode (now (words .entry)))))) InterfaceMismatch ⌝ }
+    ensures { λ r. ⌜
+        r ≡ testOf (not (eqb (length (now (shown .entry))) (outputCount (decode (now (words .entry))))))
+        InterfaceMismatch
+        ⌝ }
 {
     refuse_if(shown.len() != outputs_of(words), Refusal::InterfaceMismatch)
 }
@@ -42,9 +45,13 @@ fn all_below(shown: &[u16], nodes: usize) -> bool
 
 // Refusal 6: is every word of the list an input or a cell?
 pub fn check_listed(words: &[u16], cells: &[u16], shown: &[u16]) -> Test
-    requires { ⌜ (isMalformed (now words) ≡ false) × (areLegalCells (inputCount (decode (now words))) (now cells) ≡ true) ⌝ }
+    requires { ⌜
+        (isMalformed (now words) ≡ false) × (areLegalCells (inputCount (decode (now words))) (now cells) ≡ true)
+        ⌝ }
     ensures { λ r. ⌜
-        r ≡ testOf (not (all (isListed (inputCount (decode (now (words .entry)))) (now (cells .entry))) (now (shown .entry)))) MalformedBlock
+        r ≡ testOf
+        (not (all (isListed (inputCount (decode (now (words .entry)))) (now (cells .entry))) (now (shown .entry))))
+        MalformedBlock
         ⌝ }
 {
     let nodes = inputs_of(words) + cells.len() / CELL_SIZE;

@@ -1,6 +1,4 @@
 // The search for the lowest setting under which a block and cells disagree, a batch of up to 64 at a time.
-use crate::outputs::any_differing;
-use crate::outputs::lowest_differing;
 use graph_gates::GRAPH_WORDS;
 use graph_gates::PLACES;
 use lanes_cells::evaluate::evaluate_cells;
@@ -9,36 +7,19 @@ use lanes_dual_rail::LANE_WORDS;
 use lanes_dual_rail::words::lane_count;
 use lanes_dual_rail::words::lowest_lane;
 use lanes_masks::decided::judge_batch;
-use lanes_masks::settled::counted_lanes;
+use lanes_miter::disagreeing_lanes;
+use lanes_miter::lowest_differing;
+use lanes_settings::setting_count;
 use netlist::Answer;
-use op_verdict::settings::setting_count;
 use words_layout::limits::MAX_GATES;
 use words_layout::offsets::inputs_of;
 ghost use mathlib.Core.Path.{_≡_};
-ghost use Prim.Native.Nat.{_%_};
-ghost use lib.ListN.{length, getD};
+ghost use lib.ListN.{length};
 ghost use Rattle.graph_gates.specs.Places.{placeCount};
 ghost use Rattle.lanes_dual_rail.specs.LaneWords.{laneSize};
 ghost use Rattle.lanes_batch.specs.Layered.{Planned};
-ghost use Rattle.lanes_masks.specs.Lanes.{Judged};
-ghost use Rattle.op_compare_cells.specs.Ready.{ListReady, SearchReady};
-ghost use Rattle.op_compare_cells.specs.Words.{Marks};
+ghost use Rattle.op_compare_cells.specs.Ready.{SearchReady};
 ghost use Rattle.op_compare_cells.specs.Found.{Found};
-
-// The lanes of the batch at `base` at which the setting counts and some output differs.
-fn disagreeing_lanes(
-    words: &[u16],
-    shown: &[u16],
-    base: usize,
-    lanes: &[u64; LANE_WORDS],
-    nodes: &[u64; PLACES],
-) -> u64
-    requires { ⌜ ListReady (now words) (now shown) × Judged (now words) (getD (now words) 0 0) base (now lanes) ⌝ }
-    ensures { λ r. ⌜ Marks (now (words .entry)) (now (shown .entry)) base (now (nodes .entry)) r ⌝ }
-{
-    let n = inputs_of(words);
-    counted_lanes(words, n, base, lanes) & any_differing(words, shown, lanes, nodes)
-}
 
 // Goes over the batches in ascending order, up to the first disagreement: its lowest lane, and there the lowest output.
 pub fn search_settings(
@@ -51,7 +32,9 @@ pub fn search_settings(
     lanes: &mut [u64; LANE_WORDS],
     nodes: &mut [u64; PLACES],
 ) -> Answer
-    requires { ⌜ Planned (now words) (now graph) (now order) (now ends) × SearchReady (now words) (now shown) (now table) ⌝ }
+    requires { ⌜
+        Planned (now words) (now graph) (now order) (now ends) × SearchReady (now words) (now shown) (now table)
+        ⌝ }
     requires { ⌜ (length (now lanes) ≡ laneSize) × (length (now nodes) ≡ placeCount) ⌝ }
     ensures { λ r. ⌜ Found (now (words .entry)) (now (shown .entry)) (now (table .entry)) r ⌝ }
 {

@@ -1,4 +1,5 @@
--- Cover's outcome, as a chain of conditions, and what `cover_entries` leaves in the slice. Cited by `whole_cover` and `cover`. Assumes nothing.
+-- Cover's outcome, as a chain of conditions, and what `cover_entries` leaves in the slice. Cited by `whole_cover` and
+-- `cover`. Assumes nothing.
 use mathlib.Core.Path.{_≡_, refl, ap, _∙_}
 use mathlib.Core.Bool.{Bool, true, false}
 use mathlib.Core.List.{List}
@@ -19,11 +20,12 @@ use Rattle.netlist.specs.Cover.{cover, coverEntries}
 use Rattle.netlist.specs.Answers.{done, refuseIf, inRoom, Promise}
 use Rattle.words_refusals.specs.Tests.{testOf, refusalOf}
 use Rattle.netlist.specs.Operations.{coverBlock, coverOf}
-use Rattle.words_refusals.proofs.Promised.{IsFailed, passed, passed-false, failed, failed-true, bare, keeps-bare, finished}
-use Rattle.cover_implicants.specs.Over.{coverOver}
-use Rattle.cover_implicants.specs.Tables.{settledBy}
-use Rattle.cover_implicants.specs.Entries.{EntriesWritten}
-use Rattle.cover_implicants.proofs.Blocks.{coverEntries-words, cover-from}
+use Rattle.words_refusals.proofs.Promised.{IsFailed, passed, passed-false, failed, failed-true, bare, keeps-bare}
+use Rattle.words_refusals.proofs.Promised.{finished}
+use Rattle.theory_cover.specs.Over.{coverOver}
+use Rattle.theory_cover.specs.Tables.{settledBy}
+use Rattle.theory_cover.specs.Entries.{EntriesWritten}
+use Rattle.theory_cover.proofs.Blocks.{coverEntries-words, cover-from}
 use Rattle.cover_implicants.proofs.Listing.{length-words}
 use Rattle.op_cover.specs.Table.{Tabulated}
 
@@ -72,8 +74,10 @@ module _ {b : Block} {table entry exit : List ℕ} {n count : ℕ} (t : Tabulate
 
 -- ---- the two answers behind the table, from the test of the room
 
-module _ (ws : List ℕ) {table entry exit : List ℕ} {n count room : ℕ} {test : Test} (whole : isMalformed ws ≡ false) (t : Tabulated (decode ws) table)
-    (e : n ≡ inputCount (decode ws)) (w : EntriesWritten (coverOver (settledBy table) n) entry exit count) (kept : room ≡ length entry)
+module _ (ws : List ℕ) {table entry exit : List ℕ} {n count room : ℕ} {test : Test} (whole : isMalformed ws ≡ false)
+    (t : Tabulated (decode ws) table)
+    (e : n ≡ inputCount (decode ws)) (w : EntriesWritten (coverOver (settledBy table) n) entry exit count)
+    (kept : room ≡ length entry)
     (answer : test ≡ testOf (ltb (room / 2) count) NoRoom) where
   tested : test ≡ testOf (ltb (length entry / 2) (length (cover (decode ws)))) NoRoom
   tested = rw (kept, count-is t e w) at answer
@@ -81,9 +85,11 @@ module _ (ws : List ℕ) {table entry exit : List ℕ} {n count room : ℕ} {tes
   pub cover-short : {r : Answer} → IsFailed test → r ≡ refusalOf test → Promise (coverOf ws (length entry)) entry r exit
   cover-short k f =
       let short = ltb-true (length entry / 2) (length (cover (decode ws))) (failed-true _ NoRoom tested k) in
-      rw (kept-short t e w (omega arith)) (failed bare keeps-bare _ _ NoRoom (cover-room ws (length entry) whole) tested entry k f)
+      rw (kept-short t e w (omega arith))
+      (failed bare keeps-bare _ _ NoRoom (cover-room ws (length entry) whole) tested entry k f)
 
   pub cover-done : test ≡ Passed → Promise (coverOf ws (length entry)) entry (Done count 0) exit
   cover-done f =
       let enough = ltb-false (length entry / 2) (length (cover (decode ws))) (passed-false _ NoRoom tested f) in
-      finished (passed bare keeps-bare _ _ NoRoom (cover-room ws (length entry) whole) tested f) (count-is t e w) (placed-all t e w (omega arith))
+      finished (passed bare keeps-bare _ _ NoRoom (cover-room ws (length entry) whole) tested f) (count-is t e w)
+      (placed-all t e w (omega arith))

@@ -35,7 +35,10 @@ fn whole_cover(
 ) -> Answer
     requires { ⌜ isMalformed (now words) ≡ false ⌝ }
     requires { ⌜ CoverRoom (now graph) (now order) (now ends) (now lanes) (now settled) ⌝ }
-    ensures { λ r. ⌜ Promise (coverOf (now (words .entry)) (length (now (entries .entry)))) (now (entries .entry)) r (now (entries .exit)) ⌝ }
+    ensures { λ r. ⌜
+        Promise (coverOf (now (words .entry)) (length (now (entries .entry)))) (now (entries .entry)) r
+        (now (entries .exit))
+        ⌝ }
 {
     tabulate(words, graph, order, ends, lanes, settled);
     let n = offsets::inputs_of(words);
@@ -49,7 +52,10 @@ fn whole_cover(
 
 // Cover (6, 11): two words an entry; count: entries.
 pub fn cover(words: &[u16], entries: &mut [u16]) -> Answer
-    ensures { λ r. ⌜ Promise (coverOf (now (words .entry)) (length (now (entries .entry)))) (now (entries .entry)) r (now (entries .exit)) ⌝ }
+    ensures { λ r. ⌜
+        Promise (coverOf (now (words .entry)) (length (now (entries .entry)))) (now (entries .entry)) r
+        (now (entries .exit))
+        ⌝ }
 {
     let tested = check_words(words);
     let Test::Passed = tested else {

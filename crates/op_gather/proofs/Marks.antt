@@ -46,7 +46,7 @@ module _ (m : ℕ) (order : List ℕ) where
     places-high h =
         not-each (λ e. let l : getD order t 0 < m = permutation-each m order e .below t in-list in omega arith)
 
-    -- it is marked already
+    -- the number is marked already
     pub places-again : getD order t 0 < m → getD places (getD order t 0) 0 < m → Places m order false places
     unfolding numberAt
     places-again l h =
@@ -56,7 +56,7 @@ module _ (m : ℕ) (order : List ℕ) where
         ≡ t = permutation-each m order e .apart _ t h in-list is in omega arith)
         (k .others (getD order t 0) l))
 
-    -- it is marked now
+    -- the number is marked now
     pub marked-next : getD order t 0 < m → m ≤ getD places (getD order t 0) 0
         → PlacesMarked m order (t + 1) (set places (getD order t 0) t)
     marked-next l new =

@@ -1,5 +1,5 @@
--- A block written with its gates in another order: the words of each part, and what writing asks of its slices. Assumes
--- nothing.
+-- A block written with its gates permuted: the words of each part, and what writing asks of its slices.
+-- Assumes nothing.
 use Prim.Native.Nat.{ℕ, _+_, _≤_}
 use mathlib.Core.Path.{_≡_}
 use mathlib.Core.Bool.{false}

@@ -1,4 +1,4 @@
-// Writing a block with its gates in another order, when nothing can refuse any more. Gather and Scatter both call it.
+// A block's words written with its gates permuted, after all tests have passed. Gather and Scatter both call it.
 use unroll_emission::entry::copy_words;
 use unroll_emission::entry::write_gate;
 use unroll_emission::rendered::copy_outputs;
@@ -18,8 +18,10 @@ ghost use Rattle.op_gather.specs.Arranging.{newWord, movedAt, arrangemen
 
 // The word that stands for each gate under its new number.
 fn fill_table(nodes: Nodes, numbers: &[u16], table: &mut [u16])
-    requires { ⌜ (nodes .inputs + nodes .gates ≤ nodeRoom) × Order (nodes .gates) (nodes .gates) (now numbers) × (nodes .gates ≤ length (now table)) ⌝ }
-    ensures { λ r. ⌜ now (table .exit) ≡ placed (tab (newWord (nodes .inputs) (now (numbers .entry))) (nodes .gates)) (now (table .entry)) ⌝ }
+    requires { ⌜ (nodes .inputs + nodes .gates ≤ nodeRoom) × Order (nodes .gates) (nodes .gates) (now numbers)
+        × (nodes .gates ≤ length (now table)) ⌝ }
+    ensures { λ r. ⌜ now (table .exit)
+        ≡ placed (tab (newWord (nodes .inputs) (now (numbers .entry))) (nodes .gates)) (now (table .entry)) ⌝ }
 {
     let mut j = 0;
     while j < nodes.gates {
@@ -30,7 +32,8 @@ fn fill_table(nodes: Nodes, numbers: &[u16], table: &mut [u16])
 
 // Writes the gates in the order listed, their operands renumbered.
 fn move_gates(words: &[u16], nodes: Nodes, order: &[u16], table: &[u16], out: &mut [u16])
-    requires { ⌜ Order (nodes .gates) (nodes .gates) (now order) × GateRoom (now words) nodes (nodes .gates) (now table) (now out) ⌝ }
+    requires { ⌜ Order (nodes .gates) (nodes .gates) (now order)
+        × GateRoom (now words) nodes (nodes .gates) (now table) (now out) ⌝ }
     ensures { λ r. ⌜
         now (out .exit) ≡ sets (now (out .entry)) (nodes .start)
         (joined (tab (movedAt (now (words .entry)) nodes (now (order .entry)) (now (table .entry))) (nodes .gates)))
@@ -52,7 +55,10 @@ pub fn write_arranged(
     out: &mut [u16],
 )
     requires { ⌜ ArrangeReady (now words) (now order) (now numbers) (now table) (now out) ⌝ }
-    ensures { λ r. ⌜ now (out .exit) ≡ placed (encode (arrangement (now (words .entry)) (now (order .entry)) (now (numbers .entry)))) (now (out .entry)) ⌝ }
+    ensures { λ r.
+        ⌜ now (out .exit) ≡ placed
+        (encode (arrangement (now (words .entry)) (now (order .entry)) (now (numbers .entry))))
+        (now (out .entry)) ⌝ }
 {
     let nodes = nodes_of(words);
     let outputs = nodes.start + GATE_SIZE * nodes.gates;

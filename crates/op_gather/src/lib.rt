@@ -22,7 +22,8 @@ pub mod steps;
 // Writes the gathered words and their list into slices that have room; makes the arrays that this needs.
 fn gather_block(words: &[u16], gathered: &mut [u16], order: &mut [u16])
     requires { ⌜ BlockRoom (now words) (now gathered) (now order) ⌝ }
-    ensures { λ r. ⌜ now (gathered .exit) ≡ placed (gatheredWords (decode (now (words .entry)))) (now (gathered .entry)) ⌝ }
+    ensures { λ r.
+        ⌜ now (gathered .exit) ≡ placed (gatheredWords (decode (now (words .entry)))) (now (gathered .entry)) ⌝ }
     ensures { λ r. ⌜ now (order .exit) ≡ placed (gatheredOrder (decode (now (words .entry)))) (now (order .entry)) ⌝ }
 {
     let mut numbers = [0u16; MAX_GATES];
@@ -40,7 +41,8 @@ fn gather_block(words: &[u16], gathered: &mut [u16], order: &mut [u16])
 
 // Gather (6, 11): the block with its gates by group, and the list of their old numbers; count: the block's words.
 pub fn gather(words: &[u16], gathered: &mut [u16], order: &mut [u16]) -> Answer
-    ensures { λ r. ⌜ GatherPromise (now (words .entry)) (now (gathered .entry)) (now (order .entry)) r (now (gathered .exit)) (now (order .exit)) ⌝ }
+    ensures { λ r. ⌜ GatherPromise (now (words .entry)) (now (gathered .entry)) (now (order .entry)) r
+        (now (gathered .exit)) (now (order .exit)) ⌝ }
 {
     let tested = check_words(words);
     let Test::Passed = tested else {
@@ -61,7 +63,8 @@ pub fn gather(words: &[u16], gathered: &mut [u16], order: &mut [u16]) -> Answer
 fn scatter_block(words: &[u16], order: &[u16], original: &mut [u16]) -> Answer
     requires { ⌜ isMalformed (now words) ≡ false ⌝ }
     ensures { λ r. ⌜
-        Promise (scatterOf (now (words .entry)) (now (order .entry)) (length (now (original .entry)))) (now (original .entry)) r (now (original .exit))
+        Promise (scatterOf (now (words .entry)) (now (order .entry)) (length (now (original .entry))))
+        (now (original .entry)) r (now (original .exit))
         ⌝ }
 {
     let mut places = [0u16; MAX_GATES];
@@ -73,7 +76,8 @@ fn scatter_block(words: &[u16], order: &[u16], original: &mut [u16]) -> Answer
 // words.
 pub fn scatter(words: &[u16], order: &[u16], original: &mut [u16]) -> Answer
     ensures { λ r. ⌜
-        Promise (scatterOf (now (words .entry)) (now (order .entry)) (length (now (original .entry)))) (now (original .entry)) r (now (original .exit))
+        Promise (scatterOf (now (words .entry)) (now (order .entry)) (length (now (original .entry))))
+        (now (original .entry)) r (now (original .exit))
         ⌝ }
 {
     let tested = check_words(words);

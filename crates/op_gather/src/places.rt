@@ -1,5 +1,4 @@
-// The inverse of a permutation: where each number stands in a list that is each number below m once, and whether a list
-// is that.
+// Is a list a permutation of the numbers below m, and if so, its inverse: the place of each number.
 use words_layout::fill::fill_words;
 ghost use Prim.Native.Nat.{_≤_};
 ghost use lib.ListN.{length};

@@ -1,4 +1,4 @@
-// The steps of Gather and Scatter on a block that is not torn, with arrays lent.
+// Gather and Scatter of a block that is not malformed, with the scratch arrays lent by the caller.
 use crate::arranged::write_arranged;
 use crate::places::find_places;
 use netlist::Answer;
@@ -43,7 +43,8 @@ pub fn write_gathered(
     order: &mut [u16],
 )
     requires { ⌜ GatherReady (now words) (now numbers) (now places) (now table) (now gathered) (now order) ⌝ }
-    ensures { λ r. ⌜ now (gathered .exit) ≡ placed (gatheredWords (decode (now (words .entry)))) (now (gathered .entry)) ⌝ }
+    ensures { λ r.
+        ⌜ now (gathered .exit) ≡ placed (gatheredWords (decode (now (words .entry)))) (now (gathered .entry)) ⌝ }
     ensures { λ r. ⌜ now (order .exit) ≡ placed (gatheredOrder (decode (now (words .entry)))) (now (order .entry)) ⌝ }
 {
     let m = gates_of(words);
@@ -63,7 +64,8 @@ pub fn scatter_with(
 ) -> Answer
     requires { ⌜ ScatterReady (now words) (now places) (now table) ⌝ }
     ensures { λ r. ⌜
-        Promise (scatter (now (words .entry)) (now (order .entry)) (length (now (original .entry)))) (now (original .entry)) r (now (original .exit))
+        Promise (scatter (now (words .entry)) (now (order .entry)) (length (now (original .entry))))
+        (now (original .entry)) r (now (original .exit))
         ⌝ }
 {
     let listed = find_places(order, gates_of(words), places);

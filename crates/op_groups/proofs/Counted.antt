@@ -1,7 +1,7 @@
 -- Counts of held slots, through each step of the code.
 --   counting-none, counting-more              the first counts
 --   waiting-start                             the groups that wait for nothing are ready
---   waiting-as, wake-one, wake-none           a slot is woken
+--   waiting-as, count-down-some, -stays, -ready, -skip   a slot is counted down
 --   number-one                                a gate gets its number
 --   taken-out, taken-in                       a group is taken out of the set, and has its number
 --   set-next, lowest-next, none-next          the set holds the groups that may be next
@@ -35,7 +35,7 @@ use Rattle.graph_scc.proofs.Slots.{read-slot, slot-read}
 use Rattle.op_groups.specs.Numbering.{noNumber, unnumbered, numberedGates, leadsNext, NumberReady}
 use Rattle.op_groups.specs.Ready.{inSet, Added, Removed}
 use Rattle.op_groups.specs.Waiting.{slotGate, crosses, isOpen, allOpen, countOf, IsReady, Waiting, Counting}
-use Rattle.op_groups.specs.Waiting.{ReadyBelow, WakeReady, WakeAllReady}
+use Rattle.op_groups.specs.Waiting.{ReadyBelow, CountDownReady, CountDownAllReady}
 use Rattle.op_groups.proofs.Leading.{done-member, lead-le, lead-self, waits, free}
 
 -- ---- counts
@@ -240,7 +240,7 @@ waiting-start {m} {graph} {leaders} {numbers} bare c r =
             let small = slot-inside (c .prepared .legal) e el in
             rw (bare (slotGate graph e) (omega arith)) (sym (and-true (crosses graph leaders e)))
 
--- ---- a slot is woken
+-- ---- a slot is counted down
 
 module _ {m : ℕ} {leaders numbers : List ℕ} {h : ℕ} {held held′ : ℕ → Bool} {counts ready : List ℕ}
     (w : Waiting m leaders numbers h held counts ready) where
@@ -262,8 +262,8 @@ module _ {m : ℕ} {leaders numbers : List ℕ} {h : ℕ} {held held′ : ℕ �
     abbrev left : ℕ
     left = getD counts l 0 - 1
 
-    pub wake-some : 0 < getD counts l 0
-    wake-some =
+    pub count-down-some : 0 < getD counts l 0
+    count-down-some =
         omega (arith, w .counted l lm, count-here leaders held held′ (slots * m) e el was gone others l (sym is))
 
     abbrev counts′ : List ℕ
@@ -285,15 +285,15 @@ module _ {m : ℕ} {leaders numbers : List ℕ} {h : ℕ} {held held′ : ℕ �
         (λ q. n (sym q ∙ sym is)))
         (eq-or-ne i l)
 
-    -- its group waited for something: it has no number, and is not the one that gets it
+    -- the slot's group waited for something: it has no number, and is not the one that gets it
     other : l ≡ h → ⊥
-    other q = omega (arith, wake-some, rw (← q) at (w .taken (rw (← q) lm)))
+    other q = omega (arith, count-down-some, rw (← q) at (w .taken (rw (← q) lm)))
 
     bare : unnumbered numbers l ≡ true
     bare =
         not-false (unnumbered numbers l)
         (not-true-false (not (unnumbered numbers l))
-        (λ t. omega (arith, wake-some, w .emptied l lm leads (not-true (unnumbered numbers l) t))))
+        (λ t. omega (arith, count-down-some, w .emptied l lm leads (not-true (unnumbered numbers l) t))))
 
     emptied : (i : ℕ) → i < m → getD leaders i 0 ≡ i → unnumbered numbers i ≡ false → getD counts′ i 0 ≡ 0
     emptied i im a u =
@@ -302,9 +302,9 @@ module _ {m : ℕ} {leaders numbers : List ℕ} {h : ℕ} {held held′ : ℕ �
     taken : h < m → getD counts′ h 0 ≡ 0
     taken hm = there h (λ q. other (sym q)) ∙ w .taken hm
 
-    -- it waits for more
-    pub wake-stays : (left ≡ 0 → ⊥) → Waiting m leaders numbers h held′ counts′ ready
-    wake-stays more =
+    -- the slot's group waits for more
+    pub count-down-stays : (left ≡ 0 → ⊥) → Waiting m leaders numbers h held′ counts′ ready
+    count-down-stays more =
         record {
           countRoom = length-set counts l left ∙ w .countRoom;
           readyRoom = w .readyRoom;
@@ -313,7 +313,7 @@ module _ {m : ℕ} {leaders numbers : List ℕ} {h : ℕ} {held held′ : ℕ �
           taken = taken;
           sound = λ i t.
               let r = w .sound i t in
-              let n : i ≡ l → ⊥ = λ q. omega (arith, wake-some, rw q at (r .zero)) in
+              let n : i ≡ l → ⊥ = λ q. omega (arith, count-down-some, rw q at (r .zero)) in
               record {
                 below = r .below;
                 other = r .other;
@@ -334,10 +334,10 @@ module _ {m : ℕ} {leaders numbers : List ℕ} {h : ℕ} {held held′ : ℕ �
               });
         }
 
-    -- it is ready
-    pub wake-ready : left ≡ 0 → {ready′ : List ℕ} → length ready′ ≡ length ready → Added l ready ready′
+    -- the slot's group is ready
+    pub count-down-ready : left ≡ 0 → {ready′ : List ℕ} → length ready′ ≡ length ready → Added l ready ready′
         → Waiting m leaders numbers h held′ counts′ ready′
-    wake-ready none {ready′} long add =
+    count-down-ready none {ready′} long add =
         record {
           countRoom = length-set counts l left ∙ w .countRoom;
           readyRoom = long ∙ w .readyRoom;
@@ -363,7 +363,7 @@ module _ {m : ℕ} {leaders numbers : List ℕ} {h : ℕ} {held held′ : ℕ �
         old : (i : ℕ) → inSet ready i ≡ true → IsReady m h leaders numbers counts′ i
         old i t =
             let r = w .sound i t in
-            let n : i ≡ l → ⊥ = λ q. omega (arith, wake-some, rw q at (r .zero)) in
+            let n : i ≡ l → ⊥ = λ q. omega (arith, count-down-some, rw q at (r .zero)) in
             record { below = r .below; other = r .other; leads = r .leads; bare = r .bare; zero = there i n ∙ r .zero }
 
         new : (i : ℕ) → i ≡ l → IsReady m h leaders numbers counts′ i
@@ -372,19 +372,19 @@ module _ {m : ℕ} {leaders numbers : List ℕ} {h : ℕ} {held held′ : ℕ �
 -- ---- the slots that read one gate
 
 module _ (graph leaders numbers : List ℕ) (k : ℕ) (numbered : unnumbered numbers k ≡ false) where
-  -- a slot that reads gate k is held exactly if it crosses and is to be woken
-  held-reader : (upto e : ℕ) → slotPlace graph e ≡ firstGate + k
+  -- a slot that reads gate k is waited for exactly if it crosses and is still to be counted down
+  open-reading : (upto e : ℕ) → slotPlace graph e ≡ firstGate + k
       → isOpen graph leaders numbers k upto e ≡ crosses graph leaders e && ltb e upto
   unfolding isOpen
-  held-reader upto e is =
+  open-reading upto e is =
       let q : slotGate graph e ≡ k = omega (arith, is) in
       rw (q, numbered, eq-eqb k k refl) refl
 
-  -- any other slot does not ask how many are to be woken
-  held-other : (upto upto′ e : ℕ) → (slotPlace graph e ≡ firstGate + k → ⊥)
+  -- any other slot does not depend on how many are still to be counted down
+  open-other : (upto upto′ e : ℕ) → (slotPlace graph e ≡ firstGate + k → ⊥)
       → isOpen graph leaders numbers k upto e ≡ isOpen graph leaders numbers k upto′ e
   unfolding isOpen
-  held-other upto upto′ e n = ⊎-elim none gate (lt-or-le (slotPlace graph e) firstGate)
+  open-other upto upto′ e n = ⊎-elim none gate (lt-or-le (slotPlace graph e) firstGate)
     where
       none : slotPlace graph e < firstGate
           → crosses graph leaders e && (unnumbered numbers (slotGate graph e)
@@ -401,52 +401,52 @@ module _ (graph leaders numbers : List ℕ) (k : ℕ) (numbered : unnumbered num
       gate l = rw (ne-eqb (slotGate graph e) k (λ q. n (omega arith))) refl
 
   -- from one slot down to the next that reads gate k
-  held-down : (upto upto′ : ℕ) → upto′ ≤ upto → ((e : ℕ) → slotPlace graph e ≡ firstGate + k → e < upto → e < upto′)
+  open-down : (upto upto′ : ℕ) → upto′ ≤ upto → ((e : ℕ) → slotPlace graph e ≡ firstGate + k → e < upto → e < upto′)
       → (e : ℕ) → isOpen graph leaders numbers k upto e ≡ isOpen graph leaders numbers k upto′ e
-  held-down upto upto′ le none e =
-      ⊎-elim reader (held-other upto upto′ e) (eq-or-ne (slotPlace graph e) (firstGate + k))
+  open-down upto upto′ le none e =
+      ⊎-elim reading (open-other upto upto′ e) (eq-or-ne (slotPlace graph e) (firstGate + k))
     where
-      reader : slotPlace graph e ≡ firstGate + k
+      reading : slotPlace graph e ≡ firstGate + k
           → isOpen graph leaders numbers k upto e ≡ isOpen graph leaders numbers k upto′ e
-      reader is =
-          rw (held-reader upto e is, held-reader upto′ e is)
+      reading is =
+          rw (open-reading upto e is, open-reading upto′ e is)
           (⊎-elim (λ l. rw (lt-ltb e upto l, lt-ltb e upto′ (none e is l)) refl)
           (λ l. rw (le-ltb e upto l, le-ltb e upto′ (omega arith)) refl) (lt-or-le e upto))
 
-  -- no slot is to be woken
-  pub held-end : (e : ℕ) → isOpen graph leaders numbers k 0 e ≡ allOpen graph leaders numbers e
+  -- no slot is left to be counted down
+  pub open-end : (e : ℕ) → isOpen graph leaders numbers k 0 e ≡ allOpen graph leaders numbers e
   unfolding isOpen allOpen
-  held-end e =
+  open-end e =
       rw (
         le-ltb e 0 (omega arith),
         and-false (eqb (slotGate graph e) k),
         or-false (unnumbered numbers (slotGate graph e)),
       ) refl
 
--- one reader of gate k is woken
+-- one slot that reads gate k is counted down
 module _ {m : ℕ} {graph : List ℕ} {e k : ℕ} {leaders numbers counts ready : List ℕ}
-    (s : WakeReady m graph e k leaders numbers counts ready) where
-  reader-gone : isOpen graph leaders numbers k e e ≡ false
-  reader-gone =
-      rw (held-reader graph leaders numbers k (s .numbered) e e (s .reads), le-ltb e e (omega arith))
+    (s : CountDownReady m graph e k leaders numbers counts ready) where
+  slot-gone : isOpen graph leaders numbers k e e ≡ false
+  slot-gone =
+      rw (open-reading graph leaders numbers k (s .numbered) e e (s .reads), le-ltb e e (omega arith))
       (and-false (crosses graph leaders e))
 
-  reader-was : crosses graph leaders e ≡ true → isOpen graph leaders numbers k (e + 1) e ≡ true
-  reader-was c =
-      rw (held-reader graph leaders numbers k (s .numbered) (e + 1) e (s .reads), lt-ltb e (e + 1) (omega arith), c)
+  slot-was : crosses graph leaders e ≡ true → isOpen graph leaders numbers k (e + 1) e ≡ true
+  slot-was c =
+      rw (open-reading graph leaders numbers k (s .numbered) (e + 1) e (s .reads), lt-ltb e (e + 1) (omega arith), c)
       refl
 
-  reader-others : (x : ℕ) → (x ≡ e → ⊥) → isOpen graph leaders numbers k (e + 1) x ≡ isOpen graph leaders numbers k e x
-  reader-others x n =
-      ⊎-elim reader (held-other graph leaders numbers k (s .numbered) (e + 1) e x)
+  slot-others : (x : ℕ) → (x ≡ e → ⊥) → isOpen graph leaders numbers k (e + 1) x ≡ isOpen graph leaders numbers k e x
+  slot-others x n =
+      ⊎-elim reading (open-other graph leaders numbers k (s .numbered) (e + 1) e x)
       (eq-or-ne (slotPlace graph x) (firstGate + k))
     where
-      reader : slotPlace graph x ≡ firstGate + k
+      reading : slotPlace graph x ≡ firstGate + k
           → isOpen graph leaders numbers k (e + 1) x ≡ isOpen graph leaders numbers k e x
-      reader is =
+      reading is =
           rw (
-            held-reader graph leaders numbers k (s .numbered) (e + 1) x is,
-            held-reader graph leaders numbers k (s .numbered) e x is,
+            open-reading graph leaders numbers k (s .numbered) (e + 1) x is,
+            open-reading graph leaders numbers k (s .numbered) e x is,
           )
           (⊎-elim (λ l. rw (lt-ltb x (e + 1) (omega arith), lt-ltb x e l) refl)
           (λ l. rw (le-ltb x (e + 1) (omega (arith, n)), le-ltb x e l) refl) (lt-or-le x e))
@@ -464,18 +464,18 @@ module _ {m : ℕ} {graph : List ℕ} {e k : ℕ} {leaders numbers counts ready 
     gate-is : slotGate graph e ≡ k
     gate-is = omega (arith, s .reads)
 
-    -- gate k is of the reader's group
-    pub wake-skip : getD leaders k 0 ≡ leader
+    -- gate k is of the group of the gate that reads it
+    pub count-down-skip : getD leaders k 0 ≡ leader
         → Waiting m leaders numbers (getD leaders k 0) (isOpen graph leaders numbers k e) counts ready
-    wake-skip q =
+    count-down-skip q =
         let no′ : crosses graph leaders e ≡ false = crosses-same graph leaders e (rw gate-is (q ∙ is)) in
         let was : isOpen graph leaders numbers k (e + 1) e ≡ false =
-        held-reader graph leaders numbers k (s .numbered) (e + 1) e (s .reads) ∙ rw no′ refl in
+        open-reading graph leaders numbers k (s .numbered) (e + 1) e (s .reads) ∙ rw no′ refl in
         waiting-as (s .waiting)
         (λ x xl. ⊎-elim
         (λ h. subst (λ (y : ℕ). isOpen graph leaders numbers k (e + 1) y ≡ isOpen graph leaders numbers k e y) (sym h)
-        (was ∙ sym reader-gone))
-        (reader-others x) (eq-or-ne x e))
+        (was ∙ sym slot-gone))
+        (slot-others x) (eq-or-ne x e))
 
     module _ (apart : getD leaders k 0 ≡ leader → ⊥) where
       cross : crosses graph leaders e ≡ true
@@ -485,14 +485,14 @@ module _ {m : ℕ} {graph : List ℕ} {e k : ℕ} {leaders numbers counts ready 
 
       pub slot-some : 0 < getD counts leader 0
       slot-some =
-          wake-some (s .waiting) (s .prepared .legal .few) (s .slot) (reader-was cross) reader-gone reader-others is
+          count-down-some (s .waiting) (s .prepared .legal .few) (s .slot) (slot-was cross) slot-gone slot-others is
           leader-below leads
 
       pub slot-stays : (getD counts leader 0 - 1 ≡ 0 → ⊥)
           → Waiting m leaders numbers (getD leaders k 0) (isOpen graph leaders numbers k e)
           (set counts leader (getD counts leader 0 - 1)) ready
       slot-stays =
-          wake-stays (s .waiting) (s .prepared .legal .few) (s .slot) (reader-was cross) reader-gone reader-others is
+          count-down-stays (s .waiting) (s .prepared .legal .few) (s .slot) (slot-was cross) slot-gone slot-others is
           leader-below leads
 
       pub slot-ready : getD counts leader 0 - 1 ≡ 0 → {ready′ : List ℕ} → length ready′ ≡ length ready
@@ -500,7 +500,7 @@ module _ {m : ℕ} {graph : List ℕ} {e k : ℕ} {leaders numbers counts ready 
           → Waiting m leaders numbers (getD leaders k 0) (isOpen graph leaders numbers k e)
           (set counts leader (getD counts leader 0 - 1)) ready′
       slot-ready =
-          wake-ready (s .waiting) (s .prepared .legal .few) (s .slot) (reader-was cross) reader-gone reader-others is
+          count-down-ready (s .waiting) (s .prepared .legal .few) (s .slot) (slot-was cross) slot-gone slot-others is
           leader-below leads
 
 -- ---- a gate gets its number
@@ -523,15 +523,15 @@ module _ {m : ℕ} {graph leaders numbers : List ℕ} {k g : ℕ} {fanout counts
   still : (e : ℕ) → e < slots * m → allOpen graph leaders numbers e
       ≡ isOpen graph leaders (set numbers k g) k (getD fanout k 0) e
   unfolding allOpen isOpen
-  still e el = ⊎-elim reader others (eq-or-ne (slotPlace graph e) (firstGate + k))
+  still e el = ⊎-elim reading others (eq-or-ne (slotPlace graph e) (firstGate + k))
     where
-      reader : slotPlace graph e ≡ firstGate + k
+      reading : slotPlace graph e ≡ firstGate + k
           → allOpen graph leaders numbers e ≡ isOpen graph leaders (set numbers k g) k (getD fanout k 0) e
-      reader is =
+      reading is =
           let q : slotGate graph e ≡ k = omega (arith, is) in
           let low : e < getD fanout k 0 = chain-le (f .descends) (f .found e k el (omega (arith, r .legal .few)) is) in
           rw (
-            held-reader graph leaders (set numbers k g) k has-number (getD fanout k 0) e is,
+            open-reading graph leaders (set numbers k g) k has-number (getD fanout k 0) e is,
             lt-ltb e (getD fanout k 0) low,
             q,
             bare,
@@ -541,8 +541,8 @@ module _ {m : ℕ} {graph leaders numbers : List ℕ} {k g : ℕ} {fanout counts
           → allOpen graph leaders numbers e ≡ isOpen graph leaders (set numbers k g) k (getD fanout k 0) e
       others n =
           ⊎-elim (λ h. no-gate h) (λ h. rw (
-            held-other graph leaders (set numbers k g) k has-number (getD fanout k 0) 0 e n,
-            held-end graph leaders (set numbers k g) k has-number e,
+            open-other graph leaders (set numbers k g) k has-number (getD fanout k 0) 0 e n,
+            open-end graph leaders (set numbers k g) k has-number e,
           ) (gate h))
           (lt-or-le (slotPlace graph e) firstGate)
         where
@@ -586,11 +586,11 @@ module _ {m : ℕ} {graph leaders numbers : List ℕ} {k g : ℕ} {fanout counts
       apart : (i : ℕ) → getD leaders i 0 ≡ i → (i ≡ getD leaders k 0 → ⊥) → i ≡ k → ⊥
       apart i a n q = n (sym a ∙ rw q refl)
 
--- ---- the readers of a gate, down its list
+-- ---- the fan-out of a gate, down its list
 
--- `at` is behind a slot that reads gate k and is to be woken next, or 0; the slots below it that read gate k are in the
--- list from it on
-pub record Waking (m : ℕ) (graph : List ℕ) (k : ℕ) (fanout : List ℕ) (at : ℕ) : Type 0 where
+-- `at` is behind a slot that reads gate k and is to be counted down next, or 0; the slots below it that read gate k are
+-- in the list from it on
+pub record CountingDown (m : ℕ) (graph : List ℕ) (k : ℕ) (fanout : List ℕ) (at : ℕ) : Type 0 where
   pub within : at ≤ slots * m
   pub listed : Chain fanout at (getD fanout k 0)
   pub below : (e : ℕ) → slotPlace graph e ≡ firstGate + k → e < at → Chain fanout (suc e) at
@@ -601,17 +601,17 @@ chain-next at = behind at
 chain-next (behind c) = behind (chain-next c)
 
 module _ {m : ℕ} {graph fanout : List ℕ} (f : Fanout m graph fanout) {k : ℕ} (l : k < m) (few : m ≤ maxGates) where
-  pub waking-first : Waking m graph k fanout (getD fanout k 0)
-  waking-first =
+  pub counting-down-first : CountingDown m graph k fanout (getD fanout k 0)
+  counting-down-first =
       record {
         within = f .starts k (omega arith);
         listed = at;
         below = λ e is h. f .found e k (omega (arith, f .starts k (omega arith))) (omega arith) is;
       }
 
-  module _ {e : ℕ} (w : Waking m graph k fanout (suc e)) where
-    pub waking-reads : slotPlace graph e ≡ firstGate + k
-    waking-reads = f .only e k (omega arith) (w .listed)
+  module _ {e : ℕ} (w : CountingDown m graph k fanout (suc e)) where
+    pub counting-down-reads : slotPlace graph e ≡ firstGate + k
+    counting-down-reads = f .only e k (omega arith) (w .listed)
 
     -- the slots that read gate k go on from the next one
     lower : (x : ℕ) → slotPlace graph x ≡ firstGate + k → x < e → Chain fanout (suc x) (getD fanout (maxGates + e) 0)
@@ -622,8 +622,8 @@ module _ {m : ℕ} {graph fanout : List ℕ} (f : Fanout m graph fanout) {k : �
         go at {y} q h = absurd (omega arith)
         go (behind {q = z} c) {y} q h = let same : z ≡ y = omega arith in rw same at c
 
-    pub waking-next : Waking m graph k fanout (getD fanout (maxGates + e) 0)
-    waking-next =
+    pub counting-down-next : CountingDown m graph k fanout (getD fanout (maxGates + e) 0)
+    counting-down-next =
         record {
           within = omega (arith, f .descends e, w .within);
           listed = chain-next (w .listed);
@@ -631,12 +631,12 @@ module _ {m : ℕ} {graph fanout : List ℕ} (f : Fanout m graph fanout) {k : �
         }
 
     -- none of them is passed over
-    pub waking-down : {leaders numbers counts ready : List ℕ} {h : ℕ} → unnumbered numbers k ≡ false
+    pub counting-down-down : {leaders numbers counts ready : List ℕ} {h : ℕ} → unnumbered numbers k ≡ false
         → Waiting m leaders numbers h (isOpen graph leaders numbers k e) counts ready
         → Waiting m leaders numbers h (isOpen graph leaders numbers k (getD fanout (maxGates + e) 0)) counts ready
-    waking-down {leaders} {numbers} numbered s =
+    counting-down-down {leaders} {numbers} numbered s =
         waiting-as s
-        (λ x xl. held-down graph leaders numbers k numbered e (getD fanout (maxGates + e) 0) (f .descends e)
+        (λ x xl. open-down graph leaders numbers k numbered e (getD fanout (maxGates + e) 0) (f .descends e)
         (λ y is h. chain-le (f .descends) (lower y is h)) x)
 
 -- ---- a group is taken
@@ -667,7 +667,7 @@ module _ {m : ℕ} {leaders numbers : List ℕ} {held : ℕ → Bool} {counts re
             (rw (ne-eqb i h (r .other)) refl);
       }
 
-  -- it has its number
+  -- the group that was taken out of the set has its number
   pub taken-in : {h : ℕ} → Waiting m leaders numbers h held counts ready → unnumbered numbers h ≡ false
       → Waiting m leaders numbers m held counts ready
   taken-in {h} w has =
@@ -794,7 +794,7 @@ module _ {m : ℕ} {graph leaders numbers counts ready : List ℕ} (r : NumberRe
           })
 
   module _ {j : ℕ} (is : j ≡ least (inSet ready) (64 * length ready)) where
-    -- it is in the set
+    -- the lowest gate is in the set
     pub lowest-in : j < m → inSet ready j ≡ true
     lowest-in l =
         rw is (least-at (inSet ready) (64 * length ready) (rw (← is) (omega (arith, w .readyRoom, r .legal .few))))

@@ -1,6 +1,6 @@
 -- A group gets its number, gate after gate. Cited by `number_group`. Assumes nothing.
 --   group-first     none has it yet
---   group-wake      the next gate has it, and its readers are to be woken
+--   group-count-down      the next gate has it, and its fan-out is to be counted down
 --   group-next      they are
 --   group-end       all have it
 use mathlib.Core.Path.{_≡_, refl, sym, _∙_}
@@ -19,7 +19,7 @@ use Rattle.graph_links.specs.Links.{FirstFrom}
 use Rattle.graph_links.proofs.Linking.{next-above}
 use Rattle.op_groups.specs.Numbering.{noNumber, unnumbered}
 use Rattle.op_groups.specs.Ready.{Removed}
-use Rattle.op_groups.specs.Waiting.{allOpen, Waiting, WakeAllReady, NumberGroupReady, GroupNumbered}
+use Rattle.op_groups.specs.Waiting.{allOpen, Waiting, CountDownAllReady, NumberGroupReady, GroupNumbered}
 use Rattle.op_groups.proofs.Leading.{lead-le, lowest}
 use Rattle.op_groups.proofs.Counted.{has-number, number-one, taken-out, taken-in}
 
@@ -72,8 +72,8 @@ module _ {m leader g : ℕ} {graph leaders nexts fanout numbers₀ counts₀ rea
         waits : Waiting m leaders numbers (getD leaders k 0) (allOpen graph leaders numbers) counts ready
         waits = rw (u .led l) (u .waiting)
 
-        pub group-wake : WakeAllReady m graph k leaders (set numbers k g) fanout counts ready
-        group-wake =
+        pub group-count-down : CountDownAllReady m graph k leaders (set numbers k g) fanout counts ready
+        group-count-down =
             record {
               prepared = s .linked .prepared;
               linked = s .linked .linked;

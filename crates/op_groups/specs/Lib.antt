@@ -1,3 +1,4 @@
+-- What the contracts of this crate add to the definitions of `netlist`.
 pub mod Numbering
 pub mod Ready
 pub mod Waiting

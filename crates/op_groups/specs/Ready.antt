@@ -7,8 +7,12 @@ use lib.ListN.{getD}
 use lib.Dec.{eqb}
 use Rattle.lanes_dual_rail.specs.Words.{hasLane}
 
+-- the code's ready::WORD_BITS
+abbrev pub wordBits : ℕ
+wordBits = 64
+
 unfoldable pub inSet : List ℕ → ℕ → Bool
-inSet ready l = hasLane (getD ready (l / 64) 0) (l % 64)
+inSet ready l = hasLane (getD ready (l / wordBits) 0) (l % wordBits)
 
 -- the set with gate l added, and the set without it
 abbrev pub Added : ℕ → List ℕ → List ℕ → Type 0

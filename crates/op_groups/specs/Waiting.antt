@@ -1,7 +1,8 @@
--- Groups that wait (Kahn's algorithm on strongly connected groups): each counts the slots of its gates that read a gate
--- of another group without a number. A group whose count is 0 may be next.
+-- The counts of Kahn's algorithm on strongly connected groups: each group counts the slots of its gates that read a
+-- gate of another group without a number. A group whose count is 0 may be next.
 --   crosses       a slot reads a gate of another group
---   isOpen        a slot that its group waits for: the gate has no number, or has it and the slot was not woken yet
+--   isOpen        a slot that its group waits for: the gate that it reads has no number, or the slot is still to be
+--                 counted down
 --   countOf       the slots that a group waits for
 --   Waiting       all counts are right, and the set holds the groups that are ready
 -- Assumes nothing.
@@ -33,12 +34,12 @@ crosses graph leaders e =
     leb firstGate (slotPlace graph e) && not (eqb (getD leaders (slotGate graph e) 0) (getD leaders (e / slots) 0))
 
 -- slot e is waited for, at the moment when gate k has its number and, of the slots that read k, those with numbers
--- below `at` are still to be woken
+-- below `at` are still to be counted down
 unfoldable pub isOpen : List ℕ → List ℕ → List ℕ → ℕ → ℕ → ℕ → Bool
 isOpen graph leaders numbers k at e =
     crosses graph leaders e && (unnumbered numbers (slotGate graph e) || (eqb (slotGate graph e) k && ltb e at))
 
--- slot e is waited for, when no slot is to be woken: it reads a gate of another group that has no number
+-- slot e is waited for, when no slot is left to be counted down: it reads a gate of another group that has no number
 unfoldable pub allOpen : List ℕ → List ℕ → List ℕ → ℕ → Bool
 allOpen graph leaders numbers e = crosses graph leaders e && unnumbered numbers (slotGate graph e)
 
@@ -77,10 +78,10 @@ pub record ReadyBelow (l : ℕ) (leaders counts ready : List ℕ) : Type 0 where
   pub sound : (i : ℕ) → inSet ready i ≡ true → (i < l) × (getD leaders i 0 ≡ i) × (getD counts i 0 ≡ 0)
   pub complete : (i : ℕ) → i < l → getD leaders i 0 ≡ i → getD counts i 0 ≡ 0 → inSet ready i ≡ true
 
--- ---- the fan-out: slots are woken when the gate that they read gets its number
+-- ---- the fan-out: its slots are counted down when the gate that they read gets its number
 
--- slot e reads gate k, which has its number; slots above it were woken
-pub record WakeReady (m : ℕ) (graph : List ℕ) (e k : ℕ) (leaders numbers counts ready : List ℕ) : Type 0 where
+-- slot e reads gate k, which has its number; slots above it were counted down
+pub record CountDownReady (m : ℕ) (graph : List ℕ) (e k : ℕ) (leaders numbers counts ready : List ℕ) : Type 0 where
   pub prepared : NumberReady m graph leaders
   pub slot : e < slots * m
   pub reads : slotPlace graph e ≡ firstGate + k
@@ -88,7 +89,8 @@ pub record WakeReady (m : ℕ) (graph : List ℕ) (e k : ℕ) (leaders numbers c
   pub numbered : unnumbered numbers k ≡ false
   pub waiting : Waiting m leaders numbers (getD leaders k 0) (isOpen graph leaders numbers k (e + 1)) counts ready
 
-pub record WakeAllReady (m : ℕ) (graph : List ℕ) (k : ℕ) (leaders numbers fanout counts ready : List ℕ) : Type 0 where
+pub record CountDownAllReady (m : ℕ) (graph : List ℕ) (k : ℕ)
+    (leaders numbers fanout counts ready : List ℕ) : Type 0 where
   pub prepared : NumberReady m graph leaders
   pub linked : Fanout m graph fanout
   pub below : k < m

@@ -17,7 +17,8 @@ mod waiting;
 
 // Groups (6, 11): each gate's group number, a word each; count: groups.
 pub fn groups(words: &[u16], numbers: &mut [u16]) -> Answer
-    ensures { λ r. ⌜ Promise (groupsOf (now (words .entry)) (length (now (numbers .entry)))) (now (numbers .entry)) r (now (numbers .exit)) ⌝ }
+    ensures { λ r. ⌜ Promise (groupsOf (now (words .entry)) (length (now (numbers .entry)))) (now (numbers .entry)) r
+        (now (numbers .exit)) ⌝ }
 {
     let tested = check_words(words);
     let Test::Passed = tested else {

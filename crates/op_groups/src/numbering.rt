@@ -4,8 +4,8 @@ use crate::ready::READY_WORDS;
 use crate::ready::lowest;
 use crate::ready::remove;
 use crate::waiting::add_all_ready;
+use crate::waiting::count_down;
 use crate::waiting::count_slots;
-use crate::waiting::wake;
 use graph_gates::GRAPH_WORDS;
 use graph_gates::fanout::FANOUT_WORDS;
 use graph_gates::fanout::link_slots;
@@ -41,11 +41,13 @@ fn number_group(
     ready: &mut [u64; READY_WORDS],
 )
     requires { ⌜
-        NumberGroupReady (turn .gates) (turn .leader) (turn .number) (now graph) (now leaders) (now nexts) (now fanout) (now numbers) (now counts)
+        NumberGroupReady (turn .gates) (turn .leader) (turn .number) (now graph) (now leaders) (now nexts) (now fanout)
+        (now numbers) (now counts)
         (now ready)
         ⌝ }
     ensures { λ r. ⌜
-        GroupNumbered (turn .gates) (turn .leader) (turn .number) (now (graph .entry)) (now (leaders .entry)) (now (numbers .entry))
+        GroupNumbered (turn .gates) (turn .leader) (turn .number) (now (graph .entry)) (now (leaders .entry))
+        (now (numbers .entry))
         (now (numbers .exit)) (now (counts .exit)) (now (ready .exit))
         ⌝ }
 {
@@ -53,7 +55,7 @@ fn number_group(
     let mut k = turn.leader;
     while k < turn.gates {
         numbers[k] = turn.number as u16;
-        wake(
+        count_down(
             graph,
             turn.gates,
             k,
@@ -78,7 +80,10 @@ fn number_all(
     counts: &mut [u16; MAX_GATES],
     ready: &mut [u64; READY_WORDS],
 ) -> usize
-    requires { ⌜ AllReady m (now graph) (now leaders) (now nexts) (now fanout) (now numbers) (now counts) (now ready) ⌝ }
+    requires { ⌜
+        AllReady m (now graph) (now leaders) (now nexts) (now fanout) (now numbers)
+        (now counts) (now ready)
+        ⌝ }
     ensures { λ r. ⌜ NumbersOf (network m (now (graph .entry))) m (now (numbers .exit)) r ⌝ }
 {
     let mut g = 0;
@@ -110,9 +115,13 @@ fn prepare(
     counts: &mut [u16; MAX_GATES],
     ready: &mut [u64; READY_WORDS],
 )
-    requires { ⌜ NumberRooms m (now graph) (now leaders) (now nexts) (now fanout) (now numbers) (now counts) (now ready) ⌝ }
+    requires { ⌜
+        NumberRooms m (now graph) (now leaders) (now nexts) (now fanout) (now numbers)
+        (now counts) (now ready)
+        ⌝ }
     ensures { λ r. ⌜
-        AllReady m (now (graph .entry)) (now (leaders .exit)) (now (nexts .exit)) (now (fanout .exit)) (now (numbers .exit)) (now (counts .exit))
+        AllReady m (now (graph .entry)) (now (leaders .exit)) (now (nexts .exit)) (now (fanout .exit))
+        (now (numbers .exit)) (now (counts .exit))
         (now (ready .exit))
         ⌝ }
 {
@@ -137,7 +146,10 @@ fn number_with(
     counts: &mut [u16; MAX_GATES],
     ready: &mut [u64; READY_WORDS],
 ) -> usize
-    requires { ⌜ NumberRooms m (now graph) (now leaders) (now nexts) (now fanout) (now numbers) (now counts) (now ready) ⌝ }
+    requires { ⌜
+        NumberRooms m (now graph) (now leaders) (now nexts) (now fanout) (now numbers)
+        (now counts) (now ready)
+        ⌝ }
     ensures { λ r. ⌜ NumbersOf (network m (now (graph .entry))) m (now (numbers .exit)) r ⌝ }
 {
     prepare(graph, m, leaders, nexts, fanout, numbers, counts, ready);

@@ -1,4 +1,4 @@
-// A set of gates as words of bits, 64 gates to a word; Kahn's ready set is one.
+// A bit set of gates, 64 to a word: Kahn's algorithm keeps the leaders of the ready groups in one.
 use lanes_dual_rail::words::lowest_lane;
 use words_layout::limits::MAX_GATES;
 ghost use mathlib.Core.Path.{_≡_};
@@ -7,8 +7,9 @@ ghost use Prim.Native.Nat.{_*_, _≤_, _<_};
 ghost use lib.ListN.{length};
 ghost use Rattle.prelude.specs.Lists.{least};
 ghost use Rattle.netlist.specs.Limits.{maxGates};
-ghost use Rattle.op_groups.specs.Ready.{inSet, Added, Removed};
+ghost use Rattle.op_groups.specs.Ready.{wordBits, inSet, Added, Removed};
 
+// The bits of a word of the set.
 const WORD_BITS: usize = 64;
 
 // The words that have a bit for each gate.
@@ -16,7 +17,7 @@ pub const READY_WORDS: usize = MAX_GATES / WORD_BITS;
 
 // Adds gate l to the set.
 pub fn add(l: usize, ready: &mut [u64])
-    requires { ⌜ l < 64 * length (now ready) ⌝ }
+    requires { ⌜ l < wordBits * length (now ready) ⌝ }
     ensures { λ r. ⌜ Added l (now (ready .entry)) (now (ready .exit)) ⌝ }
 {
     let at = l / WORD_BITS;
@@ -25,17 +26,17 @@ pub fn add(l: usize, ready: &mut [u64])
 
 // Takes gate l, which is in the set, out of it.
 pub fn remove(l: usize, ready: &mut [u64])
-    requires { ⌜ (l < 64 * length (now ready)) × (inSet (now ready) l ≡ true) ⌝ }
+    requires { ⌜ (l < wordBits * length (now ready)) × (inSet (now ready) l ≡ true) ⌝ }
     ensures { λ r. ⌜ Removed l (now (ready .entry)) (now (ready .exit)) ⌝ }
 {
     let at = l / WORD_BITS;
     ready[at] = ready[at] ^ 1u64 << (l % WORD_BITS);
 }
 
-// The lowest gate in the set; where it is empty, 64 for each word.
+// The lowest gate in the set; where it is empty, the number of all its bits.
 pub fn lowest(ready: &[u64]) -> usize
     requires { ⌜ length (now ready) ≤ maxGates ⌝ }
-    ensures { λ r. ⌜ r ≡ least (inSet (now (ready .entry))) (64 * length (now (ready .entry))) ⌝ }
+    ensures { λ r. ⌜ r ≡ least (inSet (now (ready .entry))) (wordBits * length (now (ready .entry))) ⌝ }
 {
     let mut at = 0;
     while at < ready.len() {

@@ -1,6 +1,6 @@
-// The counts of Kahn's algorithm: each group counts the slots of its gates that read a gate of another group without a
-// number, and is ready where there is none. When a gate gets its number, the group of each slot in its fan-out counts
-// one less.
+// The counts of Kahn's algorithm (in-degrees): each group counts the slots of its gates that read a gate of another
+// group without a number, and is ready where there is none. When a gate gets its number, the group of each slot in its
+// fan-out counts one less.
 use crate::ready::READY_WORDS;
 use crate::ready::add;
 use graph_gates::FIRST_GATE;
@@ -17,7 +17,8 @@ ghost use lib.ListN.{getD};
 ghost use Rattle.netlist.specs.Limits.{maxGates};
 ghost use Rattle.graph_gates.specs.Graph.{slots};
 ghost use Rattle.graph_gates.specs.Fanout.{fanoutSize};
-ghost use Rattle.op_groups.specs.Waiting.{isOpen, allOpen, Waiting, Counting, ReadyBelow, WakeReady, WakeAllReady};
+ghost use Rattle.op_groups.specs.Waiting.{isOpen, allOpen, Waiting, Counting, ReadyBelow, CountDownReady};
+ghost use Rattle.op_groups.specs.Waiting.{CountDownAllReady};
 
 // Word i of the fan-out.
 fn fanout_word(fanout: &[u16; FANOUT_WORDS], i: usize) -> u16
@@ -102,8 +103,8 @@ pub fn add_all_ready(
     }
 }
 
-// Gate k, which slot e reads, got its number: the group of the slot's gate waits for that slot no more.
-fn wake_slot(
+// Gate k, which slot e reads, got its number: the group of the slot's gate counts one slot less, unless it is gate k's.
+fn count_down_slot(
     graph: &[u16; GRAPH_WORDS],
     m: usize,
     e: usize,
@@ -113,10 +114,11 @@ fn wake_slot(
     counts: &mut [u16; MAX_GATES],
     ready: &mut [u64; READY_WORDS],
 )
-    requires { ⌜ WakeReady m (now graph) e k (now leaders) (now numbers) (now counts) (now ready) ⌝ }
+    requires { ⌜ CountDownReady m (now graph) e k (now leaders) (now numbers) (now counts) (now ready) ⌝ }
     ensures { λ r. ⌜
         Waiting m (now (leaders .entry)) (now (numbers .entry)) (getD (now (leaders .entry)) k 0)
-        (isOpen (now (graph .entry)) (now (leaders .entry)) (now (numbers .entry)) k e) (now (counts .exit)) (now (ready .exit))
+        (isOpen (now (graph .entry)) (now (leaders .entry)) (now (numbers .entry)) k e) (now (counts .exit))
+        (now (ready .exit))
         ⌝ }
 {
     let leader = word_of(leaders, e / SLOTS) as usize;
@@ -130,8 +132,8 @@ fn wake_slot(
     }
 }
 
-// Gate k got its number: each slot that reads it is woken, from the last one down.
-pub fn wake(
+// Gate k got its number: the group of each slot in its fan-out counts one less, from the last slot down.
+pub fn count_down(
     graph: &[u16; GRAPH_WORDS],
     m: usize,
     k: usize,
@@ -141,16 +143,17 @@ pub fn wake(
     counts: &mut [u16; MAX_GATES],
     ready: &mut [u64; READY_WORDS],
 )
-    requires { ⌜ WakeAllReady m (now graph) k (now leaders) (now numbers) (now fanout) (now counts) (now ready) ⌝ }
+    requires { ⌜ CountDownAllReady m (now graph) k (now leaders) (now numbers) (now fanout) (now counts) (now ready) ⌝ }
     ensures { λ r. ⌜
         Waiting m (now (leaders .entry)) (now (numbers .entry)) (getD (now (leaders .entry)) k 0)
-        (allOpen (now (graph .entry)) (now (leaders .entry)) (now (numbers .entry))) (now (counts .exit)) (now (ready .exit))
+        (allOpen (now (graph .entry)) (now (leaders .entry)) (now (numbers .entry))) (now (counts .exit))
+        (now (ready .exit))
         ⌝ }
 {
     let mut at = fanout_word(fanout, k) as usize;
     while 0 < at {
         let e = at - 1;
-        wake_slot(graph, m, e, k, leaders, numbers, counts, ready);
+        count_down_slot(graph, m, e, k, leaders, numbers, counts, ready);
         at = fanout_word(fanout, NEXT_AT + e) as usize;
     }
 }

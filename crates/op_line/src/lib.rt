@@ -6,8 +6,9 @@ ghost use mathlib.Core.Bool.{false};
 ghost use Prim.Native.Nat.{ℕ, _+_, _<_, _≤_};
 ghost use lib.ListN.{length, getD, drop};
 ghost use Rattle.netlist.specs.Line.{lf, clamped, startBefore, untilLf, lineStart, lineEnd, lineLength, lineAt};
+ghost use Rattle.op_line.specs.Parts.{partSize};
 
-// The bytes that are looked at together, so that a processor compares many at a time.
+// How many bytes are compared together, in vector instructions.
 const PART: usize = 64;
 
 // The place, or the text's end where the place is past it.
@@ -21,10 +22,10 @@ fn clamp(text: &[u8], place: usize) -> usize
     }
 }
 
-// Does an LF stand in the part from `at` on? Every byte of the part is looked at, so that no byte ends the loop early.
+// Does an LF stand in the part from `at` on? The loop has no early end, so that it is compiled to vector instructions.
 fn has_lf(text: &[u8], at: usize) -> bool
-    requires { ⌜ at + 64 ≤ length (now text) ⌝ }
-    ensures { λ r. ⌜ (r ≡ false → (k : ℕ) → k < 64 → getD (now (text .entry)) (at + k) 0 ≡ lf → ⊥) ⌝ }
+    requires { ⌜ at + partSize ≤ length (now text) ⌝ }
+    ensures { λ r. ⌜ (r ≡ false → (k : ℕ) → k < partSize → getD (now (text .entry)) (at + k) 0 ≡ lf → ⊥) ⌝ }
 {
     let mut found = false;
     let mut i = 0;
@@ -38,7 +39,8 @@ fn has_lf(text: &[u8], at: usize) -> bool
 // Goes back over whole parts without an LF.
 fn skip_before(text: &[u8], at: usize) -> usize
     requires { ⌜ at ≤ length (now text) ⌝ }
-    ensures { λ r. ⌜ (r ≤ length (now (text .entry))) × (startBefore (now (text .entry)) at ≡ startBefore (now (text .entry)) r) ⌝ }
+    ensures { λ r. ⌜ (r ≤ length (now (text .entry)))
+        × (startBefore (now (text .entry)) at ≡ startBefore (now (text .entry)) r) ⌝ }
 {
     let mut start = at;
     while PART <= start {
@@ -53,7 +55,8 @@ fn skip_before(text: &[u8], at: usize) -> usize
 // Goes on over whole parts without an LF.
 fn skip_behind(text: &[u8], at: usize) -> usize
     requires { ⌜ at ≤ length (now text) ⌝ }
-    ensures { λ r. ⌜ (r ≤ length (now (text .entry))) × (at + untilLf (drop at (now (text .entry))) ≡ r + untilLf (drop r (now (text .entry)))) ⌝ }
+    ensures { λ r. ⌜ (r ≤ length (now (text .entry)))
+        × (at + untilLf (drop at (now (text .entry))) ≡ r + untilLf (drop r (now (text .entry)))) ⌝ }
 {
     let mut end = at;
     while PART <= text.len() - end {
@@ -105,7 +108,8 @@ pub fn line_length(text: &[u8], place: usize, start: usize) -> usize
 // start on.
 pub fn line(text: &[u8], place: usize) -> &[u8]
     ensures holds { λ r. ⌜ now r ≡ lineAt (now (text .entry)) place ⌝ }
-    ensures stands { λ r. ⌜ (r .ptr .0 ≡ text .entry .ptr .0) × (r .ptr .1 ≡ text .entry .ptr .1 + lineStart (now (text .entry)) place) ⌝ }
+    ensures stands { λ r. ⌜ (r .ptr .0 ≡ text .entry .ptr .0)
+        × (r .ptr .1 ≡ text .entry .ptr .1 + lineStart (now (text .entry)) place) ⌝ }
 {
     let start = line_start(text, place);
     let end = line_end(text, place);

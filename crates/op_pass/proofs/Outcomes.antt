@@ -75,7 +75,7 @@ straight-of room true straight next e = absurd (omega arith)
 straight-of room false true next e = refl
 straight-of room false false next e = absurd (omega arith)
 
--- so its promise says that its values are Settle's
+-- the promise of Pass says that its values are Settle's
 pub pass-promise : {ws setting entry exit : List ℕ} {r : Answer} → Promise (pass ws setting (length entry)) entry r exit
     → PassPromise ws setting entry r exit
 unfolding pass

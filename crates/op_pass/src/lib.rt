@@ -14,7 +14,8 @@ pub mod sweep;
 
 // Pass (6, 10, 7, 11): the values of a straight block in one sweep, equal to Settle's; count: gates.
 pub fn pass(words: &[u16], setting: &[u8], values: &mut [u8]) -> Answer
-    ensures { λ r. ⌜ PassPromise (now (words .entry)) (now (setting .entry)) (now (values .entry)) r (now (values .exit)) ⌝ }
+    ensures { λ r.
+        ⌜ PassPromise (now (words .entry)) (now (setting .entry)) (now (values .entry)) r (now (values .exit)) ⌝ }
 {
     let tested = check_words(words);
     let Test::Passed = tested else {

@@ -43,7 +43,8 @@ pub fn sweep_gates(
 // Writes the values of one sweep into the first bytes of `out`; gives how many gates there are.
 pub fn sweep_into(words: &[u16], setting: &[u8], out: &mut [u8]) -> usize
     requires { ⌜ (isMalformed (now words) ≡ false) × Bytes (now setting) × (getD (now words) 1 0 ≤ length (now out)) ⌝ }
-    ensures { λ r. ⌜ now (out .exit) ≡ placed (sweepCodes (now (words .entry)) (now (setting .entry))) (now (out .entry)) ⌝ }
+    ensures { λ r.
+        ⌜ now (out .exit) ≡ placed (sweepCodes (now (words .entry)) (now (setting .entry))) (now (out .entry)) ⌝ }
     ensures { λ r. ⌜ r ≡ getD (now (words .entry)) 1 0 ⌝ }
 {
     let table = gate_table();

@@ -5,78 +5,53 @@ use mathlib.Core.List.{List, [], _∷_, _++_, map, append-assoc, map-append, map
 use Prim.Native.Nat.{ℕ, _+_, _*_, _≤_}
 use native.Mathlib.Omega.{arith}
 use lib.ListN.{length, getD, take, length-append, length-map}
-use lib.Seq.{sets, take-take, take-at, getD-take}
-use Rattle.prelude.specs.Lists.{all, tab, joined, sum}
+use lib.Seq.{take-take, take-at, getD-take}
+use Rattle.prelude.specs.Lists.{all, tab, joined}
 use Rattle.prelude.proofs.Tests.{and-left, and-right}
-use Rattle.prelude.proofs.Tab.{length-tab, tab-ext, tab-getD, map-tab}
-use Rattle.prelude.proofs.Stores.{sets-append, length-joined-tab}
+use Rattle.prelude.proofs.Tab.{tab-ext, tab-getD, map-tab}
 use Rattle.netlist.specs.Netlist.{Name, gateCount, outputCount, neverCount}
-use Rattle.netlist.specs.StoredBlock.{inputsAt, neversAt, gatesAt, outputsAt, nameWords, neverWords, gateWords, outputWords, encode}
+use Rattle.netlist.specs.StoredBlock.{nameWords, neverWords, gateWords, outputWords, encode}
 use Rattle.netlist.specs.Names.{isPlainName}
-use Rattle.netlist.specs.Syntax.{name, apply, GateLine, Tree, isLegalTree, printInput, printGate}
-use Rattle.netlist.specs.Reading.{Mention, mentions, inputMention, gateMention, gateLinesAt, declaredNodes, declaredPorts, gatesIn, lineGates, Binding}
-use Rattle.netlist.specs.Reading.{bindings, termGates, linesGates, blockOf}
-use Rattle.theory_encoding.proofs.Encoded.{length-encode}
+use Rattle.netlist.specs.Syntax.{name, Tree, isLegalTree, printInput, printGate}
+use Rattle.netlist.specs.Reading.{Mention, mentions, inputMention, gateMention, gateLinesAt, declaredNodes}
+use Rattle.netlist.specs.Reading.{declaredPorts}
+use Rattle.netlist.specs.Reading.{blockOf}
 use Rattle.theory_encoding.proofs.ListFacts.{length-joined}
 use Rattle.theory_encoding.proofs.Gates.{length-gateWords}
 use Rattle.theory_encoding.proofs.Outputs.{length-outputWords}
-use Rattle.text_symbols.specs.declared.Counts.{Counts}
-use Rattle.text_symbols.specs.Packed.{packed}
-use Rattle.text_symbols.specs.Results.{treeCounts, declared, packedNames}
-use Rattle.text_symbols.proofs.TreeLines.{name-bytes, legal-parts}
+use Rattle.text_counts.specs.declared.Counts.{Counts}
+use Rattle.text_names.specs.Packed.{packed}
+use Rattle.text_counts.specs.Counting.{treeCounts}
+use Rattle.text_symbols.specs.Results.{declared, packedNames}
+use Rattle.text_names.proofs.LegalNames.{name-bytes}
+use Rattle.text_lines.proofs.TreeLines.{legal-parts}
 use Rattle.text_symbols.proofs.TreeSearch.{nodes-length}
-use Rattle.text_expressions.specs.Ports.{portWords}
-use Rattle.text_expressions.proofs.PortNames.{port-words}
-use Rattle.text_expressions.proofs.Closings.{gates-count}
-use Rattle.op_read.specs.Words.{nameOf, wordOf, treeBlockWords, wordCount}
+use Rattle.text_names.specs.Ports.{portWords}
+use Rattle.text_names.proofs.PortNames.{port-words}
+use Rattle.text_expressions.proofs.BlockSize.{block-gates, block-outputs, block-nevers}
+use Rattle.text_block.specs.Words.{nameOf, wordOf, treeBlockWords}
 use Rattle.op_read.specs.Steps.{WriteReady}
 use Rattle.op_read.proofs.ListFacts.{placed-front}
 
--- ---- the number of gates
-
-lines-gates : (gs : List GateLine) (bs : List Binding) (first : ℕ) → length (linesGates gs bs first) ≡ sum (map lineGates gs)
-unfolding linesGates lineGates gatesIn
-lines-gates [] bs first = refl
-lines-gates (g ∷ gs) bs first =
-    length-append (termGates (apply (g .kind) (g .terms)) bs first) (linesGates gs bs (first + lineGates g))
-    ∙ ap₂ (λ (a b : ℕ). a + b) (gates-count (apply (g .kind) (g .terms)) bs first) (lines-gates gs bs (first + lineGates g))
-
-module _ (t : Tree) where
-  pub block-gates : gateCount (blockOf t) ≡ sum (map lineGates (t .gates))
-  unfolding blockOf
-  block-gates = lines-gates (t .gates) (bindings t) 0
-
-  pub block-outputs : outputCount (blockOf t) ≡ length (t .outputs)
-  unfolding blockOf
-  block-outputs = length-map (t .outputs) _
-
-  pub block-inputs : blockOf t .inputs ≡ t .inputs
-  unfolding blockOf
-  block-inputs = refl
-
-  pub block-nevers : neverCount (blockOf t) ≡ length (t .nevers)
-  unfolding blockOf
-  block-nevers = length-map (t .nevers) _
-
-  pub block-length : (c : Counts) → c ≡ treeCounts t → length (encode (blockOf t)) ≡ wordCount c
-  unfolding wordCount treeCounts
-  block-length c e = length-encode (blockOf t) ∙ rw (e, block-inputs, block-gates, block-outputs, block-nevers) refl
-
 -- ---- the names of the inputs
 
-input-numbers : (ss : List Name) (at : ℕ) → map (λ (d : Mention). packed (d .name)) (mentions printInput inputMention ss at) ≡ map packed ss
+input-numbers : (ss : List Name) (at : ℕ)
+    → map (λ (d : Mention). packed (d .name)) (mentions printInput inputMention ss at) ≡ map packed ss
 unfolding mentions inputMention
 input-numbers [] at = refl
 input-numbers (s ∷ ss) at = ap {B = List ℕ} (λ r. packed s ∷ r) (input-numbers ss _)
 
-names-words : (ss : List Name) → all isPlainName ss ≡ true → map (λ (s : Name). portWords (packed s)) ss ≡ map nameWords ss
+names-words : (ss : List Name) → all isPlainName ss ≡ true
+    → map (λ (s : Name). portWords (packed s)) ss ≡ map nameWords ss
 unfolding isPlainName
 names-words [] h = refl
 names-words (s ∷ ss) h =
-    ap₂ (λ (a : List ℕ) (r : List (List ℕ)). a ∷ r) (port-words s (name-bytes _ s (and-left (isPlainName s) (all isPlainName ss) h)))
+    ap₂ (λ (a : List ℕ) (r : List (List ℕ)). a ∷ r)
+    (port-words s (name-bytes _ s (and-left (isPlainName s) (all isPlainName ss) h)))
     (names-words ss (and-right (isPlainName s) (all isPlainName ss) h))
 
-module _ (t : Tree) (legal : isLegalTree t ≡ true) (names : List ℕ) (is : take (length (declared t)) names ≡ packedNames t) where
+module _ (t : Tree) (legal : isLegalTree t ≡ true) (names : List ℕ)
+    (is : take (length (declared t)) names ≡ packedNames t) where
   number : Mention → ℕ
   number d = packed (d .name)
 
@@ -91,8 +66,10 @@ module _ (t : Tree) (legal : isLegalTree t ≡ true) (names : List ℕ) (is : ta
       ∙ ap (λ (r : List ℕ). r ++ map number (declaredPorts t))
       (map-append number ins gs ∙ ap (λ (r : List ℕ). r ++ map number gs) (input-numbers (t .inputs) 0))
       ∙ append-assoc (map packed (t .inputs)) (map number gs) (map number (declaredPorts t)) in
-      let l : n ≤ length (declared t) = omega (arith, length-append (declaredNodes t) (declaredPorts t), nodes-length t) in
-      sym (take-take n (length (declared t)) names l) ∙ ap (take n) (is ∙ e) ∙ take-at (map packed (t .inputs)) _ n (length-map (t .inputs) packed)
+      let l : n ≤ length (declared t) =
+      omega (arith, length-append (declaredNodes t) (declaredPorts t), nodes-length t) in
+      sym (take-take n (length (declared t)) names l) ∙ ap (take n) (is ∙ e)
+      ∙ take-at (map packed (t .inputs)) _ n (length-map (t .inputs) packed)
 
   input-words : tab (nameOf names) (length (t .inputs)) ≡ map nameWords (t .inputs)
   unfolding nameOf
@@ -111,7 +88,8 @@ five-parts : {i g o l i′ g′ o′ l′ : ℕ} {N M G O N′ M′ G′ O′ : 
     → _≡_ {A = List ℕ} ((i ∷ g ∷ o ∷ l ∷ []) ++ N ++ M ++ G ++ O) ((i′ ∷ g′ ∷ o′ ∷ l′ ∷ []) ++ N′ ++ M′ ++ G′ ++ O′)
 five-parts p q r k x m y z = rw (p, q, r, k, x, m, y, z)
 
-module _ {text : List ℕ} {c : Counts} {names masks gates outputs : List ℕ} (w : WriteReady text c names masks gates outputs) where
+module _ {text : List ℕ} {c : Counts} {names masks gates outputs : List ℕ}
+    (w : WriteReady text c names masks gates outputs) where
   abbrev t : Tree
   t = w .tree
 
@@ -139,10 +117,13 @@ module _ {text : List ℕ} {c : Counts} {names masks gates outputs : List ℕ} (
   masks-length = length-joined neverWords 2 (λ _. refl) (blockOf t .nevers) ∙ ap (λ (k : ℕ). 2 * k) (sym nevers-are)
 
   pub gates-length : length (joined (map (gateWords n) (blockOf t .gates))) ≡ 5 * c .gates
-  gates-length = length-joined (gateWords n) 5 (length-gateWords n) (blockOf t .gates) ∙ ap (λ (k : ℕ). 5 * k) (sym gates-are)
+  gates-length =
+      length-joined (gateWords n) 5 (length-gateWords n) (blockOf t .gates) ∙ ap (λ (k : ℕ). 5 * k) (sym gates-are)
 
   pub outputs-length : length (joined (map (outputWords n) (blockOf t .outputs))) ≡ 5 * c .outputs
-  outputs-length = length-joined (outputWords n) 5 (length-outputWords n) (blockOf t .outputs) ∙ ap (λ (k : ℕ). 5 * k) (sym outputs-are)
+  outputs-length =
+      length-joined (outputWords n) 5 (length-outputWords n) (blockOf t .outputs)
+      ∙ ap (λ (k : ℕ). 5 * k) (sym outputs-are)
 
   input-names : tab (nameOf names) n ≡ map nameWords (t .inputs)
   input-names = input-words t (w .is .legal) names (w .numbersAre)
@@ -153,39 +134,9 @@ module _ {text : List ℕ} {c : Counts} {names masks gates outputs : List ℕ} (
   words-are =
       five-parts inputs-are gates-are outputs-are nevers-are
       (ap (λ (k : ℕ). joined (tab (nameOf names) k)) inputs-are ∙ ap joined input-names)
-      (ap (λ (r : List ℕ). tab (wordOf r) (2 * c .nevers)) (w .masksWritten) ∙ placed-front 0 _ (w .masks₀) (2 * c .nevers) masks-length)
-      (ap (λ (r : List ℕ). tab (wordOf r) (5 * c .gates)) (w .gatesWritten) ∙ placed-front 0 _ (w .gates₀) (5 * c .gates) gates-length)
+      (ap (λ (r : List ℕ). tab (wordOf r) (2 * c .nevers)) (w .masksWritten)
+      ∙ placed-front 0 _ (w .masks₀) (2 * c .nevers) masks-length)
+      (ap (λ (r : List ℕ). tab (wordOf r) (5 * c .gates)) (w .gatesWritten)
+      ∙ placed-front 0 _ (w .gates₀) (5 * c .gates) gates-length)
       (ap (λ (r : List ℕ). tab (wordOf r) (5 * c .outputs)) (w .outputsWritten)
       ∙ placed-front 0 _ (w .outputs₀) (5 * c .outputs) outputs-length)
-
--- ---- writing the five parts
-
-pub name-size : (names : List ℕ) (i : ℕ) → length (nameOf names i) ≡ 4
-unfolding nameOf portWords
-name-size names i = refl
-
-pub block-written : (c : Counts) (names masks gates outputs block a b d e f : List ℕ)
-    → a ≡ sets block 0 (c .inputs ∷ c .gates ∷ c .outputs ∷ c .nevers ∷ [])
-    → b ≡ sets a inputsAt (joined (tab (nameOf names) (c .inputs)))
-    → d ≡ sets b (neversAt (c .inputs)) (tab (wordOf masks) (2 * c .nevers))
-    → e ≡ sets d (gatesAt (c .inputs) (c .nevers)) (tab (wordOf gates) (5 * c .gates))
-    → f ≡ sets e (outputsAt (c .inputs) (c .nevers) (c .gates)) (tab (wordOf outputs) (5 * c .outputs))
-    → f ≡ sets block 0 (treeBlockWords c names masks gates outputs)
-unfolding treeBlockWords neversAt gatesAt outputsAt
-block-written c names masks gates outputs block a b d e f p q m r s =
-    let head = c .inputs ∷ c .gates ∷ c .outputs ∷ c .nevers ∷ [] in
-    let ns = joined (tab (nameOf names) (c .inputs)) in
-    let ms = tab (wordOf masks) (2 * c .nevers) in
-    let gs = tab (wordOf gates) (5 * c .gates) in
-    let os = tab (wordOf outputs) (5 * c .outputs) in
-    let x : length (head ++ ns) ≡ 4 + 4 * c .inputs = omega
-    (arith, length-append head ns, length-joined-tab (nameOf names) 4 (name-size names) (c .inputs)) in
-    let y : length (head ++ ns ++ ms) ≡ 4 + 4 * c .inputs + 2 * c .nevers = omega
-    (arith, length-append (head ++ ns) ms, x, length-tab (wordOf masks) (2 * c .nevers)) in
-    let z : length (head ++ ns ++ ms ++ gs) ≡ 4 + 4 * c .inputs + 2 * c .nevers + 5 * c .gates = omega
-    (arith, length-append (head ++ ns ++ ms) gs, y, length-tab (wordOf gates) (5 * c .gates)) in
-    let u : b ≡ sets block 0 (head ++ ns) = q ∙ rw p (sets-append head block 0 4 ns (omega arith)) in
-    let v : d ≡ sets block 0 (head ++ ns ++ ms) = m ∙ rw u (sets-append (head ++ ns) block 0 (4 + 4 * c .inputs) ms (omega (arith, x))) in
-    let w : e ≡ sets block 0 (head ++ ns ++ ms ++ gs) = r
-    ∙ rw v (sets-append (head ++ ns ++ ms) block 0 (4 + 4 * c .inputs + 2 * c .nevers) gs (omega (arith, y))) in
-    s ∙ rw w (sets-append (head ++ ns ++ ms ++ gs) block 0 (4 + 4 * c .inputs + 2 * c .nevers + 5 * c .gates) os (omega (arith, z)))

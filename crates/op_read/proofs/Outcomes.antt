@@ -12,7 +12,8 @@ use native.Mathlib.Omega.{arith}
 use lib.ListN.{length}
 use lib.Dec.{ltb}
 use borrow.Author.Tests.{le-ltb}
-use Rattle.netlist.specs.declared.Refusal.the-variants.{TextTooLong, SyntaxError, OverLimit, DuplicateDeclaration, UndeclaredName, NoRoom}
+use Rattle.netlist.specs.declared.Refusal.the-variants.{TextTooLong, SyntaxError, OverLimit, DuplicateDeclaration}
+use Rattle.netlist.specs.declared.Refusal.the-variants.{UndeclaredName, NoRoom}
 use Rattle.netlist.specs.Limits.{maxText}
 use Rattle.netlist.specs.StoredBlock.{encode}
 use Rattle.netlist.specs.Syntax.{Tree, Legal}
@@ -22,13 +23,14 @@ use Rattle.netlist.specs.Answers.{Outcome, done, refused, refuseIf, refuseAt, i
 use Rattle.netlist.specs.Operations.{counted, readTree, readParsed, readText, read}
 use Rattle.theory_grammar.proofs.Adequacy.{legal-parses, parsed-legal}
 use Rattle.text_recogniser.specs.Scan.{badOf, firstBad}
-use Rattle.text_symbols.specs.Trees.{TextOf}
+use Rattle.text_lines.specs.Trees.{TextOf}
 use Rattle.words_refusals.proofs.Promised.{room-last}
 use Rattle.op_read.specs.Steps.{TreeText}
 
 -- ---- 1 and 2
 
-pub read-start : (text : List ℕ) (room : ℕ) → read text room ≡ inRoom room (refuseIf (ltb maxText (length text)) TextTooLong (readParsed text (parse text)))
+pub read-start : (text : List ℕ) (room : ℕ)
+    → read text room ≡ inRoom room (refuseIf (ltb maxText (length text)) TextTooLong (readParsed text (parse text)))
 unfolding read readText
 read-start text room = refl
 
@@ -72,7 +74,8 @@ module _ (t : Tree) (text : List ℕ) (room : ℕ) where
   abbrev afterLimits : Outcome
   afterLimits = refuseAt (firstDuplicate t) DuplicateDeclaration afterRepeats
 
-  pub read-tree : TextOf t text → length text ≤ maxText → read text room ≡ inRoom room (refuseIf (isOverLimit t) OverLimit afterLimits)
+  pub read-tree : TextOf t text → length text ≤ maxText
+      → read text room ≡ inRoom room (refuseIf (isOverLimit t) OverLimit afterLimits)
   unfolding read readText readParsed readTree refuseIf
   read-tree p s =
       let l : Legal text = record { tree = t; legal = p .legal; printed = p .printed } in
@@ -88,6 +91,7 @@ module _ (t : Tree) (text : List ℕ) (room : ℕ) where
       unfolding refuseAt
       read-single = rw single at read-within
 
-      pub read-known : firstUndeclared t ≡ none → read text room ≡ refuseIf (ltb room (length words)) NoRoom (done words (length words) 0)
+      pub read-known : firstUndeclared t ≡ none
+          → read text room ≡ refuseIf (ltb room (length words)) NoRoom (done words (length words) 0)
       unfolding refuseAt counted
       read-known e = (rw e at read-single) ∙ room-last room words (length words) 0

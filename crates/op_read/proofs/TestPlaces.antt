@@ -46,22 +46,33 @@ module _ (why : ℕ → Refusal) (tells : (q : ℕ) → refusalDetail (why q) �
   -- ---- the lesser
 
   module _ {one other : Test} where
-    pub other-alone : IsPassed one → (p q : Option ℕ) → one ≡ testAt p why → other ≡ testAt q why → other ≡ testAt (lesser p q) why
+    pub other-alone : IsPassed one → (p q : Option ℕ) → one ≡ testAt p why → other ≡ testAt q why
+        → other ≡ testAt (lesser p q) why
     unfolding lesser
     other-alone k p q e f = rw (none-told p e k) f
 
-    pub one-alone : {r : Refusal} → one ≡ Failed r → IsPassed other → (p q : Option ℕ) → one ≡ testAt p why → other ≡ testAt q why
+    pub one-alone : {r : Refusal} → one ≡ Failed r → IsPassed other → (p q : Option ℕ) → one ≡ testAt p why
+        → other ≡ testAt q why
         → Failed r ≡ testAt (lesser p q) why
     unfolding lesser testAt
     one-alone d k p q e f = rw (some-told p e d, none-told q f k) (ap Failed (why-told p e d))
 
-    module _ {r s : Refusal} {a b : ℕ} (first : one ≡ Failed r) (second : other ≡ Failed s) (x : a ≡ refusalDetail r) (y : b ≡ refusalDetail s) where
-      pub one-first : a ≤ b → (p q : Option ℕ) → one ≡ testAt p why → other ≡ testAt q why → Failed r ≡ testAt (lesser p q) why
+    module _ {r s : Refusal} {a b : ℕ} (first : one ≡ Failed r) (second : other ≡ Failed s) (x : a ≡ refusalDetail r)
+        (y : b ≡ refusalDetail s) where
+      pub one-first : a ≤ b → (p q : Option ℕ) → one ≡ testAt p why → other ≡ testAt q why
+          → Failed r ≡ testAt (lesser p q) why
       unfolding lesser testAt
       one-first l p q e f =
           rw (some-told p e first, some-told q f second, ← x, ← y, le-leb a b l) (ap Failed (why-told p e first) ∙ rw x)
 
-      pub other-first : b < a → (p q : Option ℕ) → one ≡ testAt p why → other ≡ testAt q why → Failed s ≡ testAt (lesser p q) why
+      pub other-first : b < a → (p q : Option ℕ) → one ≡ testAt p why → other ≡ testAt q why
+          → Failed s ≡ testAt (lesser p q) why
       unfolding lesser testAt
       other-first l p q e f =
-          rw (some-told p e first, some-told q f second, ← x, ← y, lt-leb a b l) (ap Failed (why-told q f second) ∙ rw y)
+          rw (
+            some-told p e first,
+            some-told q f second,
+            ← x,
+            ← y,
+            lt-leb a b l,
+          ) (ap Failed (why-told q f second) ∙ rw y)

@@ -9,10 +9,12 @@ use Rattle.prelude.specs.Lists.{placed, joined}
 use Rattle.netlist.specs.Limits.{maxText}
 use Rattle.netlist.specs.StoredBlock.{neverWords, gateWords, outputWords}
 use Rattle.netlist.specs.Syntax.{Tree}
-use Rattle.netlist.specs.Reading.{isOverLimit, gateLinesAt, firstDuplicate, excludedNames, firstOutside, firstUndeclared, blockOf}
-use Rattle.text_symbols.specs.declared.Counts.{Counts}
-use Rattle.text_symbols.specs.Trees.{TextOf}
-use Rattle.text_symbols.specs.Results.{treeCounts, declared, packedNames, NodesIndexed}
+use Rattle.netlist.specs.Reading.{isOverLimit, gateLinesAt, firstDuplicate, excludedNames, firstOutside}
+use Rattle.netlist.specs.Reading.{firstUndeclared, blockOf}
+use Rattle.text_counts.specs.declared.Counts.{Counts}
+use Rattle.text_lines.specs.Trees.{TextOf}
+use Rattle.text_counts.specs.Counting.{treeCounts}
+use Rattle.text_symbols.specs.Results.{declared, packedNames, NodesIndexed}
 use Rattle.text_expressions.specs.Resolution.{TreeAt}
 use Rattle.text_constraints.specs.declared.NeverTold.{NeverTold}
 use Rattle.text_constraints.specs.Places.{Told}
@@ -64,4 +66,5 @@ pub record WriteReady (text : List ℕ) (c : Counts) (names masks gates outputs 
   pub outputs₀ : List ℕ
   pub masksWritten : masks ≡ placed (joined (map neverWords (blockOf tree .nevers))) masks₀
   pub gatesWritten : gates ≡ placed (joined (map (gateWords (length (tree .inputs))) (blockOf tree .gates))) gates₀
-  pub outputsWritten : outputs ≡ placed (joined (map (outputWords (length (tree .inputs))) (blockOf tree .outputs))) outputs₀
+  pub outputsWritten : outputs ≡ placed (joined (map (outputWords (length (tree .inputs))) (blockOf tree .outputs)))
+      outputs₀

@@ -6,9 +6,9 @@ use steps::read_tables;
 use text_constraints::lines::never_lines;
 use text_constraints::read::NEVER_WORDS;
 use text_constraints::read::read_nevers;
+use text_counts::limits;
+use text_counts::tally;
 use text_recogniser::form;
-use text_symbols::tally::counts;
-use text_symbols::tally::limits;
 use words_layout::limits::MAX_TEXT;
 use words_refusals::Test;
 use words_refusals::refusal;
@@ -19,16 +19,16 @@ ghost use Rattle.netlist.specs.Operations.{read};
 ghost use Rattle.op_read.specs.Steps.{TreeText};
 
 mod steps;
-mod words;
 
 // Read of a text in form: refusal 3, and what the never lines tell; their tables are gone before the others are made.
 fn read_legal(text: &[u8], block: &mut [u16]) -> Answer
     requires { ⌜ TreeText (now text) ⌝ }
-    ensures { λ r. ⌜ Promise (read (now (text .entry)) (length (now (block .entry)))) (now (block .entry)) r (now (block .exit)) ⌝ }
+    ensures { λ r. ⌜ Promise (read (now (text .entry)) (length (now (block .entry)))) (now (block .entry)) r
+        (now (block .exit)) ⌝ }
 {
     let lines = never_lines(text);
     let end = lines.end;
-    let c = counts(&text[end..], lines.inputs, lines.count);
+    let c = tally(&text[end..], lines.inputs, lines.count);
     let tested = limits(c);
     let Test::Passed = tested else {
         return refusal(tested);
@@ -40,7 +40,8 @@ fn read_legal(text: &[u8], block: &mut [u16]) -> Answer
 
 // Read (1, 2, 3, 4, 5, 11): the block's words; count: words.
 pub fn read(text: &[u8], block: &mut [u16]) -> Answer
-    ensures { λ r. ⌜ Promise (read (now (text .entry)) (length (now (block .entry)))) (now (block .entry)) r (now (block .exit)) ⌝ }
+    ensures { λ r. ⌜ Promise (read (now (text .entry)) (length (now (block .entry)))) (now (block .entry)) r
+        (now (block .exit)) ⌝ }
 {
     let tested = refuse_if(MAX_TEXT < text.len(), Refusal::TextTooLong);
     let Test::Passed = tested else {

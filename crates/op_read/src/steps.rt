@@ -1,13 +1,13 @@
 // The steps of Read on a text that is a legal tree's and within the limits: declare names, look for repeats, resolve
 // uses, write words.
-use crate::words::put_block;
 use netlist::Answer;
+use text_block::put_block;
 use text_constraints::NeverTold;
 use text_constraints::read::NEVER_WORDS;
+use text_counts::Counts;
 use text_expressions::resolve;
-use text_symbols::Counts;
-use text_symbols::index::INDEX_SIZE;
-use text_symbols::search::duplicate;
+use text_names::index::INDEX_SIZE;
+use text_symbols::duplicates::duplicate;
 use text_symbols::table::NAMES;
 use text_symbols::table::declare;
 use words_layout::limits::MAX_GATES;
@@ -61,7 +61,8 @@ fn finish(
     block: &mut [u16],
 ) -> Answer
     requires { ⌜ WriteReady (now text) c (now names) (now masks) (now gates) (now outputs) ⌝ }
-    ensures { λ r. ⌜ Promise (read (now (text .entry)) (length (now (block .entry)))) (now (block .entry)) r (now (block .exit)) ⌝ }
+    ensures { λ r. ⌜ Promise (read (now (text .entry)) (length (now (block .entry)))) (now (block .entry)) r
+        (now (block .exit)) ⌝ }
 {
     let count = outputs_behind(c.inputs, c.nevers, c.gates) + OUTPUT_SIZE * c.outputs;
     let tested = test_room(block.len(), count);
@@ -84,7 +85,8 @@ fn read_terms(
     block: &mut [u16],
 ) -> Answer
     requires { ⌜ TermsReady (now text) end c (now names) (now nodes) (now index) (now masks) ⌝ }
-    ensures { λ r. ⌜ Promise (read (now (text .entry)) (length (now (block .entry)))) (now (block .entry)) r (now (block .exit)) ⌝ }
+    ensures { λ r. ⌜ Promise (read (now (text .entry)) (length (now (block .entry)))) (now (block .entry)) r
+        (now (block .exit)) ⌝ }
 {
     let mut gates = [0u16; GATE_SIZE * MAX_GATES];
     let mut outputs = [0u16; OUTPUT_SIZE * MAX_OUTPUTS];
@@ -105,7 +107,8 @@ pub fn read_tables(
     block: &mut [u16],
 ) -> Answer
     requires { ⌜ TablesReady (now text) end c told (now masks) ⌝ }
-    ensures { λ r. ⌜ Promise (read (now (text .entry)) (length (now (block .entry)))) (now (block .entry)) r (now (block .exit)) ⌝ }
+    ensures { λ r. ⌜ Promise (read (now (text .entry)) (length (now (block .entry)))) (now (block .entry)) r
+        (now (block .exit)) ⌝ }
 {
     let mut names = [0u64; NAMES];
     let mut places = [0usize; NAMES];

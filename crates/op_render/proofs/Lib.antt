@@ -1,4 +1,2 @@
--- Render's definition meets its promise, and what the inner functions need.
-pub mod Cases
+-- The mathematics of Render's promise; no function of src/ is named.
 pub mod Promise
-pub mod Told

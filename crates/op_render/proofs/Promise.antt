@@ -1,4 +1,5 @@
--- The definition of Render meets its whole promise: from the theory of rendering (crate `theory_unrolling`) and of the stored block (`theory_encoding`).
+-- The definition of Render meets its whole promise: from the theory of rendering (crate `theory_unrolling`) and of the
+-- stored block (`theory_encoding`).
 -- Assumes nothing.
 use mathlib.Core.Path.{_≡_, refl, sym}
 use mathlib.Core.Logic.{⊎-elim}
@@ -22,24 +23,28 @@ use Rattle.netlist.specs.Rounds.{settingCount, isSettled, isExcluded, isSoundAt
 use Rattle.netlist.specs.Cover.{isSound}
 use Rattle.netlist.specs.Passes.{copyCount}
 use Rattle.netlist.specs.Rendering.{rendering}
-use Rattle.netlist.specs.Answers.{Outcome, refusalNumber, refusalDetail, numberOf, countOf, detailOf, answerOf, leftIn, Promise}
+use Rattle.netlist.specs.Answers.{Outcome, refusalNumber, refusalDetail, numberOf, countOf, detailOf, answerOf, leftIn}
+use Rattle.netlist.specs.Answers.{Promise}
 use Rattle.netlist.specs.Operations.{render}
 use Rattle.words_refusals.proofs.Promised.{promise, promise-answer}
 use Rattle.theory_encoding.proofs.RoundTrip.{whole-wellFormed, decode-encode, encode-whole}
-use Rattle.theory_unrolling.proofs.Block.{rendering-straight, rendering-count, rendering-inputs, rendering-nevers, rendering-ports, rendering-wellFormed}
+use Rattle.theory_unrolling.proofs.Block.{rendering-straight, rendering-count, rendering-inputs, rendering-nevers}
+use Rattle.theory_unrolling.proofs.Block.{rendering-ports, rendering-wellFormed}
 use Rattle.theory_unrolling.proofs.Agreement.{sound-outputs-agree}
-use Rattle.cover_implicants.proofs.Blocks.{lowest-sound}
+use Rattle.theory_cover.proofs.Blocks.{lowest-sound}
 use Rattle.op_render.specs.Promise.{portOf, Renders, LowestOf, renderNumber, RenderPromise}
-use Rattle.op_render.proofs.Cases.{renderBy, render-by}
+use Rattle.unroll_steps.proofs.Cases.{renderBy, render-by}
 
 -- what is rendered when the block is whole, sound, and has few enough copies
-pub rendered-so : (ws : List ℕ) → isMalformed ws ≡ false → copyCount (decode ws) ≤ maxCopies → isSound (decode ws) ≡ true
+pub rendered-so : (ws : List ℕ) → isMalformed ws ≡ false → copyCount (decode ws) ≤ maxCopies
+    → isSound (decode ws) ≡ true
     → Renders ws (encode (rendering (decode ws)))
 unfolding portOf
 rendered-so ws t m s =
     let w : isWellFormed (decode ws) ≡ true = whole-wellFormed ws t in
     let w′ : isWellFormed (rendering (decode ws)) ≡ true = rendering-wellFormed (decode ws) w m in
-    let back : decode (encode (rendering (decode ws))) ≡ rendering (decode ws) = decode-encode (rendering (decode ws)) w′ in
+    let back : decode (encode (rendering (decode ws))) ≡ rendering (decode ws) =
+    decode-encode (rendering (decode ws)) w′ in
     record {
       wordForWord = refl;
       notTorn = encode-whole (rendering (decode ws)) w′;
@@ -76,7 +81,8 @@ module _ (b : Block) where
       → isSound b ≡ true = λ ge. lowest-sound b (le-antisymm (least-le unsettled (settingCount b)) ge) in
       let lt : least unsettled (settingCount b) < settingCount b =
       ⊎-elim (λ l. l) (λ ge. not-both (all ge) h) (lt-or-le (least unsettled (settingCount b)) (settingCount b)) in
-      let found = unsound _ (not-true (isSoundAt b (least unsettled (settingCount b))) (least-at unsettled (settingCount b) lt)) in
+      let found = unsound _
+      (not-true (isSoundAt b (least unsettled (settingCount b))) (least-at unsettled (settingCount b) lt)) in
       record {
         within = lt;
         comes = found .0;
@@ -94,7 +100,8 @@ record Told-by (ws entry : List ℕ) (number : ℕ) (o : Outcome) : Type 0 where
   countIs : countOf (answerOf o) ≡ cond (eqb (numberOf (answerOf o)) 0) (length (encode (rendering (decode ws)))) 0
   rendersIt : numberOf (answerOf o) ≡ 0 → Renders ws (take (countOf (answerOf o)) (leftIn o entry))
 
-by-tests : (ws entry : List ℕ) (t m s r : Bool) → isMalformed ws ≡ t → ltb maxCopies (copyCount (decode ws)) ≡ m → isSound (decode ws) ≡ s
+by-tests : (ws entry : List ℕ) (t m s r : Bool) → isMalformed ws ≡ t → ltb maxCopies (copyCount (decode ws)) ≡ m
+    → isSound (decode ws) ≡ s
     → Told-by ws entry (cond t 6 (cond m 8 (cond (not s) 9 (cond r 11 0)))) (renderBy ws t m s r)
 unfolding renderBy numberOf countOf detailOf answerOf leftIn refusalNumber refusalDetail
 by-tests ws entry true m s r et em es =
@@ -116,12 +123,15 @@ by-tests ws entry false false true false et em es =
     }
 
 -- every part of the promise follows from the definition
-pub promise-holds : (ws entry : List ℕ) → RenderPromise ws entry (answerOf (render ws (length entry))) (leftIn (render ws (length entry)) entry)
+pub promise-holds : (ws entry : List ℕ)
+    → RenderPromise ws entry (answerOf (render ws (length entry))) (leftIn (render ws (length entry)) entry)
 unfolding renderNumber
 promise-holds ws entry =
     let short = ltb (length entry) (length (encode (rendering (decode ws)))) in
     let p : Told-by ws entry (renderNumber ws (length entry)) (render ws (length entry)) =
-    rw (render-by ws (length entry)) (by-tests ws entry (isMalformed ws) (ltb maxCopies (copyCount (decode ws))) (isSound (decode ws)) short refl refl refl) in
+    rw (render-by ws (length entry))
+    (by-tests ws entry (isMalformed ws) (ltb maxCopies (copyCount (decode ws))) (isSound (decode ws)) short refl refl
+    refl) in
     record {
       promise = promise refl refl;
       number = p .numberIs;
@@ -132,5 +142,6 @@ promise-holds ws entry =
     }
 
 -- and so from the first part
-pub whole-promise : {ws entry exit : List ℕ} {r : Answer} → Promise (render ws (length entry)) entry r exit → RenderPromise ws entry r exit
+pub whole-promise : {ws entry exit : List ℕ} {r : Answer} → Promise (render ws (length entry)) entry r exit
+    → RenderPromise ws entry r exit
 whole-promise {ws} {entry} p = rw (promise-answer p, p .leaves) (promise-holds ws entry)

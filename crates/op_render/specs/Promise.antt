@@ -1,4 +1,5 @@
--- Render's promise (SPECIFICATION 6 and 7.9), as one record over every slice of words and every slice for the result. `promise-holds` in
+-- Render's promise (SPECIFICATION 6 and 7.9), as one record over every slice of words and every slice for the result.
+-- `promise-holds` in
 -- proofs/Promise.antt shows that the definition of Render meets it.
 use Prim.Native.Nat.{ℕ, _<_}
 use mathlib.Core.Path.{_≡_}
@@ -10,7 +11,8 @@ use Rattle.netlist.specs.declared.Answer.{Answer}
 use Rattle.netlist.specs.Limits.{maxCopies}
 use Rattle.netlist.specs.Netlist.{Name, Output, Block, inputCount, gateCount}
 use Rattle.netlist.specs.StoredBlock.{encode, decode, isMalformed}
-use Rattle.netlist.specs.Rounds.{settingOf, settingCount, settledUnder, isSettled, isExcluded, lowestUnsettled, outputValue}
+use Rattle.netlist.specs.Rounds.{settingOf, settingCount, settledUnder, isSettled, isExcluded, lowestUnsettled}
+use Rattle.netlist.specs.Rounds.{outputValue}
 use Rattle.netlist.specs.Cover.{isSound}
 use Rattle.netlist.specs.Passes.{copyCount}
 use Rattle.netlist.specs.Rendering.{rendering, isStraight, sweep}
@@ -20,8 +22,10 @@ use Rattle.netlist.specs.Operations.{render}
 unfoldable pub portOf : Output → Name
 portOf o = o .port
 
--- The words `out` render the block of the words `ws`: they are the rendering's, word for word; what they hold is straight, has as many gates
--- as there are copies, the original's input names, never lines and ports, and under every setting that isn't excluded the outputs' values,
+-- The words `out` render the block of the words `ws`: they are the rendering's, word for word; what they hold is
+-- straight, has as many gates
+-- as there are copies, the original's input names, never lines and ports, and under every setting that isn't excluded
+-- the outputs' values,
 -- read from one sweep, are those of the settled original, output by output.
 pub record Renders (ws out : List ℕ) : Type 0 where
   pub wordForWord : out ≡ encode (rendering (decode ws))
@@ -31,10 +35,13 @@ pub record Renders (ws out : List ℕ) : Type 0 where
   pub sameInputs : decode out .inputs ≡ decode ws .inputs
   pub sameNevers : decode out .nevers ≡ decode ws .nevers
   pub samePorts : map portOf (decode out .outputs) ≡ map portOf (decode ws .outputs)
-  pub sameOutputs : (s : ℕ) → s < settingCount (decode ws) → isExcluded (decode ws) s ≡ false → let x = settingOf (inputCount (decode ws)) s in
-      map (outputValue x (sweep (decode out) x)) (decode out .outputs) ≡ map (outputValue x (settledUnder (decode ws) s)) (decode ws .outputs)
+  pub sameOutputs : (s : ℕ) → s < settingCount (decode ws) → isExcluded (decode ws) s ≡ false
+      → let x = settingOf (inputCount (decode ws)) s in
+      map (outputValue x (sweep (decode out) x)) (decode out .outputs)
+      ≡ map (outputValue x (settledUnder (decode ws) s)) (decode ws .outputs)
 
--- the number of Render's answer: torn words, too many copies, a setting that is not settled, a slice that is too short, or a result
+-- the number of Render's answer: torn words, too many copies, a setting that is not settled, a slice that is too short,
+-- or a result
 unfoldable pub renderNumber : List ℕ → ℕ → ℕ
 renderNumber ws room =
     cond (isMalformed ws) 6

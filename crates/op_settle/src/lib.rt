@@ -1,3 +1,3 @@
-// Settle, with the test of its setting.
+// Settle (SPECIFICATION 7.5), and the test of a setting's bytes.
 pub mod setting;
 pub mod settle;

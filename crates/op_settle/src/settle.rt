@@ -45,7 +45,8 @@ fn settle_into(words: &[u16], setting: &[u8], out: &mut [u8]) -> usize
 // Settle (6, 7, 11): the settled value of each gate, a byte each, from a byte for each input: 0, 1 or 2; count: rounds.
 pub fn settle(words: &[u16], setting: &[u8], values: &mut [u8]) -> Answer
     ensures { λ r. ⌜
-        Promise (settle (now (words .entry)) (now (setting .entry)) (length (now (values .entry)))) (now (values .entry)) r (now (values .exit))
+        Promise (settle (now (words .entry)) (now (setting .entry)) (length (now (values .entry))))
+        (now (values .entry)) r (now (values .exit))
         ⌝ }
 {
     let tested = check_words(words);

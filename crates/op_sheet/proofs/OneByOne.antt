@@ -1,4 +1,5 @@
--- A sheet is one call of Settle after another: each record is what is read off the answer to its own setting. Assumes nothing.
+-- A sheet is one call of Settle after another: each record is what is read off the answer to its own setting. Assumes
+-- nothing.
 use mathlib.Core.Path.{_≡_, refl, _∙_}
 use mathlib.Core.Bool.{false, cond}
 use mathlib.Core.List.{List, [], _∷_, map}
@@ -14,7 +15,8 @@ use Rattle.netlist.specs.StoredBlock.{decode, isMalformed}
 use Rattle.netlist.specs.Rounds.{rounds, settled}
 use Rattle.netlist.specs.Answers.{Outcome, done, refused, refuseIf, refusalNumber}
 use Rattle.netlist.specs.Operations.{isBadSetting, settle}
-use Rattle.netlist.specs.Sheet.{inputByte, settingBytes, isBadMasks, outputValues, showing, settledOutputs, refusedRecord, recordOf, answeredRecord}
+use Rattle.netlist.specs.Sheet.{inputByte, settingBytes, isBadMasks, outputValues, showing, settledOutputs}
+use Rattle.netlist.specs.Sheet.{refusedRecord, recordOf, answeredRecord}
 use Rattle.netlist.specs.Sheet.{sheetRecords}
 use Rattle.theory_encoding.proofs.Decoded.{decode-gateCount}
 use Rattle.theory_fixpoint.proofs.Values.{values-codes}
@@ -23,10 +25,13 @@ use Rattle.op_sheet.proofs.MaskLaws.{length-settingBytes, byte-most}
 
 -- What a caller of Settle reads off the answer to a setting's bytes, for the record of two masks.
 unfoldable pub readOff : Block → ℕ → ℕ → List ℕ → Outcome → Record
-readOff b fixed ones setting (done codes count detail) = showing fixed ones (outputValues b (map valueOf setting) (map valueOf codes))
-readOff b fixed ones setting (refused why) = record { fixed = fixed; ones = ones; number = refusalNumber why; defined = 0; values = 0 }
+readOff b fixed ones setting (done codes count detail) =
+    showing fixed ones (outputValues b (map valueOf setting) (map valueOf codes))
+readOff b fixed ones setting (refused why) =
+    record { fixed = fixed; ones = ones; number = refusalNumber why; defined = 0; values = 0 }
 
--- One call of Settle for one record: with the bytes that its masks stand for, and room for the values. Masks that stand for no setting
+-- One call of Settle for one record: with the bytes that its masks stand for, and room for the values. Masks that stand
+-- for no setting
 -- are 7 without a call.
 unfoldable pub oneCall : List ℕ → ℕ → Record → Record
 oneCall ws room r =
@@ -41,17 +46,20 @@ module _ (ws : List ℕ) (whole : isMalformed ws ≡ false) (room : ℕ) (enough
   setting-legal fixed ones =
       rw (
         eq-eqb _ (inputCount (decode ws)) (length-settingBytes (inputCount (decode ws)) fixed ones),
-        all-tab-from (λ v. leb v 2) (inputByte fixed ones) (inputCount (decode ws)) (λ i l. le-leb (inputByte fixed ones i) 2 (byte-most fixed ones i)),
+        all-tab-from (λ v. leb v 2) (inputByte fixed ones) (inputCount (decode ws))
+            (λ i l. le-leb (inputByte fixed ones i) 2 (byte-most fixed ones i)),
       )
 
   -- what Settle answers to them
   settle-done : (fixed ones : ℕ) → let setting = settingBytes (inputCount (decode ws)) fixed ones in
-      settle ws setting room ≡ done (map code (settled (decode ws) (map valueOf setting))) (rounds (decode ws) (map valueOf setting)) 0
+      settle ws setting room
+      ≡ done (map code (settled (decode ws) (map valueOf setting))) (rounds (decode ws) (map valueOf setting)) 0
   unfolding refuseIf
   settle-done fixed ones =
       let setting = settingBytes (inputCount (decode ws)) fixed ones in
       settle-chain ws setting room
-      ∙ rw (whole, setting-legal fixed ones) (settle-room ws setting room ∙ rw (le-ltb room (getD ws 1 0) (rw (← decode-gateCount ws) enough)))
+      ∙ rw (whole, setting-legal fixed ones)
+      (settle-room ws setting room ∙ rw (le-ltb room (getD ws 1 0) (rw (← decode-gateCount ws) enough)))
 
   -- Each record's answer is that of one call of Settle.
   pub record-one-call : (r : Record) → answeredRecord (decode ws) r ≡ oneCall ws room r

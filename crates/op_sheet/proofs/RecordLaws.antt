@@ -2,19 +2,16 @@
 use mathlib.Core.Path.{_≡_, refl, sym, ap, _∙_}
 use mathlib.Core.Bool.{Bool, true, false, not}
 use mathlib.Core.List.{List, []}
-use Prim.Native.Nat.{ℕ, _≤_}
-use native.Mathlib.Omega.{arith}
-use lib.ListN.{getD, drop}
+use Prim.Native.Nat.{ℕ}
+use lib.ListN.{getD}
 use Rattle.netlist.specs.declared.Answer.the-variants.{Done, Refused}
 use Rattle.netlist.specs.declared.Refusal.the-variants.{MalformedBlock}
-use Rattle.netlist.specs.Values.{Value}
 use Rattle.netlist.specs.StoredBlock.{decode, isMalformed}
 use Rattle.netlist.specs.Assignments.{areMasks}
 use Rattle.netlist.specs.Answers.{done, refuseIf, answerOf}
 use Rattle.netlist.specs.Sheet.{isBadMasks, showing, refusedRecord, recordOf, sheet}
-use Rattle.words_layout.proofs.Gathered.{Gathered}
 use Rattle.theory_encoding.proofs.Decoded.{decode-inputCount}
-use Rattle.op_sheet.specs.Side.{shownAt, ShownFor}
+use Rattle.lanes_records.specs.Side.{shownAt, ShownFor}
 
 -- ---- the call
 
@@ -44,15 +41,6 @@ pub record-refused : (ws : List ℕ) (fixed ones : ℕ) → isBadMasks (getD ws 
     → refusedRecord fixed ones ≡ recordOf (decode ws) fixed ones
 unfolding recordOf
 record-refused ws fixed ones h = rw (decode-inputCount ws, h)
-
--- the record of the masks of all outputs
-pub gathered-record : {vs : List Value} {o d v : ℕ} (fixed ones : ℕ) → Gathered vs o d v → o ≤ 0
-    → record { fixed = fixed; ones = ones; number = 0; defined = d; values = v } ≡ showing fixed ones vs
-unfolding showing
-gathered-record {vs} {o} fixed ones g z =
-    let e : o ≡ 0 = omega arith in
-    let p : drop o vs ≡ vs = rw e in
-    rw (g .defineds, g .ones, p)
 
 -- what the outputs show under the settled values of the masks' setting
 pub shown-record : (ws : List ℕ) (fixed ones s : ℕ) {shown : List ℕ} → isBadMasks (getD ws 0 0) fixed ones ≡ false

@@ -8,7 +8,8 @@ use native.Mathlib.Omega.{arith}
 use lib.ListN.{length, set, length-set}
 use Rattle.netlist.specs.declared.Record.{Record}
 use Rattle.op_sheet.specs.declared.turns.Batch.{Batch}
-use Rattle.op_sheet.specs.Side.{SettledLanes, Room}
+use Rattle.lanes_records.specs.Side.{SettledLanes}
+use Rattle.op_sheet.specs.Side.{Room}
 use Rattle.op_sheet.specs.Order.{sizeAt, BatchAdvanced}
 
 -- the batch with the masks of one record more

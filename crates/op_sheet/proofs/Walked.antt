@@ -22,7 +22,8 @@ use Rattle.netlist.specs.StoredBlock.{decode, isMalformed}
 use Rattle.netlist.specs.Answers.{countOf, answerOf, Shows}
 use Rattle.netlist.specs.Sheet.{answeredRecord, sheetRecords, sheet}
 use Rattle.op_sheet.specs.declared.turns.Batch.{Batch}
-use Rattle.op_sheet.specs.Side.{SettledLanes, Room}
+use Rattle.lanes_records.specs.Side.{SettledLanes}
+use Rattle.op_sheet.specs.Side.{Room}
 use Rattle.op_sheet.specs.Order.{sizeAt, readsAt, recordAt, BatchAdvanced, Answerable, turned}
 use Rattle.op_sheet.proofs.RecordLaws.{sheet-malformed, sheet-done}
 
@@ -117,11 +118,13 @@ place-answers count t l = rw (le-ltb (t % 128) (sizeAt count t) l)
 -- the place of a turn is one that is not answered yet
 place-before : (count t : ℕ) → answered count t ≤ recordAt count t
 place-before count t =
-    ⊎-elim (λ l. rw (place-reads count t l) (omega arith)) (λ h. rw (place-answers count t h) (omega arith)) (lt-or-le (t % 128) (sizeAt count t))
+    ⊎-elim (λ l. rw (place-reads count t l) (omega arith)) (λ h. rw (place-answers count t h) (omega arith))
+    (lt-or-le (t % 128) (sizeAt count t))
 
 place-fits : (count t : ℕ) → t < 2 * count → recordAt count t < count
 place-fits count t small =
-    ⊎-elim (λ l. rw (place-reads count t l) (omega arith)) (λ h. rw (place-answers count t h) (omega arith)) (lt-or-le (t % 128) (sizeAt count t))
+    ⊎-elim (λ l. rw (place-reads count t l) (omega arith)) (λ h. rw (place-answers count t h) (omega arith))
+    (lt-or-le (t % 128) (sizeAt count t))
 
 -- the records before turn t
 abbrev pub before : List ℕ → List Record → ℕ → List Record
@@ -139,7 +142,8 @@ module _ (ws : List ℕ) (rs : List Record) (d : Record) (t : ℕ) where
 
   -- the record that the turn finds
   turn-finds : getD (before ws rs t) place d ≡ getD rs place d
-  turn-finds = partly-beyond (answeredRecord (decode ws)) (answered (length rs) t) place rs d (place-before (length rs) t)
+  turn-finds =
+      partly-beyond (answeredRecord (decode ws)) (answered (length rs) t) place rs d (place-before (length rs) t)
 
   turn-leaves : t < 2 * length rs
       → set (before ws rs t) place (turned ws (length rs) t (getD (before ws rs t) place d)) ≡ before ws rs (suc t)
@@ -158,7 +162,8 @@ module _ (ws : List ℕ) (rs : List Record) (d : Record) (t : ℕ) where
       answering h =
           let e = answered-next (length rs) t small h in
           rw (le-ltb (t % 128) (sizeAt (length rs) t) h, place-answers (length rs) t h)
-          (partly-next (answeredRecord (decode ws)) (answered (length rs) t) rs d (rw (place-answers (length rs) t h) at (place-fits (length rs) t small))
+          (partly-next (answeredRecord (decode ws)) (answered (length rs) t) rs d
+          (rw (place-answers (length rs) t h) at (place-fits (length rs) t small))
           ∙ ap (λ (k : ℕ). partly (answeredRecord (decode ws)) k rs) e)
 
 -- ---- the batch
@@ -186,7 +191,8 @@ batch-begins ws rs d t e room =
 pub batch-first : (ws : List ℕ) (rs : List Record) (d : Record) {b : Batch} → Room b → BatchAt ws rs d 0 b
 batch-first ws rs d room = batch-begins ws rs d 0 refl room
 
-module _ (ws : List ℕ) (rs : List Record) (d : Record) (t : ℕ) (small : t < 2 * length rs) {z : Record} (is : z ≡ getD rs (recordAt (length rs) t) d)
+module _ (ws : List ℕ) (rs : List Record) (d : Record) (t : ℕ) (small : t < 2 * length rs) {z : Record}
+    (is : z ≡ getD rs (recordAt (length rs) t) d)
     {b after : Batch} (state : BatchAt ws rs d t b) (turn : BatchAdvanced ws (length rs) t z b after) where
   -- what an answer asks
   batch-answers : isMalformed ws ≡ false → readsAt (length rs) t ≡ false
@@ -204,10 +210,16 @@ module _ (ws : List ℕ) (rs : List Record) (d : Record) (t : ℕ) (small : t < 
           let l : s < sizeAt (length rs) t = omega arith in
           let p : 64 * (t / 128) + s ≡ recordAt (length rs) t = sym (place-answers (length rs) t h) in
           let ef : getD (b .fixed) s 0 ≡ z .fixed =
-          state .fixed s (omega arith) l ∙ ap (λ (k : ℕ). getD rs k d .fixed) p ∙ ap (λ (y : Record). y .fixed) (sym is) in
+          state .fixed s (omega arith) l ∙ ap (λ (k : ℕ). getD rs k d .fixed) p
+          ∙ ap (λ (y : Record). y .fixed) (sym is) in
           let eo : getD (b .ones) s 0 ≡ z .ones =
           state .ones s (omega arith) l ∙ ap (λ (k : ℕ). getD rs k d .ones) p ∙ ap (λ (y : Record). y .ones) (sym is) in
-          record { whole = whole; below = omega arith; shows = rw (turn .kept h, ← ef, ← eo) (state .settled h .each s l) }
+          record {
+            whole = whole;
+            below = omega arith;
+            shows = rw (turn .kept h, ← ef, ← eo)
+                (state .settled h .each s l);
+          }
 
   -- the masks that were read, with this turn's
   fixed-more : (s : ℕ) → s < suc (t % 128) → s < sizeAt (length rs) t
@@ -220,7 +232,8 @@ module _ (ws : List ℕ) (rs : List Record) (d : Record) (t : ℕ) (small : t < 
           (⊎-elim
           (λ e. rw e (getD-set-same (b .fixed) (t % 128) (z .fixed) 0 (omega (arith, state .room .fixedRoom))
           ∙ ap (λ (y : Record). y .fixed) is ∙ ap (λ (p : ℕ). getD rs p d .fixed) (place-reads (length rs) t k)))
-          (λ n. getD-set-other (b .fixed) (t % 128) s (z .fixed) 0 n ∙ state .fixed s (omega arith) h) (eq-or-ne s (t % 128)))
+          (λ n. getD-set-other (b .fixed) (t % 128) s (z .fixed) 0 n ∙ state .fixed s (omega arith) h)
+          (eq-or-ne s (t % 128)))
 
       answering : sizeAt (length rs) t ≤ t % 128 → getD (after .fixed) s 0 ≡ getD rs (64 * (t / 128) + s) d .fixed
       answering k = rw (turn .kept k) (state .fixed s (omega arith) h)
@@ -235,7 +248,8 @@ module _ (ws : List ℕ) (rs : List Record) (d : Record) (t : ℕ) (small : t < 
           (⊎-elim
           (λ e. rw e (getD-set-same (b .ones) (t % 128) (z .ones) 0 (omega (arith, state .room .onesRoom))
           ∙ ap (λ (y : Record). y .ones) is ∙ ap (λ (p : ℕ). getD rs p d .ones) (place-reads (length rs) t k)))
-          (λ n. getD-set-other (b .ones) (t % 128) s (z .ones) 0 n ∙ state .ones s (omega arith) h) (eq-or-ne s (t % 128)))
+          (λ n. getD-set-other (b .ones) (t % 128) s (z .ones) 0 n ∙ state .ones s (omega arith) h)
+          (eq-or-ne s (t % 128)))
 
       answering : sizeAt (length rs) t ≤ t % 128 → getD (after .ones) s 0 ≡ getD rs (64 * (t / 128) + s) d .ones
       answering k = rw (turn .kept k) (state .ones s (omega arith) h)
@@ -243,7 +257,8 @@ module _ (ws : List ℕ) (rs : List Record) (d : Record) (t : ℕ) (small : t < 
   settled-more : sizeAt (length rs) t ≤ suc (t % 128)
       → SettledLanes ws (sizeAt (length rs) t) (after .fixed) (after .ones) (after .shown)
   settled-more l =
-      ⊎-elim (λ k. turn .settled (omega arith)) (λ k. rw (turn .kept k) (state .settled k)) (lt-or-le (t % 128) (sizeAt (length rs) t))
+      ⊎-elim (λ k. turn .settled (omega arith)) (λ k. rw (turn .kept k) (state .settled k))
+      (lt-or-le (t % 128) (sizeAt (length rs) t))
 
   -- one turn more
   batch-next : BatchAt ws rs d (suc t) after
@@ -281,7 +296,8 @@ module _ (ws : List ℕ) (rs : List Record) (r : Reply) (said : Shows (answerOf 
   turn-count t l = each (turn-whole t l)
 
   pub turns-fit : r .count ≤ length rs
-  turns-fit = ⊎-elim (λ t. let e = none t in omega arith) (λ t. let e = each t in omega arith) (bool-cases (isMalformed ws))
+  turns-fit =
+      ⊎-elim (λ t. let e = none t in omega arith) (λ t. let e = each t in omega arith) (bool-cases (isMalformed ws))
 
   -- one of the turns, where the records before turn k are `before k`
   module _ (d : Record) (t : ℕ) (small : t < 2 * r .count) where
@@ -301,7 +317,8 @@ module _ (ws : List ℕ) (rs : List Record) (r : Reply) (said : Shows (answerOf 
       pub turn-answers : BatchAdvanced ws (r .count) t found b after → readsAt (r .count) t ≡ false
           → Answerable ws (t % 128 - sizeAt (r .count) t) (found .fixed) (found .ones) (after .shown)
       turn-answers =
-          rw (turn-count t small) (λ turn e. batch-answers ws rs d t own (turn-finds ws rs d t) state turn (turn-whole t small) e)
+          rw (turn-count t small)
+          (λ turn e. batch-answers ws rs d t own (turn-finds ws rs d t) state turn (turn-whole t small) e)
 
       pub turn-batch : BatchAdvanced ws (r .count) t found b after → BatchAt ws rs d (suc t) after
       turn-batch = rw (turn-count t small) (λ turn. batch-next ws rs d t own (turn-finds ws rs d t) state turn)

@@ -1,9 +1,7 @@
 // A sheet of settings in one call: the call's reply, and its turns, on numbers and arrays. A turn reads a record or
-// answers one; up to 64 records are read, settled side by side in lanes and answered. The function over the caller's
+// answers one; up to 64 records are read, settled side by side in lanes (crates/lanes_records) and answered. The
+// function over the caller's
 // records is the C function in crates/exports, whose proof goes step by step by hand.
-mod inputs;
-mod outputs;
-mod settling;
 pub mod turns;
 
 use netlist::Answer;
@@ -14,9 +12,6 @@ use words_refusals::refusal;
 use words_refusals::reply_of;
 ghost use Rattle.netlist.specs.Answers.{answerOf, Shows};
 ghost use Rattle.netlist.specs.Sheet.{sheet};
-
-// How many records are settled side by side.
-pub const LANES: usize = 64;
 
 // The reply of the call. Its count is also how many records are to be answered: none with refusal 6.
 pub fn reply_to_sheet(words: &[u16], count: usize) -> Reply

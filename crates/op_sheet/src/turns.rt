@@ -1,9 +1,9 @@
 // The turns of a call, two for each record: up to LANES records are read one after the other, at the last of them they
 // are settled, and then they are answered one after the other.
-use crate::LANES;
-use crate::outputs::SHOWN_WORDS;
-use crate::outputs::show_lane;
-use crate::settling::settle_records;
+use lanes_records::LANES;
+use lanes_records::outputs::SHOWN_WORDS;
+use lanes_records::outputs::show_lane;
+use lanes_records::settling::settle_records;
 use netlist::Record;
 use netlist::Refusal;
 use words_layout::masks::are_masks;
@@ -112,7 +112,10 @@ fn answer_lane(words: &[u16], s: usize, fixed: u16, ones: u16, shown: &[u64; SHO
 // The record that turn t leaves at its place: the one that it found there, or the answer.
 pub fn answer(words: &[u16], count: usize, t: usize, asked: Record, batch: Batch) -> Record
     requires { ⌜ t < 2 * count ⌝ }
-    requires { ⌜ (readsAt count t ≡ false → Answerable (now words) (t % 128 - sizeAt count t) (asked .fixed) (asked .ones) (batch .shown)) ⌝ }
+    requires { ⌜
+        (readsAt count t ≡ false → Answerable (now words) (t % 128 - sizeAt count t) (asked .fixed) (asked .ones)
+        (batch .shown))
+        ⌝ }
     ensures { λ r. ⌜ r ≡ turned (now (words .entry)) count t asked ⌝ }
 {
     let size = size_at(count, t);

@@ -1,4 +1,3 @@
--- Mathematics of the search over settings; no function of src/ is named.
-pub mod Counting
-pub mod Batching
+-- Mathematics of the count of settled settings; no function of src/ is named.
+pub mod Counts
 pub mod Outcomes

@@ -11,10 +11,12 @@ use Rattle.netlist.specs.Rounds.{settledSettings, lowestUnsettled}
 use Rattle.netlist.specs.Operations.{verdict}
 
 module _ (ws : List ℕ) where
-  pub verdict-chain : verdict ws ≡ refuseIf (isMalformed ws) MalformedBlock (done [] (settledSettings (decode ws)) (lowestUnsettled (decode ws)))
+  pub verdict-chain : verdict ws
+      ≡ refuseIf (isMalformed ws) MalformedBlock (done [] (settledSettings (decode ws)) (lowestUnsettled (decode ws)))
   unfolding verdict
   verdict-chain = refl
 
-  pub answer-whole : isMalformed ws ≡ false → Done (settledSettings (decode ws)) (lowestUnsettled (decode ws)) ≡ answerOf (verdict ws)
+  pub answer-whole : isMalformed ws ≡ false
+      → Done (settledSettings (decode ws)) (lowestUnsettled (decode ws)) ≡ answerOf (verdict ws)
   unfolding verdict refuseIf answerOf
   answer-whole h = rw h refl

@@ -44,7 +44,7 @@ outputs-part ws from k e d = rw (e, d) refl
 
 -- ---- the length
 
--- a block that is not torn has few inputs, and what is written is short
+-- a block that is not malformed has few inputs, and what is written is short
 pub few-inputs : (ws : List ℕ) → isMalformed ws ≡ false → getD ws 0 0 ≤ maxInputs
 few-inputs ws whole =
     omega (arith, wellFormed-parts (decode ws) (decoded-well ws whole) .fewInputs, decode-inputCount ws)

@@ -53,7 +53,7 @@ lines-pieces line f piece (suc count) h rest =
     ∙ rw (pieces-more piece count, h count (omega arith) rest)
     (sym (append-assoc (pieces piece count) (piece count) rest))
 
--- the same, where only those that pass a test are lines, and the other pieces are empty
+-- lines that are pieces one after the other, where an element that fails a test has no line and an empty piece
 kept-pieces : {A : Type 0} (line : A → List ℕ → List ℕ) (f : ℕ → A) (test : ℕ → Bool) (piece : ℕ → List ℕ) (count : ℕ)
     → ((i : ℕ) → i < count → test i ≡ true → (rest : List ℕ) → line (f i) rest ≡ piece i ++ rest)
     → ((i : ℕ) → i < count → test i ≡ false → piece i ≡ [])

@@ -21,8 +21,8 @@ ghost use Rattle.op_write.specs.Lines.{blockText};
 mod lines;
 mod nevers;
 
-// Refusal 11, of a block that is not malformed. Where there is room for the longest text nothing is measured; else a
-// pass over a text of one byte does.
+// Refusal 11, of a block that is not malformed. Where there is room for the longest text of all blocks, nothing is
+// measured; else the text is written once into a slice of one byte, which counts its bytes.
 fn check_room(words: &[u16], room: usize) -> Test
     requires { ⌜ isMalformed (now words) ≡ false ⌝ }
     ensures { λ r. ⌜ r ≡ testOf (ltb room (length (blockText (now (words .entry))))) NoRoom ⌝ }
@@ -36,7 +36,8 @@ fn check_room(words: &[u16], room: usize) -> Test
 
 // Write (6, 11): the text of a block; count: bytes.
 pub fn write(words: &[u16], text: &mut [u8]) -> Answer
-    ensures { λ r. ⌜ Promise (write (now (words .entry)) (length (now (text .entry)))) (now (text .entry)) r (now (text .exit)) ⌝ }
+    ensures { λ r.
+        ⌜ Promise (write (now (words .entry)) (length (now (text .entry)))) (now (text .entry)) r (now (text .exit)) ⌝ }
 {
     let tested = check_words(words);
     let Test::Passed = tested else {

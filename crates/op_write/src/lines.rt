@@ -39,7 +39,8 @@ fn put_item(text: &mut [u8], at: usize, words: &[u16], from: usize, i: usize) ->
 fn put_items(text: &mut [u8], at: usize, words: &[u16], from: usize, count: usize) -> usize
     requires { ⌜ (from ≤ writtenRoom) × (count ≤ maxWord) ⌝ }
     requires { ⌜ Short (pieces (itemText (now words) from) count) at ⌝ }
-    ensures { λ r. ⌜ Appended (pieces (itemText (now (words .entry)) from) count) (now (text .entry)) at (now (text .exit)) r ⌝ }
+    ensures { λ r.
+        ⌜ Appended (pieces (itemText (now (words .entry)) from) count) (now (text .entry)) at (now (text .exit)) r ⌝ }
 {
     let mut end = at;
     let mut i = 0;
@@ -79,7 +80,8 @@ fn put_gate(text: &mut [u8], at: usize, words: &[u16], from: usize, j: usize) ->
 fn put_gates(text: &mut [u8], at: usize, words: &[u16], from: usize, m: usize) -> usize
     requires { ⌜ (from ≤ lineRoom) × (m ≤ maxWord) ⌝ }
     requires { ⌜ Short (pieces (gateText (now words) from) m) at ⌝ }
-    ensures { λ r. ⌜ Appended (pieces (gateText (now (words .entry)) from) m) (now (text .entry)) at (now (text .exit)) r ⌝ }
+    ensures { λ r.
+        ⌜ Appended (pieces (gateText (now (words .entry)) from) m) (now (text .entry)) at (now (text .exit)) r ⌝ }
 {
     let mut end = at;
     let mut j = 0;
@@ -104,7 +106,8 @@ fn put_input(text: &mut [u8], at: usize, words: &[u16], i: usize) -> usize
 fn put_inputs(text: &mut [u8], at: usize, words: &[u16], n: usize) -> usize
     requires { ⌜ n ≤ maxWord ⌝ }
     requires { ⌜ Short (pieces (inputText (now words)) n) at ⌝ }
-    ensures { λ r. ⌜ Appended (pieces (inputText (now (words .entry))) n) (now (text .entry)) at (now (text .exit)) r ⌝ }
+    ensures { λ r.
+        ⌜ Appended (pieces (inputText (now (words .entry))) n) (now (text .entry)) at (now (text .exit)) r ⌝ }
 {
     let mut end = at;
     let mut i = 0;
@@ -132,7 +135,8 @@ fn put_output(text: &mut [u8], at: usize, words: &[u16], from: usize, o: usize) 
 fn put_outputs(text: &mut [u8], at: usize, words: &[u16], from: usize, k: usize) -> usize
     requires { ⌜ (from ≤ lineRoom) × (k ≤ maxWord) ⌝ }
     requires { ⌜ Short (pieces (outputText (now words) from) k) at ⌝ }
-    ensures { λ r. ⌜ Appended (pieces (outputText (now (words .entry)) from) k) (now (text .entry)) at (now (text .exit)) r ⌝ }
+    ensures { λ r.
+        ⌜ Appended (pieces (outputText (now (words .entry)) from) k) (now (text .entry)) at (now (text .exit)) r ⌝ }
 {
     let mut end = at;
     let mut o = 0;

@@ -25,7 +25,8 @@ fn put_fixed(
 ) -> usize
     requires { ⌜ i ≤ maxInputs ⌝ }
     requires { ⌜ Short (fixedText (now words) fixed ones i) at ⌝ }
-    ensures { λ r. ⌜ Appended (fixedText (now (words .entry)) fixed ones i) (now (text .entry)) at (now (text .exit)) r ⌝ }
+    ensures { λ r.
+        ⌜ Appended (fixedText (now (words .entry)) fixed ones i) (now (text .entry)) at (now (text .exit)) r ⌝ }
 {
     if (fixed >> i) % 2 != 1 {
         return at;
@@ -45,7 +46,8 @@ fn put_pairs(
 ) -> usize
     requires { ⌜ n ≤ maxInputs ⌝ }
     requires { ⌜ Short (pieces (fixedText (now words) fixed ones) n) at ⌝ }
-    ensures { λ r. ⌜ Appended (pieces (fixedText (now (words .entry)) fixed ones) n) (now (text .entry)) at (now (text .exit)) r ⌝ }
+    ensures { λ r. ⌜ Appended (pieces (fixedText (now (words .entry)) fixed ones) n)
+        (now (text .entry)) at (now (text .exit)) r ⌝ }
 {
     let mut end = at;
     let mut i = 0;
@@ -73,7 +75,8 @@ fn put_never(text: &mut [u8], at: usize, words: &[u16], from: usize) -> usize
 pub fn put_nevers(text: &mut [u8], at: usize, words: &[u16], from: usize, count: usize) -> usize
     requires { ⌜ (getD (now words) 0 0 ≤ maxInputs) × (from ≤ lineRoom) × (count ≤ maxWord) ⌝ }
     requires { ⌜ Short (pieces (neverLineText (now words) from) count) at ⌝ }
-    ensures { λ r. ⌜ Appended (pieces (neverLineText (now (words .entry)) from) count) (now (text .entry)) at (now (text .exit)) r ⌝ }
+    ensures { λ r. ⌜ Appended (pieces (neverLineText (now (words .entry)) from) count)
+        (now (text .entry)) at (now (text .exit)) r ⌝ }
 {
     let mut end = at;
     let mut i = 0;

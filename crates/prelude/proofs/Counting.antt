@@ -27,21 +27,24 @@ countBelow-ext p q (suc n) h =
     rw (e, e′)
 
 -- where each that passes one test passes the other, at most as many do
-pub countBelow-mono : (p q : ℕ → Bool) (n : ℕ) → ((k : ℕ) → k < n → p k ≡ true → q k ≡ true) → countBelow p n ≤ countBelow q n
+pub countBelow-mono : (p q : ℕ → Bool) (n : ℕ) → ((k : ℕ) → k < n → p k ≡ true → q k ≡ true)
+    → countBelow p n ≤ countBelow q n
 countBelow-mono p q zero f = omega arith
 countBelow-mono p q (suc n) f =
     let r = countBelow-mono p q n (λ k h. f k (omega arith)) in
     let s = bit-mono (p n) (q n) (f n (omega arith)) in
     omega arith
 
--- and fewer, where one passes only the other
-pub countBelow-less : (p q : ℕ → Bool) (n : ℕ) → ((k : ℕ) → k < n → p k ≡ true → q k ≡ true) → (k : ℕ) → k < n → p k ≡ false → q k ≡ true
+-- fewer numbers pass a test that implies another, where one of them passes only the other
+pub countBelow-less : (p q : ℕ → Bool) (n : ℕ) → ((k : ℕ) → k < n → p k ≡ true → q k ≡ true) → (k : ℕ) → k < n
+    → p k ≡ false → q k ≡ true
     → countBelow p n < countBelow q n
 countBelow-less p q zero f k h e g = absurd (omega arith)
 countBelow-less p q (suc n) f k h e g =
     go (lt-or-le k n) (countBelow-less p q n (λ i l. f i (omega arith)) k)
   where
-    go : (k < n) ⊎ (n ≤ k) → (k < n → p k ≡ false → q k ≡ true → countBelow p n < countBelow q n) → countBelow p (suc n) < countBelow q (suc n)
+    go : (k < n) ⊎ (n ≤ k) → (k < n → p k ≡ false → q k ≡ true → countBelow p n < countBelow q n)
+        → countBelow p (suc n) < countBelow q (suc n)
     go (inl l) r =
         let s = bit-mono (p n) (q n) (f n (omega arith)) in
         let u = r l e g in
@@ -76,12 +79,14 @@ countBelow-full p n h k l = ⊎-elim (λ e. e) (λ e. absurd (no′ e)) (bool-ca
         omega arith
 
 -- one more passes
-pub countBelow-one : (p q : ℕ → Bool) (n x : ℕ) → x < n → p x ≡ false → q x ≡ true → ((k : ℕ) → (k ≡ x → ⊥) → q k ≡ p k) → countBelow q n ≡ suc (countBelow p n)
+pub countBelow-one : (p q : ℕ → Bool) (n x : ℕ) → x < n → p x ≡ false → q x ≡ true → ((k : ℕ) → (k ≡ x → ⊥) → q k ≡ p k)
+    → countBelow q n ≡ suc (countBelow p n)
 countBelow-one p q zero x h e g f = absurd (omega arith)
 countBelow-one p q (suc n) x h e g f =
     go (lt-or-le x n) (λ l. countBelow-one p q n x l e g f)
   where
-    go : (x < n) ⊎ (n ≤ x) → (x < n → countBelow q n ≡ suc (countBelow p n)) → countBelow q (suc n) ≡ suc (countBelow p (suc n))
+    go : (x < n) ⊎ (n ≤ x) → (x < n → countBelow q n ≡ suc (countBelow p n))
+        → countBelow q (suc n) ≡ suc (countBelow p (suc n))
     go (inl l) r =
         let u = r l in
         let s : q n ≡ p n = f n (omega arith) in

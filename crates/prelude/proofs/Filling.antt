@@ -20,7 +20,8 @@ pub record Filling (entry slice xs : List ℕ) (j : ℕ) : Type 0 where
 pub filling-none : (entry : List ℕ) → Filling entry entry [] 0
 filling-none entry = record { long = refl; kept = refl; holds = refl }
 
-pub filling-more : {entry slice xs ys : List ℕ} {j : ℕ} → Filling entry slice xs j → j < length entry → (a : ℕ) → ys ≡ xs ++ (a ∷ [])
+pub filling-more : {entry slice xs ys : List ℕ} {j : ℕ} → Filling entry slice xs j → j < length entry → (a : ℕ)
+    → ys ≡ xs ++ (a ∷ [])
     → Filling entry (set slice j a) ys (j + 1)
 filling-more {entry} {slice} {xs} {ys} {j} f l a e =
     rw e

@@ -20,10 +20,16 @@ record Found (p : ℕ → Bool) (k n r : ℕ) : Type 0 where
 
 found : (p : ℕ → Bool) (k n : ℕ) → Found p k n (leastFrom p k n)
 found p k zero =
-    record { from = omega arith; to = omega arith; before = λ i a b. absurd (omega arith); at = λ l. absurd (omega arith) }
+    record {
+      from = omega arith;
+      to = omega arith;
+      before = λ i a b. absurd (omega arith);
+      at = λ l. absurd (omega arith);
+    }
 found p k (suc n) = go (p k) refl (found p (suc k) n)
   where
-    go : (b : Bool) → p k ≡ b → Found p (suc k) n (leastFrom p (suc k) n) → Found p k (suc n) (cond b k (leastFrom p (suc k) n))
+    go : (b : Bool) → p k ≡ b → Found p (suc k) n (leastFrom p (suc k) n)
+        → Found p k (suc n) (cond b k (leastFrom p (suc k) n))
     go true e f = record { from = omega arith; to = omega arith; before = λ i a l. absurd (omega arith); at = λ l. e }
     go false e f =
         let lo : suc k ≤ leastFrom p (suc k) n = f .from in
@@ -31,7 +37,8 @@ found p k (suc n) = go (p k) refl (found p (suc k) n)
         record {
           from = omega arith;
           to = omega arith;
-          before = λ i a l. ⊎-elim (λ (s : i ≡ k). rw s e) (λ (s : i ≡ k → ⊥). f .before i (omega arith) l) (eq-or-ne i k);
+          before =
+              λ i a l. ⊎-elim (λ (s : i ≡ k). rw s e) (λ (s : i ≡ k → ⊥). f .before i (omega arith) l) (eq-or-ne i k);
           at = λ l. f .at (omega arith);
         }
 
@@ -43,13 +50,14 @@ module _ (p : ℕ → Bool) (n : ℕ) where
   pub least-below : (i : ℕ) → i < least p n → p i ≡ false
   least-below i l = found p 0 n .before i (omega arith) l
 
-  -- it passes, if it is below the bound
+  -- the least number passes, if it is below the bound
   pub least-at : least p n < n → p (least p n) ≡ true
   least-at l = found p 0 n .at (omega arith)
 
   -- nothing else is so
   pub least-is : (r : ℕ) → r ≤ n → ((i : ℕ) → i < r → p i ≡ false) → (r < n → p r ≡ true) → least p n ≡ r
-  least-is r h before at = ⊎-elim lower (λ ge. ⊎-elim higher (λ le. le-antisymm le ge) (lt-or-le r (least p n))) (lt-or-le (least p n) r)
+  least-is r h before at =
+      ⊎-elim lower (λ ge. ⊎-elim higher (λ le. le-antisymm le ge) (lt-or-le r (least p n))) (lt-or-le (least p n) r)
     where
       lower : least p n < r → least p n ≡ r
       lower l = not-both (least-at (omega arith)) (before (least p n) l)
@@ -59,4 +67,5 @@ module _ (p : ℕ → Bool) (n : ℕ) where
 
   -- one that passes is not below it
   pub least-first : (i : ℕ) → p i ≡ true → least p n ≤ i ⊎ (n ≤ i)
-  least-first i h = ⊎-elim (λ l. inr (⊎-elim (λ m. not-both h (least-below i l)) (λ m. m) (lt-or-le i n))) inl (lt-or-le i (least p n))
+  least-first i h = ⊎-elim (λ l. inr (⊎-elim (λ m. not-both h (least-below i l)) (λ m. m) (lt-or-le i n))) inl
+      (lt-or-le i (least p n))

@@ -24,9 +24,10 @@ module _ {A : Type 0} where
   -- joining one list of lists after the other
   pub joined-append : (xs ys : List (List A)) → joined (xs ++ ys) ≡ joined xs ++ joined ys
   joined-append [] ys = refl
-  joined-append (x ∷ xs) ys = ap (λ (l : List A). x ++ l) (joined-append xs ys) ∙ sym (append-assoc x (joined xs) (joined ys))
+  joined-append (x ∷ xs) ys =
+      ap (λ (l : List A). x ++ l) (joined-append xs ys) ∙ sym (append-assoc x (joined xs) (joined ys))
 
-  -- and one list more
+  -- lists joined, with one list more at the end
   pub joined-snoc : (xs : List (List A)) (x : List A) → joined (xs ++ (x ∷ [])) ≡ joined xs ++ x
   joined-snoc xs x = joined-append xs (x ∷ []) ∙ ap (λ (l : List A). joined xs ++ l) (append-nil x)
 
@@ -91,7 +92,7 @@ member-left x xs ys h = member-append x xs ys ∙ or-left _ _ h
 pub member-right : (x : ℕ) (xs ys : List ℕ) → member x ys ≡ true → member x (xs ++ ys) ≡ true
 member-right x xs ys h = member-append x xs ys ∙ or-right (member x xs) _ h
 
--- and in no other case
+-- a number in two lists, one after the other, is in one of them
 pub member-cases : (x : ℕ) (xs ys : List ℕ) → member x (xs ++ ys) ≡ true → (member x xs ≡ true) ⊎ (member x ys ≡ true)
 member-cases x xs ys h = or-cases _ _ (sym (member-append x xs ys) ∙ h)
 
@@ -102,7 +103,7 @@ member-head x xs = or-left _ _ (eq-eqb x x refl)
 pub member-rest : (x y : ℕ) (xs : List ℕ) → member x xs ≡ true → member x (y ∷ xs) ≡ true
 member-rest x y xs h = or-right (eqb x y) (member x xs) h
 
--- and nothing else
+-- a number in a list is its first or in its rest
 pub member-first : (x y : ℕ) (xs : List ℕ) → member x (y ∷ xs) ≡ true → (x ≡ y) ⊎ (member x xs ≡ true)
 member-first x y xs h = ⊎-elim (λ e. inl (eqb-true x y e)) inr (or-cases (eqb x y) (member x xs) h)
 

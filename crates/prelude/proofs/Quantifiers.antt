@@ -16,7 +16,8 @@ use lib.ListN.{length, getD}
 use lib.Dec.{eqb}
 use borrow.Author.Tests.{eqb-true, eq-eqb}
 use Rattle.prelude.specs.Lists.{all, any, tab, upTo, member}
-use Rattle.prelude.proofs.Tests.{and-left, and-right, and-intro, or-cases, or-left, or-right, same-test, not-both, not-true-false}
+use Rattle.prelude.proofs.Tests.{and-left, and-right, and-intro, or-cases, or-left, or-right, same-test}
+use Rattle.prelude.proofs.Tests.{not-both, not-true-false}
 use Rattle.prelude.proofs.Tab.{length-tab, getD-tab}
 
 module _ {A : Type 0} (p : A → Bool) where
@@ -28,14 +29,16 @@ module _ {A : Type 0} (p : A → Bool) where
 
   pub all-from : (xs : List A) (d : A) → ((i : ℕ) → i < length xs → p (getD xs i d) ≡ true) → all p xs ≡ true
   all-from [] d h = refl
-  all-from (x ∷ xs) d h = and-intro (p x) (all p xs) (h 0 (suc-le-suc zero-le)) (all-from xs d (λ i l. h (suc i) (suc-le-suc l)))
+  all-from (x ∷ xs) d h =
+      and-intro (p x) (all p xs) (h 0 (suc-le-suc zero-le)) (all-from xs d (λ i l. h (suc i) (suc-le-suc l)))
 
   -- what any passes, one passes
   pub any-at : (xs : List A) (d : A) → any p xs ≡ true → (i : ℕ) × (i < length xs) × (p (getD xs i d) ≡ true)
   any-at [] d h = absurd (false≢true h)
   any-at (x ∷ xs) d h =
       ⊎-elim (λ e. (0, suc-le-suc zero-le, e))
-      (λ e. let r : (i : ℕ) × (i < length xs) × (p (getD xs i d) ≡ true) = any-at xs d e in (suc (r .0), suc-le-suc (r .1), r .2))
+      (λ e. let r : (i : ℕ) × (i < length xs) × (p (getD xs i d) ≡ true) = any-at xs d e in
+      (suc (r .0), suc-le-suc (r .1), r .2))
       (or-cases (p x) (any p xs) h)
 
   pub any-from : (xs : List A) (i : ℕ) (d : A) → i < length xs → p (getD xs i d) ≡ true → any p xs ≡ true

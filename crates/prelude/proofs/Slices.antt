@@ -1,6 +1,6 @@
 -- A list placed over the front of a slice: what stands there and behind it, and one element more.
 --   length-placed, placed-room            its length
---   take-placed, drop-placed, getD-past   the front, and what is behind
+--   take-placed, getD-past                the front, and what is behind
 --   set-placed, sets-placed               one element more, and a list at once
 -- Assumes nothing.
 use mathlib.Core.Path.{_≡_, ap, _∙_}
@@ -10,7 +10,7 @@ use native.Mathlib.Nat.{zero-add}
 use native.Mathlib.Numerals.{add-one}
 use native.Mathlib.Omega.{arith}
 use lib.ListN.{length, getD, take, drop, set, length-append, length-drop}
-use lib.Seq.{take-at, drop-at, set-at, drop-cons, getD-append-add, getD-drop, sets, sets-eq}
+use lib.Seq.{take-at, set-at, drop-cons, getD-append-add, getD-drop, sets, sets-eq}
 use Rattle.prelude.specs.Lists.{placed}
 
 module _ {A : Type 0} where
@@ -26,18 +26,17 @@ module _ {A : Type 0} where
   pub take-placed : (xs entry : List A) (n : ℕ) → length xs ≡ n → take n (placed xs entry) ≡ xs
   take-placed xs entry n e = take-at xs (drop (length xs) entry) n e
 
-  -- and the rest is what it was,
-  pub drop-placed : (xs entry : List A) (n : ℕ) → length xs ≡ n → drop n (placed xs entry) ≡ drop n entry
-  drop-placed xs entry n e = drop-at xs (drop (length xs) entry) n e ∙ ap (λ (k : ℕ). drop k entry) e
-
   -- element by element
-  pub getD-past : (xs entry : List A) (n k : ℕ) (d : A) → length xs ≡ n → n ≤ k → getD (xs ++ drop n entry) k d ≡ getD entry k d
+  pub getD-past : (xs entry : List A) (n k : ℕ) (d : A) → length xs ≡ n → n ≤ k
+      → getD (xs ++ drop n entry) k d ≡ getD entry k d
   getD-past xs entry n k d e h =
       let place : n + (k - n) ≡ k = omega arith in
-      (rw (e, place) at (getD-append-add xs (drop n entry) (k - n) d)) ∙ getD-drop n entry (k - n) d ∙ ap (λ (i : ℕ). getD entry i d) place
+      (rw (e, place) at (getD-append-add xs (drop n entry) (k - n) d)) ∙ getD-drop n entry (k - n) d
+      ∙ ap (λ (i : ℕ). getD entry i d) place
 
   -- one element more
-  pub set-placed : (xs entry : List A) (n : ℕ) (a : A) → length xs ≡ n → n < length entry → set (placed xs entry) n a ≡ placed (xs ++ (a ∷ [])) entry
+  pub set-placed : (xs entry : List A) (n : ℕ) (a : A) → length xs ≡ n → n < length entry
+      → set (placed xs entry) n a ≡ placed (xs ++ (a ∷ [])) entry
   set-placed xs entry n a e h =
       rw (e, drop-cons entry n a h, length-append, e)
       (set-at xs (getD entry n a) (drop (suc n) entry) a n e ∙ rw (append-assoc, add-one))

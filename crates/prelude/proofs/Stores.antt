@@ -16,7 +16,8 @@ use Rattle.prelude.proofs.Lists.{sets-sets, joined-snoc}
 
 module _ {A : Type 0} where
   -- one list and then, where it ends, another
-  pub sets-append : (xs entry : List A) (i j : ℕ) (ys : List A) → j ≡ i + length xs → sets (sets entry i xs) j ys ≡ sets entry i (xs ++ ys)
+  pub sets-append : (xs entry : List A) (i j : ℕ) (ys : List A) → j ≡ i + length xs
+      → sets (sets entry i xs) j ys ≡ sets entry i (xs ++ ys)
   sets-append xs entry i j ys e = rw e (sets-sets entry i xs ys)
 
   -- one element more of a list that a function gives
@@ -30,10 +31,13 @@ module _ {A : Type 0} where
     pub length-joined-tab : (k : ℕ) → length (joined (tab f k)) ≡ size * k
     length-joined-tab zero = rw mul-zero
     length-joined-tab (suc k) =
-        rw (joined-snoc (tab f k) (f k), length-append (joined (tab f k)) (f k), length-joined-tab k, sized k, mul-suc) (omega arith)
+        rw (joined-snoc (tab f k) (f k), length-append (joined (tab f k)) (f k), length-joined-tab k, sized k, mul-suc)
+        (omega arith)
 
     -- one list more
-    pub sets-joined-next : (entry out out′ : List A) (i k : ℕ) → out ≡ sets entry i (joined (tab f k)) → out′ ≡ sets out (i + size * k) (f k)
+    pub sets-joined-next : (entry out out′ : List A) (i k : ℕ) → out ≡ sets entry i (joined (tab f k))
+        → out′ ≡ sets out (i + size * k) (f k)
         → out′ ≡ sets entry i (joined (tab f (k + 1)))
     sets-joined-next entry out out′ i k e h =
-        h ∙ rw (e, add-one, joined-snoc (tab f k) (f k)) (sets-append (joined (tab f k)) entry i (i + size * k) (f k) (omega (arith, length-joined-tab k)))
+        h ∙ rw (e, add-one, joined-snoc (tab f k) (f k))
+        (sets-append (joined (tab f k)) entry i (i + size * k) (f k) (omega (arith, length-joined-tab k)))

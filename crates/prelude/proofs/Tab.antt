@@ -1,7 +1,8 @@
--- The list of a function's first values: its length, its elements, when two are equal, and how a loop fills a slice with it.
+-- The list of a function's first values: its length, its elements, when two are equal, and how a loop fills a slice
+-- with it.
 --   length-tab, getD-tab, tab-getD   its length and elements
 --   tab-add, tab-ext, map-tab        in two parts, two that are equal, mapped
---   fill-next, keep-next, placed-tab, placed-all   a slice that is being filled with it
+--   fill-next, placed-tab           a slice that is being filled with it
 -- Assumes nothing.
 use mathlib.Core.Path.{_≡_, refl, sym, ap, _∙_}
 use mathlib.Core.Logic.{_⊎_, ⊎-elim}
@@ -11,8 +12,8 @@ use Prim.Native.Nat.{ℕ, zero, suc, _+_, _<_}
 use native.Mathlib.Nat.{not-suc-le-zero, add-zero, add-suc}
 use native.Mathlib.Numerals.{add-one}
 use native.Mathlib.Omega.{arith}
-use lib.ListN.{length, getD, drop, set, length-append, List·getD-append}
-use lib.Seq.{getD-at, drop-cons, drop-length, ext-getD}
+use lib.ListN.{length, getD, set, length-append, List·getD-append}
+use lib.Seq.{getD-at, ext-getD}
 use Rattle.prelude.specs.Lists.{tab, placed}
 use Rattle.prelude.proofs.Tests.{eq-or-ne}
 use Rattle.prelude.proofs.Slices.{set-placed}
@@ -30,7 +31,8 @@ module _ {A : Type 0} where
       at e = rw e (getD-at (tab f n) (f n) [] d n (length-tab f n))
 
       before : i < n → getD (tab f n) i d ≡ f i → getD (tab f (suc n)) i d ≡ f i
-      before l e = let l′ : i < length (tab f n) = rw (length-tab f n) l in List·getD-append (tab f n) (f n ∷ []) d i l′ ∙ e
+      before l e = let l′ : i < length (tab f n) = rw (length-tab f n) l in
+          List·getD-append (tab f n) (f n ∷ []) d i l′ ∙ e
 
   -- the first a + b values are the first a and then b more
   pub tab-add : (f : ℕ → A) (a b : ℕ) → tab f (a + b) ≡ tab f a ++ tab (λ i. f (a + i)) b
@@ -52,28 +54,21 @@ module _ {A : Type 0} where
       (λ i l. getD-tab (λ i. getD xs i d) n i d (rw (length-tab (λ i. getD xs i d) n) at l))
 
   -- a loop that has filled n elements of a slice fills the next
-  pub set-placed-tab : (f : ℕ → A) (n : ℕ) (entry : List A) → n < length entry → set (placed (tab f n) entry) n (f n) ≡ placed (tab f (suc n)) entry
+  pub set-placed-tab : (f : ℕ → A) (n : ℕ) (entry : List A) → n < length entry
+      → set (placed (tab f n) entry) n (f n) ≡ placed (tab f (suc n)) entry
   set-placed-tab f n entry h = set-placed (tab f n) entry n (f n) (length-tab f n) h
 
-  -- the same of a loop's slice, by its next number
-  pub fill-next : (f : ℕ → A) (j : ℕ) (entry slice : List A) (v : A) → slice ≡ placed (tab f j) entry → j < length entry → v ≡ f j
+  -- a loop whose slice has the first j elements stores element j
+  pub fill-next : (f : ℕ → A) (j : ℕ) (entry slice : List A) (v : A) → slice ≡ placed (tab f j) entry → j < length entry
+      → v ≡ f j
       → set slice j v ≡ placed (tab f (j + 1)) entry
   fill-next f j entry slice v is l e = rw (is, e, add-one) (set-placed-tab f j entry l)
 
-  -- a place that is kept
-  pub keep-next : (f : ℕ → A) (j : ℕ) (entry slice : List A) (d : A) → slice ≡ placed (tab f j) entry → j < length entry → getD entry j d ≡ f j
-      → slice ≡ placed (tab f (j + 1)) entry
-  keep-next f j entry slice d is l e =
-      is ∙ rw (add-one, length-tab f j, length-tab f (suc j), drop-cons entry j d l, e) (sym (append-assoc (tab f j) (f j ∷ []) (drop (suc j) entry)))
-
   -- what is filled stands there
-  pub placed-tab : (f : ℕ → A) (n : ℕ) (entry : List A) (j : ℕ) (d : A) → j < n → getD (placed (tab f n) entry) j d ≡ f j
+  pub placed-tab : (f : ℕ → A) (n : ℕ) (entry : List A) (j : ℕ) (d : A) → j < n
+      → getD (placed (tab f n) entry) j d ≡ f j
   placed-tab f n entry j d l =
       List·getD-append (tab f n) _ d j (rw (length-tab f n) l) ∙ getD-tab f n j d l
-
-  -- a slice filled to its end
-  pub placed-all : (xs entry : List A) → length xs ≡ length entry → placed xs entry ≡ xs
-  placed-all xs entry e = rw (e, drop-length entry) (append-nil xs)
 
 module _ {A B : Type 0} where
   pub map-tab : (g : A → B) (f : ℕ → A) (n : ℕ) → map g (tab f n) ≡ tab (λ i. g (f i)) n

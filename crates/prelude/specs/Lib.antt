@@ -1,1 +1,2 @@
+-- Definitions on lists and numbers, and nothing of netlists.
 pub mod Lists

@@ -91,8 +91,8 @@ abbrev pub distinct : List (List ℕ) → Bool
 distinct [] = true
 distinct (x ∷ xs) = cond (memberList x xs) false (distinct xs)
 
--- a number in front of a list that has no zero at its end, such that the result has none either; `trimmed` drops all
--- zeros at a list's end
+-- a number put in front of a list, where a 0 in front of no number is dropped: so `trimmed` drops all zeros at a list's
+-- end
 abbrev pub onto : ℕ → List ℕ → List ℕ
 onto x [] = cond (eqb x 0) [] (x ∷ [])
 onto x (y ∷ ys) = x ∷ y ∷ ys

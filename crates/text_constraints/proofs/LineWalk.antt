@@ -26,11 +26,12 @@ use Rattle.words_refusals.specs.Tests.{testAt}
 use Rattle.netlist.specs.Netlist.{Name}
 use Rattle.netlist.specs.StoredBlock.{neverWords}
 use Rattle.netlist.specs.Syntax.{Pair, Tree, isLegalNever, printLines, printNever}
-use Rattle.netlist.specs.Reading.{Mention, mentions, neverMentions, firstRepeat, orElse, firstRepeatIn, firstOutside, excludedNames, assignmentOf, givenValue}
+use Rattle.netlist.specs.Reading.{Mention, mentions, neverMentions, firstRepeat, orElse, firstRepeatIn, firstOutside}
+use Rattle.netlist.specs.Reading.{excludedNames, assignmentOf, givenValue}
 use Rattle.words_refusals.proofs.Promised.{IsFailed}
 use Rattle.theory_grammar.proofs.Places.{printNever-split}
-use Rattle.text_symbols.specs.Index.{maxPairs}
-use Rattle.text_symbols.specs.Lines.{lengthWithLf}
+use Rattle.text_names.specs.Index.{maxPairs}
+use Rattle.text_lines.specs.Lines.{lengthWithLf}
 use Rattle.words_layout.specs.Masks.{masksOf}
 use Rattle.text_pairs.specs.Tables.{InputsAre}
 use Rattle.text_constraints.specs.declared.NeverTold.{NeverTold}
@@ -48,7 +49,8 @@ pub record Left (text : List ℕ) (at left : ℕ) (S : List (List Pair) → Type
   pub holds : S lines
 
 -- the first of them, and the others behind it
-module _ {text : List ℕ} {at left : ℕ} {ps : List Pair} {more : List (List Pair)} (a : NeversAt at left (ps ∷ more) text) where
+module _ {text : List ℕ} {at left : ℕ} {ps : List Pair} {more : List (List Pair)}
+    (a : NeversAt at left (ps ∷ more) text) where
   head-line : NeverAt at ps text
   unfolding printLines
   head-line = record {
@@ -67,12 +69,15 @@ module _ {text : List ℕ} {at left : ℕ} {ps : List Pair} {more : List (List P
         counted = omega (arith, a .counted);
         legal = and-right (isLegalNever ps) (all isLegalNever more) (a .legal);
         rest = a .rest;
-        stand = sym (drop-drop (length (printNever ps [])) at text) ∙ rw e (drop-at (printNever ps []) others (length (printNever ps [])) refl);
+        stand =
+            sym (drop-drop (length (printNever ps [])) at text)
+            ∙ rw e (drop-at (printNever ps []) others (length (printNever ps [])) refl);
       })
 
 module _ {text : List ℕ} {at left : ℕ} {S : List (List Pair) → Type 0} (l : Left text at left S) where
   pub on-line : {Q : Type 0} → 0 < left
-      → ((ps : List Pair) (more : List (List Pair)) → NeverAt at ps text → NeversAt (at + lengthWithLf (drop at text)) (left - 1) more text → S (ps ∷ more) → Q)
+      → ((ps : List Pair) (more : List (List Pair)) → NeverAt at ps text
+      → NeversAt (at + lengthWithLf (drop at text)) (left - 1) more text → S (ps ∷ more) → Q)
       → Q
   on-line {Q} pos f = go (l .lines) (l .is) (l .holds)
     where
@@ -95,7 +100,8 @@ orElse-assoc (some p) q r = refl
 orElse-assoc none q r = refl
 
 -- a test that fails is the first of two
-pub failed-first : (p q : Option ℕ) (why : ℕ → Refusal) {r : Test} → r ≡ testAt p why → IsFailed r → r ≡ testAt (orElse p q) why
+pub failed-first : (p q : Option ℕ) (why : ℕ → Refusal) {r : Test} → r ≡ testAt p why → IsFailed r
+    → r ≡ testAt (orElse p q) why
 unfolding orElse testAt
 failed-first none q why e k = absurd (miss (1 ∷ []) 0 tt (rw e at k))
 failed-first (some x) q why e k = e
@@ -105,24 +111,30 @@ unfolding orElse
 orElse-none (some p) = refl
 orElse-none none = refl
 
-outside-append : (known : List Name) (ds es : List Mention) → firstOutside known (ds ++ es) ≡ orElse (firstOutside known ds) (firstOutside known es)
+outside-append : (known : List Name) (ds es : List Mention)
+    → firstOutside known (ds ++ es) ≡ orElse (firstOutside known ds) (firstOutside known es)
 unfolding firstOutside orElse
 outside-append known [] es = refl
 outside-append known (d ∷ ds) es = go (memberList (d .name) known) (outside-append known ds es)
   where
     go : (b : Bool) → firstOutside known (ds ++ es) ≡ orElse (firstOutside known ds) (firstOutside known es)
-        → cond b (firstOutside known (ds ++ es)) (some (d .place)) ≡ orElse (cond b (firstOutside known ds) (some (d .place))) (firstOutside known es)
+        → cond b (firstOutside known (ds ++ es)) (some (d .place))
+        ≡ orElse (cond b (firstOutside known ds) (some (d .place))) (firstOutside known es)
     go true h = h
     go false h = refl
 
-first-outside : (known : List Name) (ps : List Pair) (more : List (List Pair)) (at : ℕ) → firstOutside known (linesMentions (ps ∷ more) at)
-    ≡ orElse (firstOutside known (neverMentions ps at)) (firstOutside known (linesMentions more (at + length (printNever ps []))))
+first-outside : (known : List Name) (ps : List Pair) (more : List (List Pair)) (at : ℕ)
+    → firstOutside known (linesMentions (ps ∷ more) at)
+    ≡ orElse (firstOutside known (neverMentions ps at))
+    (firstOutside known (linesMentions more (at + length (printNever ps []))))
 unfolding mentions
-first-outside known ps more at = outside-append known (neverMentions ps at) (linesMentions more (at + length (printNever ps [])))
+first-outside known ps more at =
+    outside-append known (neverMentions ps at) (linesMentions more (at + length (printNever ps [])))
 
 -- ---- what the lines read have told, and with `lines` all are told
 
-pub record Saying (ns : List (List Pair)) (known : List Name) (from : ℕ) (masks : List ℕ) (at i : ℕ) (repeat outside : Test) (masks′ : List ℕ)
+pub record Saying (ns : List (List Pair)) (known : List Name) (from : ℕ) (masks : List ℕ) (at i : ℕ)
+    (repeat outside : Test) (masks′ : List ℕ)
     (lines : List (List Pair)) : Type 0 where
   pub p : Option ℕ
   pub q : Option ℕ
@@ -133,7 +145,8 @@ pub record Saying (ns : List (List Pair)) (known : List Name) (from : ℕ) (mask
   pub words : sets masks 0 (linesWords known ns) ≡ sets masks′ (2 * i) (linesWords known lines)
 
 -- in the middle of the loop
-pub record Reading (text : List ℕ) (from count : ℕ) (inputs : List ℕ) (n : ℕ) (masks : List ℕ) (at i : ℕ) (repeat outside : Test)
+pub record Reading (text : List ℕ) (from count : ℕ) (inputs : List ℕ) (n : ℕ) (masks : List ℕ) (at i : ℕ)
+    (repeat outside : Test)
     (names masks′ : List ℕ) : Type 0 where
   pub within : i ≤ count
   pub nameRoom : length names ≡ maxPairs
@@ -143,7 +156,8 @@ pub record Reading (text : List ℕ) (from count : ℕ) (inputs : List ℕ) (n :
 
 -- a test and then another
 abbrev pub FirstOf : Test → Test → Test → Type 0
-FirstOf one other r = (p q : Option ℕ) (why : ℕ → Refusal) → one ≡ testAt p why → other ≡ testAt q why → r ≡ testAt (orElse p q) why
+FirstOf one other r =
+    (p q : Option ℕ) (why : ℕ → Refusal) → one ≡ testAt p why → other ≡ testAt q why → r ≡ testAt (orElse p q) why
 
 module _ {text : List ℕ} {from count : ℕ} {inputs : List ℕ} {n : ℕ} {names masks : List ℕ}
     (ready : LinesReady text from count inputs n names masks) where
@@ -160,13 +174,23 @@ module _ {text : List ℕ} {from count : ℕ} {inputs : List ℕ} {n : ℕ} {nam
             rw e (record {
               lines = ns;
               is = is;
-              holds = record { p = none; q = none; repeatIs = refl; outsideIs = refl; repeats = refl; outsides = refl; words = refl };
+              holds =
+                  record {
+                    p = none;
+                    q = none;
+                    repeatIs = refl;
+                    outsideIs = refl;
+                    repeats = refl;
+                    outsides = refl;
+                    words = refl;
+                  };
             });
       }
 
   module _ {at i : ℕ} {repeat outside : Test} {names′ masks′ : List ℕ}
       (r : Reading text from count inputs n masks at i repeat outside names′ masks′) where
-    here-left : Left text at (count - i) (Saying (ready .lines) (ready .inputsReady .known) from masks at i repeat outside masks′)
+    here-left : Left text at (count - i) (Saying (ready .lines) (ready .inputsReady .known) from masks at i repeat
+        outside masks′)
     here-left = r .now′ (ready .lines) (ready .inputsReady .known) (ready .is) (ready .inputsReady .are)
 
     -- a line is read from the rest of the text
@@ -189,7 +213,8 @@ module _ {text : List ℕ} {from count : ℕ} {inputs : List ℕ} {n : ℕ} {nam
             nameRoom = r .nameRoom;
           }
 
-      pub reading-next : {names″ : List ℕ} {line : LineTold} → LineRead (take (length text - at) (drop at text)) at inputs n names″ line
+      pub reading-next : {names″ : List ℕ} {line : LineTold}
+          → LineRead (take (length text - at) (drop at text)) at inputs n names″ line
           → {repeat′ outside′ : Test} → FirstOf repeat (line .repeat) repeat′ → FirstOf outside (line .outside) outside′
           → {next : ℕ} → next ≡ at + lengthWithLf (drop at text)
           → Reading text from count inputs n masks next (i + 1) repeat′ outside′ names″
@@ -199,7 +224,9 @@ module _ {text : List ℕ} {from count : ℕ} {inputs : List ℕ} {n : ℕ} {nam
           record {
             within = omega arith;
             nameRoom = read .nameRoom;
-            maskRoom = length-set (set masks′ (2 * i) (line .defined)) (2 * i + 1) (line .ones) ∙ length-set masks′ (2 * i) (line .defined) ∙ r .maskRoom;
+            maskRoom =
+                length-set (set masks′ (2 * i) (line .defined)) (2 * i + 1) (line .ones)
+                ∙ length-set masks′ (2 * i) (line .defined) ∙ r .maskRoom;
             now′ =
                 λ ns known is are.
                 let less : count - (i + 1) ≡ count - i - 1 = omega arith in
@@ -216,7 +243,8 @@ module _ {text : List ℕ} {from count : ℕ} {inputs : List ℕ} {n : ℕ} {nam
                     q = orElse (s .q) (firstOutside known (neverMentions ps at));
                     repeatIs = f _ _ DuplicateDeclaration (s .repeatIs) (said .repeats);
                     outsideIs = g _ _ UndeclaredName (s .outsideIs) (said .outsides);
-                    repeats = rw (line-size h) (s .repeats ∙ orElse-assoc (s .p) (firstRepeat [] (neverMentions ps at)) _);
+                    repeats =
+                        rw (line-size h) (s .repeats ∙ orElse-assoc (s .p) (firstRepeat [] (neverMentions ps at)) _);
                     outsides =
                         rw (line-size h)
                         (s .outsides ∙ ap (orElse (s .q)) (first-outside known ps more at)
@@ -226,7 +254,8 @@ module _ {text : List ℕ} {from count : ℕ} {inputs : List ℕ} {n : ℕ} {nam
                 });
           }
 
-    pub reading-done : count ≤ i → LinesRead text from count inputs n masks masks′ (record { repeat = repeat; outside = outside })
+    pub reading-done : count ≤ i
+        → LinesRead text from count inputs n masks masks′ (record { repeat = repeat; outside = outside })
     unfolding firstRepeatIn mentions firstOutside
     reading-done l =
         record {
@@ -241,7 +270,8 @@ module _ {text : List ℕ} {from count : ℕ} {inputs : List ℕ} {n : ℕ} {nam
         }
 
 -- no line tells nothing
-pub none-told : (t : Tree) (masks : List ℕ) → t .nevers ≡ [] → Told t masks masks (record { repeat = Passed; outside = Passed })
+pub none-told : (t : Tree) (masks : List ℕ) → t .nevers ≡ []
+    → Told t masks masks (record { repeat = Passed; outside = Passed })
 unfolding firstRepeatIn excludedNames mentions firstOutside testAt
 none-told t masks e = record { repeats = rw e; outsides = rw e; words = rw e }
 

@@ -21,11 +21,11 @@ use Rattle.netlist.specs.Syntax.{Pair, valueText, pairText, printPair, isLegalP
 use Rattle.netlist.specs.Syntax.{printNever}
 use Rattle.theory_grammar.proofs.Places.{printNever-split}
 use Rattle.words_layout.specs.Masks.{maskBits}
-use Rattle.text_symbols.specs.Lines.{lengthWithLf, lineOpens}
-use Rattle.text_symbols.specs.Trees.{isLine}
-use Rattle.text_symbols.proofs.JoinedLines.{line-append, one-line}
-use Rattle.text_symbols.proofs.TreeLines.{times-name}
-use Rattle.text_symbols.specs.Index.{maxPairs}
+use Rattle.text_lines.specs.Lines.{lengthWithLf, lineOpens}
+use Rattle.text_lines.specs.Trees.{isLine}
+use Rattle.text_lines.proofs.JoinedLines.{line-append, one-line}
+use Rattle.text_lines.proofs.TreeLines.{times-name}
+use Rattle.text_names.specs.Index.{maxPairs}
 use Rattle.text_pairs.specs.Tables.{PairsAt}
 use Rattle.text_pairs.proofs.PairPlaces.{pairs-length}
 use Rattle.text_constraints.specs.Places.{NeverAt}

@@ -1,6 +1,6 @@
 -- One never line, read from the rest of its text: what its table of numbers holds, and what it tells. Assumes nothing.
 --   pairs-at, count-of: its pairs, and how many they are
---   few-pairs, numbers-ready, named: their table
+--   few-pairs, number-room, numbers-ready, named: their table
 --   given-is, line-says: what they give the inputs, and what all tells
 use Prim.Native.Nat.{ℕ, _+_, _≤_}
 use mathlib.Core.Path.{_≡_, sym, ap, _∙_}
@@ -20,10 +20,10 @@ use Rattle.netlist.specs.Syntax.{Pair}
 use Rattle.netlist.specs.Reading.{neverMentions, firstRepeat, firstOutside, givenValue}
 use Rattle.words_layout.specs.Masks.{masksOf}
 use Rattle.words_layout.specs.declared.value_masks.Masks.{Masks}
-use Rattle.text_symbols.specs.Index.{maxPairs}
-use Rattle.text_symbols.specs.Lines.{lineOpens}
+use Rattle.text_names.specs.Index.{maxPairs}
+use Rattle.text_lines.specs.Lines.{lineOpens}
 use Rattle.text_pairs.specs.PairBytes.{pairNumber, pairCodes, inputCode}
-use Rattle.text_pairs.specs.Tables.{PairsAt, pairMentions, NamesAre, InputsAre, NumbersReady}
+use Rattle.text_pairs.specs.Tables.{PairsAt, pairMentions, NamesAre, InputsAre, NumberRoom, NumbersReady}
 use Rattle.text_pairs.proofs.GivenValues.{values-given}
 use Rattle.text_pairs.proofs.NumberLaws.{numbers-named, codes-here}
 use Rattle.text_pairs.proofs.PairPlaces.{count-is}
@@ -32,7 +32,8 @@ use Rattle.text_constraints.specs.Places.{NeverAt}
 use Rattle.text_constraints.specs.Ready.{LineReady, LineRead, LineSays}
 use Rattle.text_constraints.proofs.NeverText.{pairs-here, pairs-few}
 
-module _ {s : List ℕ} {at : ℕ} {inputs : List ℕ} {n : ℕ} {names : List ℕ} (ready : LineReady s at inputs n names) {count : ℕ}
+module _ {s : List ℕ} {at : ℕ} {inputs : List ℕ} {n : ℕ} {names : List ℕ} (ready : LineReady s at inputs n names)
+    {count : ℕ}
     (counted : count ≡ lineOpens (drop 6 s)) where
   pub pairs-at : {ps : List Pair} → NeverAt 0 ps s → PairsAt 6 ps s
   pairs-at is = pairs-here is
@@ -46,18 +47,24 @@ module _ {s : List ℕ} {at : ℕ} {inputs : List ℕ} {n : ℕ} {names : List �
   module _ {names′ : List ℕ} (filled : names′ ≡ placed (tab (pairNumber s 6) count) names) where
     name-room : length names′ ≡ maxPairs
     name-room =
-        ap length filled ∙ length-placed (tab (pairNumber s 6) count) names (omega (arith, length-tab (pairNumber s 6) count, few-pairs, ready .nameRoom))
+        ap length filled ∙ length-placed (tab (pairNumber s 6) count) names
+        (omega (arith, length-tab (pairNumber s 6) count, few-pairs, ready .nameRoom))
         ∙ ready .nameRoom
 
+    pub number-room : NumberRoom 6 count names′
+    number-room = record { near = omega arith; few = few-pairs; room = name-room }
+
     pub numbers-ready : NumbersReady 6 at count names′
-    numbers-ready = record { near = omega arith; start = ready .near; few = few-pairs; room = name-room }
+    numbers-ready = record { table = number-room; start = ready .near }
 
     named : {ps : List Pair} → NeverAt 0 ps s → NamesAre ps names′
     named is = numbers-named (pairs-at is) count names (count-of is) filled
 
     -- what the pairs give the inputs
-    given-is : {ps : List Pair} {known : List Name} → NeverAt 0 ps s → InputsAre known n inputs → (setting₀ : List ℕ) {setting : List ℕ}
-        → setting ≡ placed (tab (inputCode names′ (pairCodes s 6 count) count inputs) n) setting₀ → map valueOf (take n setting) ≡ map (givenValue ps) known
+    given-is : {ps : List Pair} {known : List Name} → NeverAt 0 ps s → InputsAre known n inputs
+        → (setting₀ : List ℕ) {setting : List ℕ}
+        → setting ≡ placed (tab (inputCode names′ (pairCodes s 6 count) count inputs) n) setting₀
+        → map valueOf (take n setting) ≡ map (givenValue ps) known
     given-is {ps} is are setting₀ e =
         rw (e, taken (inputCode names′ (pairCodes s 6 count) count inputs) n setting₀, count-of is)
         (values-given ps (pairs-at is .legal) (named is) (codes-here (pairs-at is)) are)
@@ -65,11 +72,14 @@ module _ {s : List ℕ} {at : ℕ} {inputs : List ℕ} {n : ℕ} {names : List �
     module _ {repeat outside : Test} {masks : Masks}
         (repeated : (ps : List Pair) → PairsAt 6 ps s → count ≡ length ps → NamesAre ps names′
         → repeat ≡ testAt (firstRepeat [] (pairMentions ps (at + 6))) DuplicateDeclaration)
-        (outer : (ps : List Pair) (known : List Name) → PairsAt 6 ps s → count ≡ length ps → NamesAre ps names′ → InputsAre known n inputs
+        (outer : (ps : List Pair) (known : List Name) → PairsAt 6 ps s → count ≡ length ps → NamesAre ps names′
+        → InputsAre known n inputs
         → outside ≡ testAt (firstOutside known (pairMentions ps (at + 6))) UndeclaredName)
-        (setting₀ setting : List ℕ) (given : setting ≡ placed (tab (inputCode names′ (pairCodes s 6 count) count inputs) n) setting₀)
+        (setting₀ setting : List ℕ) (given : setting
+        ≡ placed (tab (inputCode names′ (pairCodes s 6 count) count inputs) n) setting₀)
         (masked : masks ≡ masksOf (map valueOf (take n setting))) where
-      pub line-read : LineRead s at inputs n names′ (record { repeat = repeat; outside = outside; defined = masks .defined; ones = masks .ones })
+      pub line-read : LineRead s at inputs n names′
+          (record { repeat = repeat; outside = outside; defined = masks .defined; ones = masks .ones })
       unfolding neverMentions
       line-read =
           record {

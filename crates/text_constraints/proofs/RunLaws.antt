@@ -1,6 +1,7 @@
 -- Lines with one letter: the turns of the loop that passes them. Assumes nothing.
 --   lettered-byte: the letter as the code reads it
 --   RunLeft, run-start, run-next, run-done: the lines that are left
+--   Running: what holds before each turn
 use Prim.Native.Nat.{ℕ, _+_, _≤_, _<_}
 use mathlib.Core.Path.{_≡_, refl, sym, _∙_}
 use mathlib.Core.Bool.{true, false, false≢true, true≢false}
@@ -12,10 +13,10 @@ use lib.Dec.{eqb}
 use borrow.Author.Tests.{eq-eqb, ne-eqb}
 use Rattle.prelude.specs.Lists.{all, joined}
 use Rattle.prelude.proofs.Tests.{and-left, and-right}
-use Rattle.text_symbols.specs.Lines.{lengthWithLf}
-use Rattle.text_symbols.specs.Trees.{isLine}
-use Rattle.text_symbols.proofs.Scanning.{lineLength-le}
-use Rattle.text_symbols.proofs.JoinedLines.{one-line}
+use Rattle.text_lines.specs.Lines.{lengthWithLf}
+use Rattle.text_lines.specs.Trees.{isLine}
+use Rattle.text_lines.proofs.Scanning.{lineLength-le}
+use Rattle.text_lines.proofs.JoinedLines.{one-line}
 use Rattle.text_constraints.specs.Runs.{lettered, RunAt}
 
 -- ---- the letter of a line
@@ -70,22 +71,31 @@ pub record RunLeft (letter from : ℕ) (text : List ℕ) (ls : List (List ℕ)) 
   pub bytes : end + length (joined left) ≡ from + length (joined ls)
   pub lines : count + length left ≡ length ls
 
+-- the loop has passed `count` lines, up to the place `end`
+pub record Running (letter from : ℕ) (text : List ℕ) (end count : ℕ) : Type 0 where
+  pub inside : end ≤ length text
+  pub few : count ≤ end
+  pub left : (ls : List (List ℕ)) → RunAt letter from ls text → RunLeft letter from text ls end count
+
 module _ {letter from : ℕ} {text : List ℕ} {ls : List (List ℕ)} where
   pub run-start : RunAt letter from ls text → RunLeft letter from text ls from 0
   run-start r = record { left = ls; is = r; bytes = refl; lines = omega arith }
 
   module _ {end count : ℕ} where
-    pub run-next : RunLeft letter from text ls end count → lettered letter (drop end text) ≡ true → {next : ℕ} → next ≡ end + lengthWithLf (drop end text)
+    pub run-next : RunLeft letter from text ls end count → lettered letter (drop end text) ≡ true → {next : ℕ}
+        → next ≡ end + lengthWithLf (drop end text)
         → RunLeft letter from text ls next (count + 1)
     run-next r there e = rw e (go (r .left) (r .is) (r .bytes) (r .lines))
       where
-        go : (left : List (List ℕ)) → RunAt letter end left text → end + length (joined left) ≡ from + length (joined ls) → count + length left ≡ length ls
+        go : (left : List (List ℕ)) → RunAt letter end left text
+            → end + length (joined left) ≡ from + length (joined ls) → count + length left ≡ length ls
             → RunLeft letter from text ls (end + lengthWithLf (drop end text)) (count + 1)
         go [] a b c = absurd (true≢false (sym there ∙ rw (a .stand) (a .ended)))
         go (l ∷ more) a b c =
             let line : isLine l ≡ true = and-left (isLine l) (all isLine more) (a .lines) in
             let s : drop end text ≡ l ++ (joined more ++ a .rest) = a .stand ∙ append-assoc l (joined more) (a .rest) in
-            let size : lengthWithLf (drop end text) ≡ length l = rw s (one-line l (joined more ++ a .rest) line .size) in
+            let size : lengthWithLf (drop end text) ≡ length l =
+            rw s (one-line l (joined more ++ a .rest) line .size) in
             rw size
             (record {
               left = more;
@@ -107,10 +117,13 @@ module _ {letter from : ℕ} {text : List ℕ} {ls : List (List ℕ)} where
         go : (left : List (List ℕ)) → RunAt letter end left text → left ≡ []
         go [] a = refl
         go (l ∷ more) a =
-            let there = lettered-append letter l (joined more ++ a .rest) (and-left (lettered letter l) (all (lettered letter) more) (a .letters)) in
+            let there =
+            lettered-append letter l (joined more ++ a .rest)
+            (and-left (lettered letter l) (all (lettered letter) more) (a .letters)) in
             absurd (true≢false (sym there ∙ rw (← append-assoc l (joined more) (a .rest), ← a .stand) none))
 
-    pub run-ends : RunLeft letter from text ls end count → lettered letter (drop end text) ≡ false → end ≡ from + length (joined ls)
+    pub run-ends : RunLeft letter from text ls end count → lettered letter (drop end text) ≡ false
+        → end ≡ from + length (joined ls)
     run-ends r none = let z : length (joined (r .left)) ≡ 0 = rw (none-left r none) in omega (arith, r .bytes)
 
     pub run-counts : RunLeft letter from text ls end count → lettered letter (drop end text) ≡ false → count ≡ length ls

@@ -10,13 +10,15 @@ use Rattle.words_refusals.specs.Tests.{testAt}
 use Rattle.netlist.specs.Netlist.{Name}
 use Rattle.netlist.specs.StoredBlock.{neverWords}
 use Rattle.netlist.specs.Syntax.{Pair, Tree, isLegalNever, printLines, printNever}
-use Rattle.netlist.specs.Reading.{Mention, mentions, neverMentions, neverLinesAt, gateLinesAt, assignmentOf, firstRepeatIn, firstOutside, excludedNames}
+use Rattle.netlist.specs.Reading.{Mention, mentions, neverMentions, neverLinesAt, gateLinesAt, assignmentOf}
+use Rattle.netlist.specs.Reading.{firstRepeatIn, firstOutside, excludedNames}
 use Rattle.text_constraints.specs.declared.NeverLines.{NeverLines}
 use Rattle.text_constraints.specs.declared.NeverTold.{NeverTold}
 
 -- where the never lines of a tree's text stand
 unfoldable pub neverLines : Tree → NeverLines
-neverLines t = record { inputs = length (t .inputs); at = neverLinesAt t; count = length (t .nevers); end = gateLinesAt t }
+neverLines t =
+    record { inputs = length (t .inputs); at = neverLinesAt t; count = length (t .nevers); end = gateLinesAt t }
 
 -- a legal never line stands at this place
 pub record NeverAt (at : ℕ) (ps : List Pair) (text : List ℕ) : Type 0 where

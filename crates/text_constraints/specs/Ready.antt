@@ -13,8 +13,8 @@ use Rattle.netlist.specs.StoredBlock.{neverSize}
 use Rattle.netlist.specs.Syntax.{Pair, Tree}
 use Rattle.netlist.specs.Reading.{neverMentions, firstRepeat, firstRepeatIn, firstOutside, givenValue}
 use Rattle.words_layout.specs.Masks.{masksOf}
-use Rattle.text_symbols.specs.Index.{maxPairs}
-use Rattle.text_symbols.specs.Trees.{TextOf}
+use Rattle.text_names.specs.Index.{maxPairs}
+use Rattle.text_lines.specs.Trees.{TextOf}
 use Rattle.text_pairs.specs.Tables.{InputsAre}
 use Rattle.text_constraints.specs.declared.NeverLines.{NeverLines}
 use Rattle.text_constraints.specs.declared.NeverTold.{NeverTold}
@@ -29,6 +29,11 @@ pub record NeversReady (text : List ℕ) (lines : NeverLines) : Type 0 where
   pub stand : lines ≡ neverLines tree
   pub fewInputs : lines .inputs ≤ maxInputs
   pub fewLines : lines .count ≤ maxNevers
+
+-- the text, and room for the words of its lines
+pub record NeversRoom (text : List ℕ) (lines : NeverLines) (masks : List ℕ) : Type 0 where
+  pub ready : NeversReady text lines
+  pub room : length masks ≡ neverSize * maxNevers
 
 -- a table that begins with the numbers of inputs' names
 pub record InputsReady (n : ℕ) (inputs : List ℕ) : Type 0 where
@@ -68,10 +73,13 @@ pub record LinesReady (text : List ℕ) (from count : ℕ) (inputs : List ℕ) (
   pub nameRoom : length names ≡ maxPairs
   pub maskRoom : length masks ≡ neverSize * maxNevers
 
-pub record LinesSay (ns : List (List Pair)) (known : List Name) (from : ℕ) (masks masks′ : List ℕ) (r : NeverTold) : Type 0 where
+pub record LinesSay (ns : List (List Pair)) (known : List Name) (from : ℕ) (masks masks′ : List ℕ) (r : NeverTold)
+    : Type 0 where
   pub repeats : r .repeat ≡ testAt (firstRepeatIn ns from) DuplicateDeclaration
   pub outsides : r .outside ≡ testAt (firstOutside known (linesMentions ns from)) UndeclaredName
   pub words : masks′ ≡ sets masks 0 (linesWords known ns)
 
-pub record LinesRead (text : List ℕ) (from count : ℕ) (inputs : List ℕ) (n : ℕ) (masks masks′ : List ℕ) (r : NeverTold) : Type 0 where
-  pub say : (ns : List (List Pair)) (known : List Name) → NeversAt from count ns text → InputsAre known n inputs → LinesSay ns known from masks masks′ r
+pub record LinesRead (text : List ℕ) (from count : ℕ) (inputs : List ℕ) (n : ℕ) (masks masks′ : List ℕ) (r : NeverTold)
+    : Type 0 where
+  pub say : (ns : List (List Pair)) (known : List Name) → NeversAt from count ns text → InputsAre known n inputs
+      → LinesSay ns known from masks masks′ r

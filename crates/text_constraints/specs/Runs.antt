@@ -1,12 +1,13 @@
 -- Lines of a text with the same letter behind their opening bracket. Assumes nothing.
-use Prim.Native.Nat.{ℕ, _+_, _≤_}
+use Prim.Native.Nat.{ℕ, _+_, _≤_, _<_}
 use mathlib.Core.Path.{_≡_}
 use mathlib.Core.Bool.{Bool, true, false}
 use mathlib.Core.List.{List, [], _∷_, _++_}
 use lib.ListN.{length, drop}
 use lib.Dec.{eqb}
 use Rattle.prelude.specs.Lists.{all, joined}
-use Rattle.text_symbols.specs.Trees.{isLine}
+use Rattle.netlist.specs.Limits.{maxText}
+use Rattle.text_lines.specs.Trees.{isLine}
 
 -- the line's second byte, behind its bracket, is this letter
 abbrev pub lettered : ℕ → List ℕ → Bool
@@ -21,6 +22,12 @@ pub record RunAt (letter at : ℕ) (ls : List (List ℕ)) (text : List ℕ) : Ty
   pub rest : List ℕ
   pub stand : drop at text ≡ joined ls ++ rest
   pub ended : lettered letter rest ≡ false
+
+-- lines with this letter are looked for from a place of the text on
+pub record RunReady (text : List ℕ) (from letter : ℕ) : Type 0 where
+  pub short : length text ≤ maxText
+  pub inside : from ≤ length text
+  pub some : 0 < letter
 
 -- what is told of the lines with one letter: the place behind them, and how many they are
 pub record Ran (letter from : ℕ) (text : List ℕ) (end count : ℕ) : Type 0 where

@@ -1,14 +1,14 @@
 // Where the never lines of a text stand, by the letter behind each line's opening bracket.
 use crate::NeverLines;
-use text_symbols::lines::next_line;
+use text_lines::next_line;
 use words_layout::bytes::byte_at;
 ghost use mathlib.Core.Path.{_≡_};
-ghost use Prim.Native.Nat.{_≤_, _<_};
+ghost use Prim.Native.Nat.{_≤_};
 ghost use lib.ListN.{length};
 ghost use Rattle.netlist.specs.Limits.{maxText};
 ghost use Rattle.netlist.specs.Syntax.{Tree};
-ghost use Rattle.text_constraints.specs.Runs.{Ran};
-ghost use Rattle.text_symbols.specs.Trees.{TextOf};
+ghost use Rattle.text_constraints.specs.Runs.{RunReady, Ran};
+ghost use Rattle.text_lines.specs.Trees.{TextOf};
 ghost use Rattle.text_constraints.specs.Places.{neverLines};
 
 // Lines with one letter, up to another line: the place behind them, and how many they are.
@@ -19,7 +19,7 @@ struct Run {
 
 // Walks over the lines from `from` on that begin with this letter.
 fn run_of(text: &[u8], from: usize, letter: u8) -> Run
-    requires { ⌜ (length (now text) ≤ maxText) × (from ≤ length (now text)) × (0 < letter) ⌝ }
+    requires { ⌜ RunReady (now text) from letter ⌝ }
     ensures { λ r. ⌜ Ran letter from (now (text .entry)) (r .end) (r .count) ⌝ }
 {
     let mut end = from;

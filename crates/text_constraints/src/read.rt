@@ -2,13 +2,13 @@
 use crate::LineTold;
 use crate::NeverLines;
 use crate::NeverTold;
+use text_lines::line_of;
+use text_lines::next_line;
+use text_names::search::MAX_PAIRS;
 use text_pairs::numbers::fill_numbers;
 use text_pairs::numbers::fill_values;
 use text_pairs::numbers::find_outside;
 use text_pairs::numbers::find_repeat;
-use text_symbols::lines::line_of;
-use text_symbols::lines::next_line;
-use text_symbols::search::MAX_PAIRS;
 use text_symbols::table::input_names;
 use words_layout::limits::MAX_INPUTS;
 use words_layout::limits::MAX_NEVERS;
@@ -17,17 +17,14 @@ use words_layout::value_masks::masks_of;
 use words_refusals::Test;
 ghost use mathlib.Core.Path.{_≡_};
 ghost use mathlib.Core.Option.{Option};
-ghost use Prim.Native.Nat.{ℕ, _*_};
-ghost use lib.ListN.{length};
+ghost use Prim.Native.Nat.{ℕ};
 ghost use Rattle.netlist.specs.declared.Refusal.{Refusal};
 ghost use Rattle.words_refusals.specs.Tests.{testAt};
-ghost use Rattle.netlist.specs.Limits.{maxNevers};
-ghost use Rattle.netlist.specs.StoredBlock.{neverSize};
 ghost use Rattle.netlist.specs.Syntax.{Tree};
 ghost use Rattle.netlist.specs.Reading.{orElse};
-ghost use Rattle.text_symbols.specs.Trees.{TextOf};
+ghost use Rattle.text_lines.specs.Trees.{TextOf};
 ghost use Rattle.text_constraints.specs.Places.{neverLines, Told};
-ghost use Rattle.text_constraints.specs.Ready.{LineReady, LineRead, LinesReady, LinesRead, NeversReady};
+ghost use Rattle.text_constraints.specs.Ready.{LineReady, LineRead, LinesReady, LinesRead, NeversRoom};
 
 // The bytes of `(never`, behind which the pairs stand.
 const PAIRS_AT: usize = 6;
@@ -37,7 +34,8 @@ pub const NEVER_WORDS: usize = NEVER_SIZE * MAX_NEVERS;
 
 // The first of two tests that fails.
 fn first_failed(one: Test, other: Test) -> Test
-    ensures { λ r. ⌜ ((p q : Option ℕ) (why : ℕ → Refusal) → one ≡ testAt p why → other ≡ testAt q why → r ≡ testAt (orElse p q) why) ⌝ }
+    ensures { λ r. ⌜ ((p q : Option ℕ) (why : ℕ → Refusal) → one ≡ testAt p why → other ≡ testAt q why
+        → r ≡ testAt (orElse p q) why) ⌝ }
 {
     let Test::Passed = one else {
         return one;
@@ -85,7 +83,8 @@ fn read_lines(
     masks: &mut [u16; NEVER_WORDS],
 ) -> NeverTold
     requires { ⌜ LinesReady (now text) from count (now inputs) n (now names) (now masks) ⌝ }
-    ensures { λ r. ⌜ LinesRead (now (text .entry)) from count (now (inputs .entry)) n (now (masks .entry)) (now (masks .exit)) r ⌝ }
+    ensures { λ r. ⌜ LinesRead (now (text .entry)) from count (now (inputs .entry)) n (now (masks .entry))
+        (now (masks .exit)) r ⌝ }
 {
     let mut repeat = Test::Passed;
     let mut outside = Test::Passed;
@@ -107,8 +106,9 @@ fn read_lines(
 
 // Reads all never lines: refusals 4 and 5, and their words into the beginning of `masks`.
 pub fn read_nevers(text: &[u8], lines: NeverLines, masks: &mut [u16; NEVER_WORDS]) -> NeverTold
-    requires { ⌜ NeversReady (now text) lines × (length (now masks) ≡ neverSize * maxNevers) ⌝ }
-    ensures { λ r. ⌜ ((t : Tree) → TextOf t (now (text .entry)) → lines ≡ neverLines t → Told t (now (masks .entry)) (now (masks .exit)) r) ⌝ }
+    requires { ⌜ NeversRoom (now text) lines (now masks) ⌝ }
+    ensures { λ r. ⌜ ((t : Tree) → TextOf t (now (text .entry)) → lines ≡ neverLines t
+        → Told t (now (masks .entry)) (now (masks .exit)) r) ⌝ }
 {
     let n = lines.inputs;
     let count = lines.count;

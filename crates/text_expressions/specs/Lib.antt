@@ -1,6 +1,3 @@
 -- What the contracts of this crate cite, lower ones first.
-pub mod Leaves
-pub mod Walk
 pub mod Lines
-pub mod Ports
 pub mod Resolution

@@ -3,35 +3,17 @@
 use lines::gate_lines;
 use lines::output_lines;
 use netlist::Refusal;
-use text_symbols::Counts;
+use text_counts::Counts;
 use words_layout::limits::MAX_GATES;
 use words_layout::offsets::GATE_SIZE;
 use words_refusals::Test;
 ghost use Rattle.text_symbols.specs.Results.{NodesIndexed};
 ghost use Rattle.text_expressions.specs.Resolution.{ResolveReady, Resolved};
 
-mod leaves;
 mod lines;
-mod walk;
 
-// A name or a constant: the bytes left behind it, its node's word, and `unknown` as in `Found`.
-pub struct Leaf {
-    pub left: usize,
-    pub word: u16,
-    pub unknown: usize,
-}
-
-// An operand: the bytes left behind it, its node's word, the gates that have closed, and one more than the bytes left
-// from the first undeclared name on, or 0. The word stands between the last two: side by side, they are read back in
-// one piece, which waits for both stores.
-pub struct Found {
-    pub left: usize,
-    pub gates: usize,
-    pub word: u16,
-    pub unknown: usize,
-}
-
-// A line, or some lines: the bytes left behind them, the gates or outputs up to there, and `unknown` as in `Found`.
+// A line, or some lines: the bytes left behind them, the gates or outputs up to there, and `unknown` as in
+// text_walk's `Found`.
 pub struct Walked {
     pub left: usize,
     pub number: usize,
@@ -53,7 +35,8 @@ pub fn resolve(
 ) -> Test
     requires { ⌜ ResolveReady (now text) end c (now names) (now words) (now gates) (now outputs) ⌝ }
     requires { ⌜ NodesIndexed c (now names) (now index) ⌝ }
-    ensures { λ r. ⌜ Resolved (now (text .entry)) end c (now (names .entry)) (now (words .entry)) (now (gates .entry)) (now (gates .exit))
+    ensures { λ r. ⌜ Resolved (now (text .entry)) end c (now (names .entry)) (now (words .entry)) (now (gates .entry))
+        (now (gates .exit))
         (now (outputs .entry)) (now (outputs .exit)) r ⌝ }
 {
     let length = text.len();

@@ -1,9 +1,9 @@
 // The walk over the lines of gates and outputs. Each line's reader gets the rest of the text.
 use crate::Walked;
-use crate::leaves::name_here;
-use crate::walk::expression;
-use text_symbols::pack::name_length;
-use text_symbols::pack::pack;
+use text_leaves::name_here;
+use text_names::pack::name_length;
+use text_names::pack::pack;
+use text_walk::expression;
 use words_layout::limits::MAX_GATES;
 use words_layout::offsets::GATE_SIZE;
 use words_layout::offsets::OUTPUT_SIZE;
@@ -14,9 +14,9 @@ ghost use lib.ListN.{length};
 ghost use lib.Seq.{sets};
 ghost use Rattle.netlist.specs.StoredBlock.{outputSize};
 ghost use Rattle.netlist.specs.Limits.{maxGates, maxOutputs};
-ghost use Rattle.text_symbols.specs.Index.{Indexed};
+ghost use Rattle.text_names.specs.Index.{Indexed};
 ghost use Rattle.text_expressions.specs.Lines.{gateForm, outputForm, LineHere, LineRead, LinesHere, LinesRead};
-ghost use Rattle.text_expressions.specs.Ports.{portWords};
+ghost use Rattle.text_names.specs.Ports.{portWords};
 
 // Reads `(gate NAME EXPR)` and its LF, and writes the gates in it.
 fn gate_line(
@@ -31,7 +31,8 @@ fn gate_line(
 ) -> Walked
     requires { ⌜ LineHere gateForm maxGates (now s) n (now names) (now words) first (now gates) ⌝ }
     requires { ⌜ Indexed (now names) (length (now names)) (now index) ⌝ }
-    ensures { λ r. ⌜ LineRead gateForm (now (s .entry)) n (now (names .entry)) (now (words .entry)) first unknown (now (gates .entry)) (now (gates .exit)) r ⌝ }
+    ensures { λ r. ⌜ LineRead gateForm (now (s .entry)) n (now (names .entry)) (now (words .entry)) first unknown
+        (now (gates .entry)) (now (gates .exit)) r ⌝ }
 {
     let at = 8 + name_length(&s[6..]);
     let one = expression(&s[at..], n, first, unknown, names, words, index, gates);
@@ -45,7 +46,8 @@ fn gate_line(
 // Writes an output's five words: the port's name and the node.
 fn put_output(outputs: &mut [u16], number: usize, port: u64, word: u16)
     requires { ⌜ outputSize * number + outputSize ≤ length (now outputs) ⌝ }
-    ensures { λ _. ⌜ now (outputs .exit) ≡ sets (now (outputs .entry)) (outputSize * number) (portWords port ++ (word ∷ [])) ⌝ }
+    ensures { λ _. ⌜ now (outputs .exit) ≡ sets (now (outputs .entry)) (outputSize * number)
+        (portWords port ++ (word ∷ [])) ⌝ }
 {
     let at = OUTPUT_SIZE * number;
     outputs[at] = (port % 65536) as u16;
@@ -68,7 +70,8 @@ fn output_line(
     requires { ⌜ ((n : ℕ) × LineHere outputForm maxOutputs (now s) n (now names) (now words) first (now outputs)) ⌝ }
     requires { ⌜ Indexed (now names) (length (now names)) (now index) ⌝ }
     ensures { λ r. ⌜ ((n : ℕ)
-        → LineRead outputForm (now (s .entry)) n (now (names .entry)) (now (words .entry)) first unknown (now (outputs .entry)) (now (outputs .exit)) r) ⌝ }
+        → LineRead outputForm (now (s .entry)) n (now (names .entry)) (now (words .entry)) first unknown
+        (now (outputs .entry)) (now (outputs .exit)) r) ⌝ }
 {
     let at = 6 + name_length(&s[5..]);
     let shown = name_here(&s[at..], names, words, index, unknown);
@@ -92,7 +95,8 @@ pub fn gate_lines(
 ) -> Walked
     requires { ⌜ LinesHere gateForm maxGates lines (now text) n (now names) (now words) (now gates) ⌝ }
     requires { ⌜ Indexed (now names) (length (now names)) (now index) ⌝ }
-    ensures { λ r. ⌜ LinesRead gateForm lines (now (text .entry)) n (now (names .entry)) (now (words .entry)) 0 (now (gates .entry)) (now (gates .exit)) r ⌝ }
+    ensures { λ r. ⌜ LinesRead gateForm lines (now (text .entry)) n (now (names .entry)) (now (words .entry)) 0
+        (now (gates .entry)) (now (gates .exit)) r ⌝ }
 {
     let mut left = text.len();
     let mut first = 0;
@@ -131,10 +135,12 @@ pub fn output_lines(
     seen: usize,
     outputs: &mut [u16],
 ) -> Walked
-    requires { ⌜ ((n : ℕ) × LinesHere outputForm maxOutputs lines (now text) n (now names) (now words) (now outputs)) ⌝ }
+    requires { ⌜ ((n : ℕ) × LinesHere outputForm maxOutputs lines (now text) n (now names) (now words)
+        (now outputs)) ⌝ }
     requires { ⌜ Indexed (now names) (length (now names)) (now index) ⌝ }
     ensures { λ r. ⌜ ((n : ℕ)
-        → LinesRead outputForm lines (now (text .entry)) n (now (names .entry)) (now (words .entry)) seen (now (outputs .entry)) (now (outputs .exit)) r) ⌝ }
+        → LinesRead outputForm lines (now (text .entry)) n (now (names .entry)) (now (words .entry)) seen
+        (now (outputs .entry)) (now (outputs .exit)) r) ⌝ }
 {
     let mut left = text.len();
     let mut first = 0;

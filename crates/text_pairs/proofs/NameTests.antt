@@ -1,4 +1,5 @@
--- 4 and 5 of pairs, by their tables: the first name that repeats one before it, and the first that is no input. Assumes nothing.
+-- 4 and 5 of pairs, by their tables: the first name that repeats one before it, and the first that is no input. Assumes
+-- nothing.
 use Prim.Native.Nat.{ℕ, zero, suc, _+_, _≤_, _<_}
 use mathlib.Core.Path.{_≡_, refl, sym, ap, _∙_}
 use mathlib.Core.Bool.{Bool, true, false, not}
@@ -22,11 +23,11 @@ use Rattle.netlist.specs.Names.{isNameByte, isNameStart, isNodeName}
 use Rattle.netlist.specs.Reading.{Mention, mentions, pairMention, firstRepeat, firstOutside}
 use Rattle.words_refusals.specs.Tests.{testAt}
 use Rattle.netlist.specs.Syntax.{Pair, printPair, isLegalPair}
-use Rattle.text_symbols.specs.Packed.{packed}
-use Rattle.text_symbols.specs.Search.{indexOf, repeatsAt}
-use Rattle.text_symbols.proofs.Lookup.{Bytes, index-same, index-member}
-use Rattle.text_symbols.proofs.Repeats.{repeat-found, repeat-none}
-use Rattle.text_symbols.proofs.TreeLines.{name-bytes}
+use Rattle.text_names.specs.Packed.{packed}
+use Rattle.text_names.specs.Search.{indexOf, repeatsAt}
+use Rattle.text_names.proofs.Lookup.{Bytes, index-same, index-member}
+use Rattle.text_names.proofs.Repeats.{repeat-found, repeat-none}
+use Rattle.text_names.proofs.LegalNames.{name-bytes}
 use Rattle.text_pairs.specs.Tables.{pairMentions, NamesAre, PlacesAre, isOutside, InputsAre}
 use Rattle.text_pairs.proofs.PairPlaces.{noPair, places-length}
 
@@ -53,7 +54,8 @@ abbrev nobody : Mention
 nobody = record { name = []; place = 0 }
 
 module _ (known : List Name) (ds : List Mention) (i : ℕ) (l : i < length ds) where
-  inside : memberList (getD ds i nobody .name) known ≡ true → firstOutside known (drop i ds) ≡ firstOutside known (drop (suc i) ds)
+  inside : memberList (getD ds i nobody .name) known ≡ true
+      → firstOutside known (drop i ds) ≡ firstOutside known (drop (suc i) ds)
   unfolding firstOutside
   inside m = rw (drop-cons ds i nobody l, m)
 
@@ -64,7 +66,8 @@ module _ (known : List Name) (ds : List Mention) (i : ℕ) (l : i < length ds) w
 
 -- ---- the names of pairs
 
-mention-names : (ps : List Pair) (at : ℕ) → map (λ (d : Mention). d .name) (pairMentions ps at) ≡ map (λ (p : Pair). p .name) ps
+mention-names : (ps : List Pair) (at : ℕ)
+    → map (λ (d : Mention). d .name) (pairMentions ps at) ≡ map (λ (p : Pair). p .name) ps
 unfolding mentions pairMention
 mention-names [] at = refl
 mention-names (p ∷ ps) at = ap (λ (r : List Name). p .name ∷ r) (mention-names ps (at + length (printPair p [])))
@@ -77,7 +80,8 @@ pair-bytes : (ps : List Pair) → all isLegalPair ps ≡ true → Bytes (map (λ
 pair-bytes [] h = refl
 pair-bytes (p ∷ ps) h =
     and-intro (all isNameByte (p .name)) (all (all isNameByte) (map (λ (p : Pair). p .name) ps))
-    (name-legal p (and-left (isLegalPair p) (all isLegalPair ps) h)) (pair-bytes ps (and-right (isLegalPair p) (all isLegalPair ps) h))
+    (name-legal p (and-left (isLegalPair p) (all isLegalPair ps) h))
+    (pair-bytes ps (and-right (isLegalPair p) (all isLegalPair ps) h))
 
 module _ (ps : List Pair) (legal : all isLegalPair ps ≡ true) (at : ℕ) where
   abbrev ds : List Mention
@@ -94,7 +98,8 @@ module _ (ps : List Pair) (legal : all isLegalPair ps ≡ true) (at : ℕ) where
 
   given-keys : map (λ (d : Mention). packed (d .name)) ds ≡ map (λ (p : Pair). packed (p .name)) ps
   given-keys =
-      sym (map-map packed (λ (d : Mention). d .name) ds) ∙ ap (map packed) given-names ∙ map-map packed (λ (p : Pair). p .name) ps
+      sym (map-map packed (λ (d : Mention). d .name) ds) ∙ ap (map packed) given-names
+      ∙ map-map packed (λ (p : Pair). p .name) ps
 
   module _ {names places : List ℕ} (named : NamesAre ps names) (placed : PlacesAre ps at places) where
     keys-held : take (length ps) names ≡ map (λ (d : Mention). packed (d .name)) ds
@@ -109,7 +114,8 @@ module _ (ps : List Pair) (legal : all isLegalPair ps ≡ true) (at : ℕ) where
       at-first : i ≡ least (repeatsAt (map (λ (d : Mention). packed (d .name)) ds)) (length ds)
       at-first = found ∙ rw (keys-held, length-map ds (λ (d : Mention). packed (d .name)))
 
-      pub repeat-failed : i < length ps → Failed (DuplicateDeclaration (getD places i 0)) ≡ testAt (firstRepeat [] ds) DuplicateDeclaration
+      pub repeat-failed : i < length ps
+          → Failed (DuplicateDeclaration (getD places i 0)) ≡ testAt (firstRepeat [] ds) DuplicateDeclaration
       unfolding testAt
       repeat-failed l =
           let r = repeat-found ds given-bytes (rw (← at-first, given-length) l) in
@@ -139,7 +145,8 @@ module _ (ps : List Pair) (legal : all isLegalPair ps ≡ true) (at : ℕ) where
       found-is i l =
           let e : indexOf inputs n (packed (name-of i)) ≡ indexOf (map packed known) n (packed (name-of i)) =
           index-same inputs (map packed known) n (packed (name-of i)) input-held in
-          let b : all isNameByte (name-of i) ≡ true = name-legal (getD ps i noPair) (all-at isLegalPair ps i noPair legal l) in
+          let b : all isNameByte (name-of i) ≡ true =
+          name-legal (getD ps i noPair) (all-at isLegalPair ps i noPair legal l) in
           rw (name-held i l, e) (rw (ins .counted) at (index-member (name-of i) known b (ins .bytes)))
 
       outside-is : (i : ℕ) → i < length ps → isOutside names inputs n i ≡ not (memberList (name-of i) known)
@@ -149,7 +156,8 @@ module _ (ps : List Pair) (legal : all isLegalPair ps ≡ true) (at : ℕ) where
       given-name : (i : ℕ) → i < length ps → getD ds i nobody .name ≡ name-of i
       unfolding name-of
       given-name i l =
-          sym (getD-map (λ (d : Mention). d .name) ds i nobody [] (rw given-length l)) ∙ ap (λ (xs : List Name). getD xs i []) given-names
+          sym (getD-map (λ (d : Mention). d .name) ds i nobody [] (rw given-length l))
+          ∙ ap (λ (xs : List Name). getD xs i []) given-names
           ∙ getD-map (λ (p : Pair). p .name) ps i noPair [] l
 
       outside-walk : (i : ℕ) → i ≤ length ps → ((j : ℕ) → j < i → isOutside names inputs n j ≡ false)
@@ -158,18 +166,22 @@ module _ (ps : List Pair) (legal : all isLegalPair ps ≡ true) (at : ℕ) where
       outside-walk (suc i) l h =
           let k : i < length ps = omega arith in
           let m : memberList (name-of i) known ≡ true = not-false-true _ (sym (outside-is i k) ∙ h i (omega arith)) in
-          outside-walk i (omega arith) (λ j g. h j (omega arith)) ∙ inside known ds i (rw given-length k) (rw (given-name i k) m)
+          outside-walk i (omega arith) (λ j g. h j (omega arith))
+          ∙ inside known ds i (rw given-length k) (rw (given-name i k) m)
 
       module _ {i : ℕ} (found : i ≡ least (isOutside names inputs n) (length ps)) where
         passed-over : (j : ℕ) → j < i → isOutside names inputs n j ≡ false
         passed-over j g = least-below (isOutside names inputs n) (length ps) j (rw (← found) g)
 
-        pub outside-failed : i < length ps → Failed (UndeclaredName (getD places i 0)) ≡ testAt (firstOutside known ds) UndeclaredName
+        pub outside-failed : i < length ps
+            → Failed (UndeclaredName (getD places i 0)) ≡ testAt (firstOutside known ds) UndeclaredName
         unfolding testAt
         outside-failed l =
-            let t : isOutside names inputs n i ≡ true = rw (← found) at (least-at (isOutside names inputs n) (length ps) (rw (← found) l)) in
+            let t : isOutside names inputs n i ≡ true =
+            rw (← found) at (least-at (isOutside names inputs n) (length ps) (rw (← found) l)) in
             let m : memberList (name-of i) known ≡ false = not-true-false _ (sym (outside-is i l) ∙ t) in
-            let e = outside-walk i (omega arith) passed-over ∙ outside known ds i (rw given-length l) (rw (given-name i l) m) in
+            let e =
+            outside-walk i (omega arith) passed-over ∙ outside known ds i (rw given-length l) (rw (given-name i l) m) in
             rw (place-held i l, e)
 
         pub outside-passed : length ps ≤ i → Passed ≡ testAt (firstOutside known ds) UndeclaredName

@@ -1,4 +1,5 @@
--- Where printed pairs stand in a text, and what their bytes say: count, places, names and values are those of the pairs. Assumes nothing.
+-- Where printed pairs stand in a text, and what their bytes say: count, places, names and values are those of the
+-- pairs. Assumes nothing.
 --   pair-length, pairs-length: their bytes
 --   places-length, place-is, places-are: the places by the bytes are the pairs' own
 --   Stands, stands-at, name-stands, number-stands, code-stands: what the bytes say where a pair stands
@@ -23,11 +24,12 @@ use Rattle.netlist.specs.Names.{isNameByte, isLetter, isDigit, isUnderscore, is
 use Rattle.netlist.specs.Syntax.{Pair, valueText, pairText, printPair, isLegalPair, printLines}
 use Rattle.netlist.specs.Reading.{Mention, mentions, pairMention}
 use Rattle.theory_grammar.proofs.Places.{printPair-split}
-use Rattle.text_symbols.specs.Lines.{times, lineOpens}
-use Rattle.text_symbols.specs.Packed.{packed, nameFront, nameFrom, packedAt}
-use Rattle.text_symbols.proofs.Packing.{front-length}
-use Rattle.text_symbols.proofs.TreeLines.{name-bytes, times-name-bytes}
-use Rattle.text_symbols.proofs.TreeWalk.{front-legal}
+use Rattle.text_lines.specs.Lines.{times, lineOpens}
+use Rattle.text_names.specs.Packed.{packed, nameFront, nameFrom, packedAt}
+use Rattle.text_names.proofs.Packing.{front-length}
+use Rattle.text_names.proofs.LegalNames.{name-bytes}
+use Rattle.text_lines.proofs.TreeLines.{times-name-bytes}
+use Rattle.text_names.proofs.LegalNames.{front-legal}
 use Rattle.text_pairs.specs.PairBytes.{pairPlace, codeFront, codeAt}
 use Rattle.text_pairs.specs.Tables.{PairsAt, pairMentions}
 
@@ -65,13 +67,15 @@ pub record Stands (text : List ℕ) (place : ℕ) (p : Pair) : Type 0 where
   pub more : List ℕ
   pub at-place : drop place text ≡ p .name ++ (ascii " " ++ (valueText (val (p .value)) ++ (ascii ")" ++ more)))
 
-drop-opening : (p : Pair) (s : List ℕ) → drop 2 (printPair p s) ≡ p .name ++ (ascii " " ++ (valueText (val (p .value)) ++ (ascii ")" ++ s)))
+drop-opening : (p : Pair) (s : List ℕ)
+    → drop 2 (printPair p s) ≡ p .name ++ (ascii " " ++ (valueText (val (p .value)) ++ (ascii ")" ++ s)))
 unfolding printPair pairText
 drop-opening p s = refl
 
 module _ (text : List ℕ) where
   -- behind a pair stand the others
-  next-pair : (p : Pair) (more : List ℕ) (at : ℕ) → drop at text ≡ printPair p more → drop (at + length (printPair p [])) text ≡ more
+  next-pair : (p : Pair) (more : List ℕ) (at : ℕ) → drop at text ≡ printPair p more
+      → drop (at + length (printPair p [])) text ≡ more
   next-pair p more at e =
       sym (drop-drop (length (printPair p [])) at text)
       ∙ rw (e, printPair-split p more) (drop-at (printPair p []) more (length (printPair p [])) refl)
@@ -81,9 +85,13 @@ module _ (text : List ℕ) where
   unfolding mentions pairMention printLines
   pairs-stand [] rest at e i l = absurd (omega arith)
   pairs-stand (p ∷ ps) rest at e zero l =
-      record { more = printLines printPair ps rest; at-place = sym (drop-drop 2 at text) ∙ rw e (drop-opening p (printLines printPair ps rest)) }
+      record {
+        more = printLines printPair ps rest;
+        at-place = sym (drop-drop 2 at text) ∙ rw e (drop-opening p (printLines printPair ps rest));
+      }
   pairs-stand (p ∷ ps) rest at e (suc i) l =
-      pairs-stand ps rest (at + length (printPair p [])) (next-pair p (printLines printPair ps rest) at e) i (omega arith)
+      pairs-stand ps rest (at + length (printPair p [])) (next-pair p (printLines printPair ps rest) at e) i
+      (omega arith)
 
 first-place : (ps : List Pair) (at : ℕ) → 0 < length ps → getD (placesFrom ps at) 0 0 ≡ at + 2
 unfolding mentions pairMention
@@ -113,7 +121,9 @@ by-value false rest = refl
 module _ (text : List ℕ) (place : ℕ) (p : Pair) (legal : isLegalPair p ≡ true) (s : Stands text place p) where
   front-is : nameFront 8 (drop place text) ≡ p .name
   unfolding isLegalPair isNodeName isNameByte isLetter isDigit isUnderscore
-  front-is = rw (s .at-place) (front-legal isNameStart (p .name) 32 (valueText (val (p .value)) ++ (ascii ")" ++ s .more)) legal refl)
+  front-is =
+      rw (s .at-place) (front-legal isNameStart (p .name) 32 (valueText (val (p .value)) ++ (ascii ")" ++ s .more))
+      legal refl)
 
   pub name-stands : nameFrom text place ≡ p .name
   unfolding nameFrom
@@ -126,7 +136,8 @@ module _ (text : List ℕ) (place : ℕ) (p : Pair) (legal : isLegalPair p ≡ t
   pub code-stands : codeAt text place ≡ code (val (p .value))
   unfolding codeAt codeFront
   code-stands =
-      rw (front-is, s .at-place, second (p .name) 32 (valueText (val (p .value)) ++ (ascii ")" ++ s .more))) (by-value (p .value) (ascii ")" ++ s .more))
+      rw (front-is, s .at-place, second (p .name) 32 (valueText (val (p .value)) ++ (ascii ")" ++ s .more)))
+      (by-value (p .value) (ascii ")" ++ s .more))
 
 module _ {at : ℕ} {ps : List Pair} {text : List ℕ} (is : PairsAt at ps text) where
   stands-here : (i : ℕ) → i < length ps → Stands text (getD (placesFrom ps at) i 0) (getD ps i noPair)
@@ -150,7 +161,9 @@ module _ {at : ℕ} {ps : List Pair} {text : List ℕ} (is : PairsAt at ps text)
   stands-at i l = rw (place-is i l) (stands-here i l)
 
   pub places-are : tab (pairPlace text at) (length ps) ≡ placesFrom ps at
-  places-are = rw (← places-length ps at) (tab-is (pairPlace text at) (placesFrom ps at) 0 (λ i l. place-is i (rw (places-length ps at) at l)))
+  places-are =
+      rw (← places-length ps at) (tab-is (pairPlace text at) (placesFrom ps at) 0
+      (λ i l. place-is i (rw (places-length ps at) at l)))
 
 -- ---- the turns of the loops
 
@@ -158,7 +171,8 @@ pub here-short : (text : List ℕ) (at : ℕ) → length (nameFrom text at) ≤ 
 unfolding nameFrom
 here-short text at = front-length 8 (drop at text)
 
-pub place-next : (text : List ℕ) (at i : ℕ) {place size : ℕ} → place ≡ pairPlace text at i → size ≡ length (nameFrom text place)
+pub place-next : (text : List ℕ) (at i : ℕ) {place size : ℕ} → place ≡ pairPlace text at i
+    → size ≡ length (nameFrom text place)
     → place + (size + 5) ≡ pairPlace text at (i + 1)
 unfolding pairPlace
 place-next text at i {place} {size} e f =
@@ -176,7 +190,8 @@ pub opens-past : (xs ys : List ℕ) → times 10 xs ≡ 0 → lineOpens (xs ++ y
 opens-past [] ys h = omega arith
 opens-past (x ∷ xs) ys h = go (eqb x 10) h (opens-past xs ys)
   where
-    go : (b : Bool) → cond b 1 0 + times 10 xs ≡ 0 → (times 10 xs ≡ 0 → lineOpens (xs ++ ys) ≡ times 40 xs + lineOpens ys)
+    go : (b : Bool) → cond b 1 0 + times 10 xs ≡ 0
+        → (times 10 xs ≡ 0 → lineOpens (xs ++ ys) ≡ times 40 xs + lineOpens ys)
         → cond b 0 (cond (eqb x 40) 1 0 + lineOpens (xs ++ ys)) ≡ cond (eqb x 40) 1 0 + times 40 xs + lineOpens ys
     go true h f = absurd (omega arith)
     go false h f = let e = f (omega arith) in omega arith
@@ -191,12 +206,15 @@ opens-pair : (p : Pair) → isLegalPair p ≡ true → (rest : List ℕ) → lin
 unfolding printPair pairText isLegalPair isNodeName
 opens-pair p legal rest =
     let bytes = name-bytes isNameStart (p .name) legal in
-    let a = opens-past (p .name) (ascii " " ++ (valueText (val (p .value)) ++ (ascii ")" ++ rest))) (times-name-bytes 10 (omega arith) (p .name) bytes) in
+    let a =
+    opens-past (p .name) (ascii " " ++ (valueText (val (p .value)) ++ (ascii ")" ++ rest)))
+    (times-name-bytes 10 (omega arith) (p .name) bytes) in
     let n = times-name-bytes 40 (omega arith) (p .name) bytes in
     let v = opens-value (p .value) (ascii ")" ++ rest) in
     omega arith
 
-opens-pairs : (ps : List Pair) → all isLegalPair ps ≡ true → (rest : List ℕ) → lineOpens (printLines printPair ps rest) ≡ length ps + lineOpens rest
+opens-pairs : (ps : List Pair) → all isLegalPair ps ≡ true → (rest : List ℕ)
+    → lineOpens (printLines printPair ps rest) ≡ length ps + lineOpens rest
 unfolding printLines
 opens-pairs [] legal rest = omega arith
 opens-pairs (p ∷ ps) legal rest =
@@ -206,7 +224,8 @@ opens-pairs (p ∷ ps) legal rest =
 
 -- each pair has one, up to the line's end
 pub count-is : {at : ℕ} {ps : List Pair} {text : List ℕ} → PairsAt at ps text → lineOpens (drop at text) ≡ length ps
-count-is {at} {ps} {text} is = let h = opens-pairs ps (is .legal) (ascii ")\n" ++ is .rest) in rw (is .stand) (omega arith)
+count-is {at} {ps} {text} is =
+    let h = opens-pairs ps (is .legal) (ascii ")\n" ++ is .rest) in rw (is .stand) (omega arith)
 
 -- ---- a pair has at least 6 bytes
 
@@ -217,7 +236,8 @@ name-some start s h =
     let b = and-left (leb 1 (length s) && leb (length s) 8) (start (getD s 0 0)) a in
     leb-true 1 (length s) (and-left (leb 1 (length s)) (leb (length s) 8) b)
 
-pub pairs-length : (ps : List Pair) → all isLegalPair ps ≡ true → (rest : List ℕ) → 6 * length ps + length rest ≤ length (printLines printPair ps rest)
+pub pairs-length : (ps : List Pair) → all isLegalPair ps ≡ true → (rest : List ℕ)
+    → 6 * length ps + length rest ≤ length (printLines printPair ps rest)
 unfolding printLines isLegalPair isNodeName
 pairs-length [] legal rest = omega arith
 pairs-length (p ∷ ps) legal rest =

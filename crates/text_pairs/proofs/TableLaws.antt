@@ -21,13 +21,14 @@ use Rattle.netlist.specs.Netlist.{Name}
 use Rattle.netlist.specs.Names.{isNameByte, isPlainName}
 use Rattle.netlist.specs.Syntax.{Pair, isLegalPair}
 use Rattle.netlist.specs.Reading.{givenValue}
-use Rattle.text_symbols.specs.Lines.{lineOpens}
-use Rattle.text_symbols.specs.Packed.{packed, packedAt, packedThrough}
-use Rattle.text_symbols.proofs.TreeLines.{name-bytes}
+use Rattle.text_lines.specs.Lines.{lineOpens}
+use Rattle.text_names.specs.Packed.{packed, packedAt, packedThrough}
+use Rattle.text_names.proofs.LegalNames.{name-bytes}
 use Rattle.text_pairs.specs.PairBytes.{pairPlace, codeAt, codeThrough, inputCode}
 use Rattle.text_pairs.specs.Tables.{PairsAt, PairsTabled, InputsAre}
 use Rattle.text_pairs.proofs.GivenValues.{values-given}
-use Rattle.text_pairs.proofs.PairPlaces.{noPair, places-length, count-is, places-are, each-legal, stands-at, number-stands, code-stands}
+use Rattle.text_pairs.proofs.PairPlaces.{noPair, places-length, count-is, places-are, each-legal, stands-at}
+use Rattle.text_pairs.proofs.PairPlaces.{number-stands, code-stands}
 
 -- the front of a filled table
 pub taken : {A : Type 0} (f : ℕ → A) (n : ℕ) (entry : List A) → take n (placed (tab f n) entry) ≡ tab f n
@@ -46,18 +47,22 @@ module _ {at : ℕ} {ps : List Pair} {text : List ℕ} (is : PairsAt at ps text)
   unfolding packedThrough
   numbers-are =
       let size = length-map ps (λ (p : Pair). packed (p .name)) in
-      ap (tab (packedThrough text places)) (sym size) ∙ tab-is (packedThrough text places) (map (λ (p : Pair). packed (p .name)) ps) 0 (λ i h.
+      ap (tab (packedThrough text places)) (sym size)
+      ∙ tab-is (packedThrough text places) (map (λ (p : Pair). packed (p .name)) ps) 0 (λ i h.
       let l : i < length ps = rw size at h in
-      ap (packedAt text) (place-at i l) ∙ number-stands text (pairPlace text at i) (getD ps i noPair) (each-legal is i l) (stands-at is i l)
+      ap (packedAt text) (place-at i l) ∙ number-stands text (pairPlace text at i) (getD ps i noPair)
+      (each-legal is i l) (stands-at is i l)
       ∙ sym (getD-map (λ (p : Pair). packed (p .name)) ps i noPair 0 l))
 
   codes-are : tab (codeThrough text places) (length ps) ≡ map (λ (p : Pair). code (val (p .value))) ps
   unfolding codeThrough
   codes-are =
       let size = length-map ps (λ (p : Pair). code (val (p .value))) in
-      ap (tab (codeThrough text places)) (sym size) ∙ tab-is (codeThrough text places) (map (λ (p : Pair). code (val (p .value))) ps) 0 (λ i h.
+      ap (tab (codeThrough text places)) (sym size)
+      ∙ tab-is (codeThrough text places) (map (λ (p : Pair). code (val (p .value))) ps) 0 (λ i h.
       let l : i < length ps = rw size at h in
-      ap (codeAt text) (place-at i l) ∙ code-stands text (pairPlace text at i) (getD ps i noPair) (each-legal is i l) (stands-at is i l)
+      ap (codeAt text) (place-at i l) ∙ code-stands text (pairPlace text at i) (getD ps i noPair) (each-legal is i l)
+      (stands-at is i l)
       ∙ sym (getD-map (λ (p : Pair). code (val (p .value))) ps i noPair 0 l))
 
   printed-tables : PairsTabled ps at (length ps) (placed (tab (packedThrough text places) (length ps)) names₀) places
@@ -90,35 +95,48 @@ take-room k xs ys e n = go (lt-or-le (length xs) k)
         let a : length xs ≡ k = ap length (sym (take-all k xs (omega arith))) ∙ ap length e ∙ n in
         omega arith
 
-pub filled-room : {A : Type 0} (f : ℕ → A) (n : ℕ) (entry : List A) {filled : List A} → filled ≡ placed (tab f n) entry → n ≤ length filled
-filled-room f n entry e = rw (e, length-append (tab f n) (drop (length (tab f n)) entry)) (omega (arith, length-tab f n))
+pub filled-room : {A : Type 0} (f : ℕ → A) (n : ℕ) (entry : List A) {filled : List A} → filled ≡ placed (tab f n) entry
+    → n ≤ length filled
+filled-room f n entry e =
+    rw (e, length-append (tab f n) (drop (length (tab f n)) entry)) (omega (arith, length-tab f n))
 
-module _ {ps : List Pair} {at count : ℕ} {names places codes : List ℕ} (t : PairsTabled ps at count names places codes) where
+module _ {ps : List Pair} {at count : ℕ} {names places codes : List ℕ}
+    (t : PairsTabled ps at count names places codes) where
   pub names-room : count ≤ length names
-  names-room = rw (t .counted) (take-room (length ps) names _ (t .namesAre .numbers) (length-map ps (λ (p : Pair). packed (p .name))))
+  names-room =
+      rw (t .counted) (take-room (length ps) names _ (t .namesAre .numbers)
+      (length-map ps (λ (p : Pair). packed (p .name))))
 
   pub places-room : count ≤ length places
   places-room = rw (t .counted) (take-room (length ps) places _ (t .placesAre .stand) (places-length ps at))
 
   pub codes-room : count ≤ length codes
-  codes-room = rw (t .counted) (take-room (length ps) codes _ (t .codesAre .values) (length-map ps (λ (p : Pair). code (val (p .value)))))
+  codes-room =
+      rw (t .counted) (take-room (length ps) codes _ (t .codesAre .values)
+      (length-map ps (λ (p : Pair). code (val (p .value)))))
 
 pub inputs-room : {known : List Name} {n : ℕ} {inputs : List ℕ} → InputsAre known n inputs → n ≤ length inputs
 inputs-room {known} {n} {inputs} i = take-room n inputs _ (i .numbers) (length-map known packed ∙ i .counted)
 
 -- ---- what the inputs are given
 
-pub setting-given : {ps : List Pair} → all isLegalPair ps ≡ true → {at count : ℕ} {names places codes : List ℕ} → PairsTabled ps at count names places codes
+pub setting-given : {ps : List Pair} → all isLegalPair ps ≡ true → {at count : ℕ} {names places codes : List ℕ}
+    → PairsTabled ps at count names places codes
     → {known : List Name} {n : ℕ} {inputs : List ℕ} → InputsAre known n inputs
     → (setting₀ : List ℕ) {setting : List ℕ} → setting ≡ placed (tab (inputCode names codes count inputs) n) setting₀
     → map valueOf (take n setting) ≡ map (givenValue ps) known
 setting-given {ps} legal {at} {count} {names} {places} {codes} t {known} {n} {inputs} i setting₀ f =
-    rw (f, taken (inputCode names codes count inputs) n setting₀, t .counted) (values-given ps legal (t .namesAre) (t .codesAre) i)
+    rw (
+      f,
+      taken (inputCode names codes count inputs) n setting₀,
+      t .counted,
+    ) (values-given ps legal (t .namesAre) (t .codesAre) i)
 
 -- names of inputs have name bytes alone
 pub plain-bytes : (names : List Name) → all isPlainName names ≡ true → all (all isNameByte) names ≡ true
 unfolding isPlainName
 plain-bytes [] h = refl
 plain-bytes (s ∷ ss) h =
-    and-intro (all isNameByte s) (all (all isNameByte) ss) (name-bytes _ s (and-left (isPlainName s) (all isPlainName ss) h))
+    and-intro (all isNameByte s) (all (all isNameByte) ss)
+    (name-bytes _ s (and-left (isPlainName s) (all isPlainName ss) h))
     (plain-bytes ss (and-right (isPlainName s) (all isPlainName ss) h))

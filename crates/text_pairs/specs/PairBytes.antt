@@ -7,8 +7,8 @@ use lib.ListN.{length, getD, drop}
 use lib.Dec.{eqb, ltb}
 use Rattle.prelude.specs.Lists.{tab}
 use Rattle.netlist.specs.Limits.{maxName}
-use Rattle.text_symbols.specs.Packed.{nameFront, nameFrom, packedAt}
-use Rattle.text_symbols.specs.Search.{indexOf}
+use Rattle.text_names.specs.Packed.{nameFront, nameFrom, packedAt}
+use Rattle.text_names.specs.Search.{indexOf}
 
 -- the place of the name of pair i: the first name stands behind " (", and between two stand a space, a value and ") ("
 unfoldable pub pairPlace : List ℕ → ℕ → ℕ → ℕ

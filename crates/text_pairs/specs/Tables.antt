@@ -6,16 +6,16 @@ use mathlib.Core.List.{List, _++_, map}
 use lib.ListN.{length, getD, take, drop}
 use lib.Dec.{leb}
 use Rattle.prelude.specs.Lists.{ascii, all}
-use Rattle.netlist.specs.Limits.{maxText}
+use Rattle.netlist.specs.Limits.{maxText, maxInputs}
 use Rattle.netlist.specs.Values.{code, val}
 use Rattle.netlist.specs.Netlist.{Name}
 use Rattle.netlist.specs.Names.{isNameByte}
 use Rattle.netlist.specs.Syntax.{Pair, isLegalPair, printPair, printLines}
 use Rattle.netlist.specs.Reading.{Mention, mentions, pairMention}
-use Rattle.text_symbols.specs.Lines.{lineOpens}
-use Rattle.text_symbols.specs.Packed.{packed}
-use Rattle.text_symbols.specs.Index.{maxPairs}
-use Rattle.text_symbols.specs.Search.{indexOf}
+use Rattle.text_lines.specs.Lines.{lineOpens}
+use Rattle.text_names.specs.Packed.{packed}
+use Rattle.text_names.specs.Index.{maxPairs}
+use Rattle.text_names.specs.Search.{indexOf}
 
 -- legal pairs stand at this place of a text, up to the end of their line
 pub record PairsAt (at : ℕ) (ps : List Pair) (text : List ℕ) : Type 0 where
@@ -64,9 +64,25 @@ pub record InputsAre (known : List Name) (n : ℕ) (inputs : List ℕ) : Type 0 
   pub bytes : all (all isNameByte) known ≡ true
   pub numbers : take n inputs ≡ map packed known
 
--- a table of numbers for so many pairs of a line that starts at this place
-pub record NumbersReady (at base count : ℕ) (names : List ℕ) : Type 0 where
+-- a table for the numbers of so many pairs, whose first space is at a place
+pub record NumberRoom (at count : ℕ) (names : List ℕ) : Type 0 where
   pub near : at ≤ maxText
-  pub start : base ≤ maxText
   pub few : count ≤ maxPairs
   pub room : length names ≡ maxPairs
+
+-- such a table, of a line that starts at place `base` of its text
+pub record NumbersReady (at base count : ℕ) (names : List ℕ) : Type 0 where
+  pub table : NumberRoom at count names
+  pub start : base ≤ maxText
+
+-- such a table, and a setting for the values of the first n inputs of another
+pub record ValuesReady (at count : ℕ) (names inputs : List ℕ) (n : ℕ) (setting : List ℕ) : Type 0 where
+  pub table : NumberRoom at count names
+  pub known : n ≤ length inputs
+  pub few : n ≤ maxInputs
+  pub room : length setting ≡ maxInputs
+
+-- the numbers of a line's pairs, and n inputs against which they are tested
+pub record OutsideReady (at base count : ℕ) (names inputs : List ℕ) (n : ℕ) : Type 0 where
+  pub numbers : NumbersReady at base count names
+  pub known : n ≤ length inputs

@@ -1,7 +1,7 @@
 // The names of pairs against the inputs of a block: refusals 4 and 5, and the value that each input is given.
 use netlist::Refusal;
-use text_symbols::search::find;
-use text_symbols::search::first_repeat;
+use text_names::search::find;
+use text_names::search::first_repeat;
 use words_refusals::Test;
 ghost use mathlib.Core.Path.{_≡_};
 ghost use mathlib.Core.Bool.{true};
@@ -20,8 +20,10 @@ ghost use Rattle.text_pairs.specs.Tables.{pairMentions, isOutside, Names
 // Refusal 4: the place of the first name that is one of those before it.
 pub fn test_repeat(names: &[u64], places: &[usize], count: usize) -> Test
     requires { ⌜ (count ≤ length (now names)) × (count ≤ length (now places)) ⌝ }
-    ensures { λ r. ⌜ ((ps : List Pair) (at : ℕ) → all isLegalPair ps ≡ true → count ≡ length ps → NamesAre ps (now (names .entry))
-        → PlacesAre ps at (now (places .entry)) → r ≡ testAt (firstRepeat [] (pairMentions ps at)) DuplicateDeclaration) ⌝ }
+    ensures { λ r. ⌜ ((ps : List Pair) (at : ℕ) → all isLegalPair ps ≡ true → count ≡ length ps
+        → NamesAre ps (now (names .entry))
+        → PlacesAre ps at (now (places .entry)) → r ≡ testAt (firstRepeat [] (pairMentions ps at))
+        DuplicateDeclaration) ⌝ }
 {
     let i = first_repeat(&names[..count]);
     if i < count {
@@ -57,7 +59,8 @@ pub fn first_outside(names: &[u64], count: usize, inputs: &[u64], n: usize) -> u
 // Refusal 5: the place of the first name that is none of the inputs.
 pub fn test_outside(names: &[u64], places: &[usize], count: usize, inputs: &[u64], n: usize) -> Test
     requires { ⌜ (count ≤ length (now names)) × (count ≤ length (now places)) × (n ≤ length (now inputs)) ⌝ }
-    ensures { λ r. ⌜ ((ps : List Pair) (at : ℕ) (known : List Name) → all isLegalPair ps ≡ true → count ≡ length ps → NamesAre ps (now (names .entry))
+    ensures { λ r. ⌜ ((ps : List Pair) (at : ℕ) (known : List Name) → all isLegalPair ps ≡ true → count ≡ length ps
+        → NamesAre ps (now (names .entry))
         → PlacesAre ps at (now (places .entry)) → InputsAre known n (now (inputs .entry))
         → r ≡ testAt (firstOutside known (pairMentions ps at)) UndeclaredName) ⌝ }
 {
@@ -87,8 +90,10 @@ pub fn fill_setting(
     n: usize,
     setting: &mut [u8],
 )
-    requires { ⌜ (count ≤ length (now names)) × (count ≤ length (now codes)) × (n ≤ length (now inputs)) × (n ≤ length (now setting)) ⌝ }
-    ensures { λ r. ⌜ now (setting .exit) ≡ placed (tab (inputCode (now (names .entry)) (now (codes .entry)) count (now (inputs .entry))) n)
+    requires { ⌜ (count ≤ length (now names)) × (count ≤ length (now codes)) × (n ≤ length (now inputs))
+        × (n ≤ length (now setting)) ⌝ }
+    ensures { λ r. ⌜ now (setting .exit) ≡ placed (tab (inputCode (now (names .entry)) (now (codes .entry)) count
+        (now (inputs .entry))) n)
         (now (setting .entry)) ⌝ }
 {
     let mut j = 0;

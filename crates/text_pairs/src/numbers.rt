@@ -4,10 +4,10 @@ use crate::given::first_outside;
 use crate::tables::code_at;
 use crate::tables::name_size;
 use netlist::Refusal;
-use text_symbols::pack::pack_at;
-use text_symbols::search::MAX_PAIRS;
-use text_symbols::search::find;
-use text_symbols::search::first_repeat;
+use text_names::pack::pack_at;
+use text_names::search::MAX_PAIRS;
+use text_names::search::find;
+use text_names::search::first_repeat;
 use words_layout::limits::MAX_INPUTS;
 use words_refusals::Test;
 ghost use mathlib.Core.Path.{_≡_};
@@ -21,13 +21,14 @@ ghost use Rattle.netlist.specs.Limits.{maxText, maxInputs};
 ghost use Rattle.netlist.specs.Netlist.{Name};
 ghost use Rattle.netlist.specs.Reading.{firstRepeat, firstOutside};
 ghost use Rattle.netlist.specs.Syntax.{Pair};
-ghost use Rattle.text_symbols.specs.Index.{maxPairs};
+ghost use Rattle.text_names.specs.Index.{maxPairs};
 ghost use Rattle.text_pairs.specs.PairBytes.{pairPlace, pairNumber, pairCodes, givenCode, inputCode};
-ghost use Rattle.text_pairs.specs.Tables.{PairsAt, pairMentions, NamesAre, InputsAre, NumbersReady};
+ghost use Rattle.text_pairs.specs.Tables.{PairsAt, pairMentions, NamesAre, InputsAre, NumberRoom, NumbersReady};
+ghost use Rattle.text_pairs.specs.Tables.{ValuesReady, OutsideReady};
 
 // The number of each pair's name; the first pair's space is at `at`.
 pub fn fill_numbers(s: &[u8], at: usize, count: usize, names: &mut [u64; MAX_PAIRS])
-    requires { ⌜ (at ≤ maxText) × (count ≤ maxPairs) × (length (now names) ≡ maxPairs) ⌝ }
+    requires { ⌜ NumberRoom at count (now names) ⌝ }
     ensures { λ r. ⌜ now (names .exit) ≡ placed (tab (pairNumber (now (s .entry)) at) count) (now (names .entry)) ⌝ }
 {
     let mut place = at + 2;
@@ -57,7 +58,8 @@ fn pair_place(s: &[u8], at: usize, i: usize) -> usize
 // text.
 pub fn find_repeat(s: &[u8], at: usize, base: usize, names: &[u64], count: usize) -> Test
     requires { ⌜ NumbersReady at base count (now names) ⌝ }
-    ensures { λ r. ⌜ ((ps : List Pair) → PairsAt at ps (now (s .entry)) → count ≡ length ps → NamesAre ps (now (names .entry))
+    ensures { λ r. ⌜ ((ps : List Pair) → PairsAt at ps (now (s .entry)) → count ≡ length ps
+        → NamesAre ps (now (names .entry))
         → r ≡ testAt (firstRepeat [] (pairMentions ps (base + at))) DuplicateDeclaration) ⌝ }
 {
     let i = first_repeat(&names[..count]);
@@ -78,9 +80,11 @@ pub fn find_outside(
     inputs: &[u64],
     n: usize,
 ) -> Test
-    requires { ⌜ NumbersReady at base count (now names) × (n ≤ length (now inputs)) ⌝ }
-    ensures { λ r. ⌜ ((ps : List Pair) (known : List Name) → PairsAt at ps (now (s .entry)) → count ≡ length ps → NamesAre ps (now (names .entry))
-        → InputsAre known n (now (inputs .entry)) → r ≡ testAt (firstOutside known (pairMentions ps (base + at))) UndeclaredName) ⌝ }
+    requires { ⌜ OutsideReady at base count (now names) (now inputs) n ⌝ }
+    ensures { λ r. ⌜ ((ps : List Pair) (known : List Name) → PairsAt at ps (now (s .entry)) → count ≡ length ps
+        → NamesAre ps (now (names .entry))
+        → InputsAre known n (now (inputs .entry)) → r ≡ testAt (firstOutside known (pairMentions ps (base + at)))
+        UndeclaredName) ⌝ }
 {
     let i = first_outside(names, count, inputs, n);
     if i < count {
@@ -92,7 +96,7 @@ pub fn find_outside(
 
 // The value that the pairs give a name: 2, undefined, where they do not name it.
 fn value_given(s: &[u8], at: usize, names: &[u64; MAX_PAIRS], count: usize, name: u64) -> u8
-    requires { ⌜ (at ≤ maxText) × (count ≤ maxPairs) × (length (now names) ≡ maxPairs) ⌝ }
+    requires { ⌜ NumberRoom at count (now names) ⌝ }
     ensures { λ r. ⌜ r ≡ givenCode (now (names .entry)) (pairCodes (now (s .entry)) at count) count name ⌝ }
 {
     let i = find(names, count, name);
@@ -112,10 +116,10 @@ pub fn fill_values(
     n: usize,
     setting: &mut [u8; MAX_INPUTS],
 )
-    requires { ⌜ (at ≤ maxText) × (count ≤ maxPairs) × (length (now names) ≡ maxPairs) × (n ≤ length (now inputs)) × (n ≤ maxInputs)
-        × (length (now setting) ≡ maxInputs) ⌝ }
+    requires { ⌜ ValuesReady at count (now names) (now inputs) n (now setting) ⌝ }
     ensures { λ r. ⌜ now (setting .exit) ≡ placed
-        (tab (inputCode (now (names .entry)) (pairCodes (now (s .entry)) at count) count (now (inputs .entry))) n) (now (setting .entry)) ⌝ }
+        (tab (inputCode (now (names .entry)) (pairCodes (now (s .entry)) at count) count (now (inputs .entry))) n)
+        (now (setting .entry)) ⌝ }
 {
     let mut j = 0;
     while j < n {

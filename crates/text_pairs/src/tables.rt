@@ -1,8 +1,8 @@
 // How many pairs stand at a place of a text, and tables of their names' places, their names as numbers, and their
 // values.
-use text_symbols::lines::opens;
-use text_symbols::pack::name_length;
-use text_symbols::table::fill_names;
+use text_lines::opens;
+use text_names::pack::fill_names;
+use text_names::pack::name_length;
 use words_layout::bytes::byte_at;
 ghost use mathlib.Core.Path.{_≡_};
 ghost use mathlib.Core.List.{List};
@@ -11,8 +11,8 @@ ghost use lib.ListN.{length, drop};
 ghost use Rattle.prelude.specs.Lists.{tab, placed};
 ghost use Rattle.netlist.specs.Limits.{maxText};
 ghost use Rattle.netlist.specs.Syntax.{Pair};
-ghost use Rattle.text_symbols.specs.Lines.{lineOpens};
-ghost use Rattle.text_symbols.specs.Packed.{nameFrom};
+ghost use Rattle.text_lines.specs.Lines.{lineOpens};
+ghost use Rattle.text_names.specs.Packed.{nameFrom};
 ghost use Rattle.text_pairs.specs.PairBytes.{pairPlace, codeFront, codeAt, codeThrough};
 ghost use Rattle.text_pairs.specs.Tables.{PairsAt, PairRoom, PairsTabled};
 
@@ -38,7 +38,8 @@ pub fn name_size(text: &[u8], at: usize) -> usize
 // The place of each name; the first pair's space is at `at`.
 fn fill_places(text: &[u8], at: usize, count: usize, places: &mut [usize])
     requires { ⌜ (at ≤ maxText) × (count ≤ maxText) × (count ≤ length (now places)) ⌝ }
-    ensures { λ r. ⌜ now (places .exit) ≡ placed (tab (pairPlace (now (text .entry)) at) count) (now (places .entry)) ⌝ }
+    ensures { λ r. ⌜ now (places .exit) ≡ placed (tab (pairPlace (now (text .entry)) at) count)
+        (now (places .entry)) ⌝ }
 {
     let mut place = at + 2;
     let mut i = 0;
@@ -74,7 +75,8 @@ pub fn code_at(text: &[u8], at: usize) -> u8
 // The value of each pair.
 fn fill_codes(text: &[u8], places: &[usize], count: usize, codes: &mut [u8])
     requires { ⌜ (count ≤ length (now places)) × (count ≤ length (now codes)) ⌝ }
-    ensures { λ r. ⌜ now (codes .exit) ≡ placed (tab (codeThrough (now (text .entry)) (now (places .entry))) count) (now (codes .entry)) ⌝ }
+    ensures { λ r. ⌜ now (codes .exit) ≡ placed (tab (codeThrough (now (text .entry)) (now (places .entry))) count)
+        (now (codes .entry)) ⌝ }
 {
     let mut i = 0;
     while i < count {
@@ -93,7 +95,8 @@ pub fn fill_pairs(
 ) -> usize
     requires { ⌜ PairRoom (now text) at (now names) (now places) (now codes) ⌝ }
     ensures { λ r. ⌜
-        ((ps : List Pair) → PairsAt at ps (now (text .entry)) → PairsTabled ps at r (now (names .exit)) (now (places .exit)) (now (codes .exit)))
+        ((ps : List Pair) → PairsAt at ps (now (text .entry))
+        → PairsTabled ps at r (now (names .exit)) (now (places .exit)) (now (codes .exit)))
         ⌝ }
 {
     let count = pair_count(text, at);

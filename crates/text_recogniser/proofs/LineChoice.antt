@@ -5,29 +5,31 @@ use mathlib.Core.Bool.{Bool, true, false, cond, _&&_}
 use mathlib.Core.List.{List}
 use Prim.Native.Nat.{ℕ, _-_, _≤_, _<_}
 use native.Mathlib.Omega.{arith}
-use lib.ListN.{length, drop, getD, length-drop}
+use lib.ListN.{length, take, drop, getD, length-drop}
 use lib.Seq.{getD-drop}
 use lib.Dec.{eqb, leb}
 use borrow.Author.Tests.{eq-eqb, ne-eqb, eqb-true, le-leb, leb-true}
 use Rattle.prelude.proofs.Tests.{not-true-false, and-left, and-right, and-intro, eq-or-ne}
+use Rattle.prelude.proofs.Elements.{rest-is-drop}
 use Rattle.prelude.specs.Lists.{ascii, is}
-use Rattle.netlist.specs.Limits.{maxDepth}
-use Rattle.netlist.specs.Syntax.{apply}
 use Rattle.netlist.specs.Parse.{stuck, stop, expect}
-use Rattle.text_recogniser.specs.declared.Scan.the-variants.{Next, Bad}
-use Rattle.text_recogniser.specs.Scan.{scanOf, firstByte, inputName, inputReader, neverEnd, neverReader, gateExpression, gateBracket, gateNaming, gateReader}
-use Rattle.text_recogniser.specs.Scan.{outputShown, outputSpace, outputPort, outputReader, lineBehind, lineReader}
-use Rattle.text_recogniser.proofs.First.{byte-taken, byte-left}
-use Rattle.text_recogniser.proofs.Shortens.{Leaves, Shortens, shortens-expect, shortens-bind, shortens-name, shortens-expr, shortens-term}
-use Rattle.text_recogniser.proofs.Continues.{left-short}
-use Rattle.text_recogniser.proofs.LineSteps.{shortens-word, shortens-never-pairs}
+use Rattle.text_scan.specs.declared.Scan.the-variants.{Next, Bad}
+use Rattle.text_scan.specs.Scan.{scanOf, firstByte}
+use Rattle.text_scan.proofs.First.{byte-taken, byte-left}
+use Rattle.text_scan.proofs.Shortens.{Leaves, Shortens, shortens-expect, shortens-bind, shortens-name, shortens-word}
+use Rattle.text_scan.proofs.Continues.{left-short}
+use Rattle.text_recogniser.specs.Scan.{inputName, inputReader, neverEnd, neverReader, gateExpression, gateBracket}
+use Rattle.text_recogniser.specs.Scan.{gateNaming, gateReader, outputShown, outputSpace, outputPort, outputReader}
+use Rattle.text_recogniser.specs.Scan.{lineBehind, lineReader}
+use Rattle.text_recogniser.proofs.LineSteps.{shortens-never-pairs, shortens-expression}
 
 -- ---- by the letter
 
 module _ (phase : ℕ) (t : List ℕ) {c : ℕ} (e : c ≡ getD t 0 0) where
   pub chosen-input : c ≡ 105 → phase ≡ 0 → lineBehind phase t ≡ inputReader t
   unfolding lineBehind
-  chosen-input i p = rw (and-intro (is "i" (getD t 0 0)) (eqb phase 0) (eq-eqb 105 (getD t 0 0) (sym i ∙ e)) (eq-eqb phase 0 p))
+  chosen-input i p =
+      rw (and-intro (is "i" (getD t 0 0)) (eqb phase 0) (eq-eqb 105 (getD t 0 0) (sym i ∙ e)) (eq-eqb phase 0 p))
 
   module _ (n : c ≡ 105 → phase ≡ 0 → ⊥) where
     no-input : is "i" (getD t 0 0) && eqb phase 0 ≡ false
@@ -38,7 +40,12 @@ module _ (phase : ℕ) (t : List ℕ) {c : ℕ} (e : c ≡ getD t 0 0) where
 
     pub chosen-never : c ≡ 110 → phase ≤ 1 → lineBehind phase t ≡ neverReader t
     unfolding lineBehind
-    chosen-never g p = rw (no-input, and-intro (is "n" (getD t 0 0)) (leb phase 1) (eq-eqb 110 (getD t 0 0) (sym g ∙ e)) (le-leb phase 1 p))
+    chosen-never g p =
+        rw (
+          no-input,
+          and-intro (is "n" (getD t 0 0)) (leb phase 1) (eq-eqb 110 (getD t 0 0) (sym g ∙ e))
+              (le-leb phase 1 p),
+        )
 
     module _ (m : c ≡ 110 → phase ≤ 1 → ⊥) where
       no-never : is "n" (getD t 0 0) && leb phase 1 ≡ false
@@ -50,7 +57,12 @@ module _ (phase : ℕ) (t : List ℕ) {c : ℕ} (e : c ≡ getD t 0 0) where
       pub chosen-gate : c ≡ 103 → phase ≤ 2 → lineBehind phase t ≡ gateReader t
       unfolding lineBehind
       chosen-gate g p =
-          rw (no-input, no-never, and-intro (is "g" (getD t 0 0)) (leb phase 2) (eq-eqb 103 (getD t 0 0) (sym g ∙ e)) (le-leb phase 2 p))
+          rw (
+            no-input,
+            no-never,
+            and-intro (is "g" (getD t 0 0)) (leb phase 2) (eq-eqb 103 (getD t 0 0) (sym g ∙ e))
+                (le-leb phase 2 p),
+          )
 
       pub chosen-output : (c ≡ 103 → phase ≤ 2 → ⊥) → lineBehind phase t ≡ outputReader t
       unfolding lineBehind
@@ -87,6 +99,14 @@ module _ (phase : ℕ) (s : List ℕ) {b : ℕ} (e : b ≡ getD s 0 0) where
   unfolding lineReader expect stop
   line-none f = byte-left _ _ s 40 e f
 
+-- what is lent to the line's reader, behind the bracket
+abbrev pub restOf : List ℕ → List ℕ
+restOf s = take (length s - 1) (drop 1 s)
+
+pub line-rest : (phase : ℕ) (s : List ℕ) {b : ℕ} → b ≡ getD s 0 0 → b ≡ 40
+    → lineReader phase s ≡ lineBehind phase (restOf s)
+line-rest phase s e f = line-bracket phase s e f ∙ ap (lineBehind phase) (sym (rest-is-drop s 1))
+
 -- the letter
 pub letter-at : (s : List ℕ) → getD (drop 1 s) 0 0 ≡ getD s 1 0
 letter-at s = getD-drop 1 s 0 0
@@ -95,18 +115,20 @@ letter-at s = getD-drop 1 s 0 0
 
 shortens-input-line : Shortens inputReader
 unfolding inputReader inputName
-shortens-input-line = shortens-expect (ascii "in ") (shortens-bind (shortens-name (firstByte false)) (λ _. shortens-word (ascii ")\n")))
+shortens-input-line =
+    shortens-expect (ascii "in ") (shortens-bind (shortens-name (firstByte false)) (λ _. shortens-word (ascii ")\n")))
 
 shortens-never-line : Shortens neverReader
 unfolding neverReader neverEnd
-shortens-never-line = shortens-expect (ascii "never") (shortens-bind shortens-never-pairs (λ _. shortens-word (ascii "\n")))
+shortens-never-line =
+    shortens-expect (ascii "never") (shortens-bind shortens-never-pairs (λ _. shortens-word (ascii "\n")))
 
 shortens-gate-line : Shortens gateReader
 unfolding gateReader gateNaming gateBracket gateExpression
 shortens-gate-line =
     shortens-expect (ascii "gate ")
     (shortens-bind (shortens-name (firstByte true)) (λ _. shortens-expect (ascii " (")
-    (shortens-bind (shortens-expr apply (shortens-term (maxDepth - 1))) (λ _. shortens-word (ascii ")\n")))))
+    (shortens-bind shortens-expression (λ _. shortens-word (ascii ")\n")))))
 
 shortens-output-line : Shortens outputReader
 unfolding outputReader outputPort outputSpace outputShown
@@ -118,10 +140,13 @@ shortens-output-line =
 shortens-behind : (phase : ℕ) → Shortens (lineBehind phase)
 unfolding lineBehind
 shortens-behind phase = record {
-  leaves = λ s. go s (is "i" (getD s 0 0) && eqb phase 0) (is "n" (getD s 0 0) && leb phase 1) (is "g" (getD s 0 0) && leb phase 2);
+  leaves =
+      λ s. go s (is "i" (getD s 0 0) && eqb phase 0) (is "n" (getD s 0 0) && leb phase 1)
+      (is "g" (getD s 0 0) && leb phase 2);
 }
   where
-    go : (s : List ℕ) (i n g : Bool) → Leaves s (cond i (inputReader s) (cond n (neverReader s) (cond g (gateReader s) (outputReader s))))
+    go : (s : List ℕ) (i n g : Bool)
+        → Leaves s (cond i (inputReader s) (cond n (neverReader s) (cond g (gateReader s) (outputReader s))))
     go s true n g = shortens-input-line .leaves s
     go s false true g = shortens-never-line .leaves s
     go s false false true = shortens-gate-line .leaves s
@@ -136,8 +161,12 @@ line-shorter phase s {n} h e = ⊎-elim read refused (eq-or-ne (getD s 0 0) 40)
   where
     read : getD s 0 0 ≡ 40 → n < length s
     read f =
-        let l : n ≤ length (drop 1 s) = left-short (shortens-behind phase) (drop 1 s) (e ∙ ap scanOf (line-bracket phase s refl f)) in
+        let l : n ≤ length (drop 1 s) = left-short (shortens-behind phase) (drop 1 s)
+        (e ∙ ap scanOf (line-bracket phase s refl f)) in
         omega (arith, l, length-drop 1 s)
 
     refused : (getD s 0 0 ≡ 40 → ⊥) → n < length s
-    refused f = let q : Next n ≡ Bad (length s) = e ∙ ap scanOf (line-none phase s refl f) in let z : _≡_ {A = ℕ} 0 1 = cc in absurd (omega arith)
+    refused f =
+        let q : Next n ≡ Bad (length s) = e ∙ ap scanOf (line-none phase s refl f) in
+        let z : _≡_ {A = ℕ} 0 1 = cc in
+        absurd (omega arith)

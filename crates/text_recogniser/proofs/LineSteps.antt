@@ -1,78 +1,84 @@
--- The parts of a line, one after the other: what its reader does first, and what is left then. The line readers' proofs cite each step.
--- Assumes nothing.
+-- The parts of a line, one after the other: what its reader does first, and what follows. The line readers' proofs cite
+-- each step. Assumes nothing.
 use Prim.Native.Nat.{ℕ, _-_}
 use mathlib.Core.Bool.{true, false}
 use mathlib.Core.List.{List}
-use mathlib.Core.Path.{_≡_}
-use lib.ListN.{length}
+use mathlib.Core.Path.{_≡_, ap, _∙_}
+use lib.ListN.{length, drop, take, length-drop}
 use Rattle.prelude.specs.Lists.{ascii}
+use Rattle.prelude.proofs.Elements.{rest-is-drop}
 use Rattle.netlist.specs.Limits.{maxDepth}
-use Rattle.netlist.specs.Syntax.{Term, apply}
-use Rattle.netlist.specs.Parse.{nameReader, exprReader, termReader, pairsReader, neverPairs}
-use Rattle.text_recogniser.specs.declared.Scan.{Scan}
-use Rattle.text_recogniser.specs.Scan.{scanOf, wordReader, firstByte, closing, inputName, inputReader, neverEnd, neverReader, gateExpression, gateBracket}
-use Rattle.text_recogniser.specs.Scan.{gateNaming, gateReader, outputShown, outputSpace, outputPort, outputReader}
-use Rattle.text_recogniser.proofs.Shortens.{Shortens, shortens-expect, shortens-pure}
-use Rattle.text_recogniser.proofs.Continues.{Continues, continues-word, continues-skip}
-use Rattle.text_recogniser.proofs.PairSteps.{shortens-pairs}
+use Rattle.netlist.specs.Syntax.{apply}
+use Rattle.netlist.specs.Parse.{nameReader, pairsReader, neverPairs}
+use Rattle.text_scan.specs.declared.Scan.{Scan}
+use Rattle.text_scan.specs.Scan.{scanOf, wordReader, firstByte}
+use Rattle.text_scan.proofs.Shortens.{Shortens, shortens-name}
+use Rattle.text_scan.proofs.Chain.{Then, word-then, skip-then}
+use Rattle.text_pair_form.proofs.PairSteps.{shortens-pairs}
+use Rattle.text_expression_form.proofs.ShortensTerms.{shortens-term, shortens-expr}
+use Rattle.text_recogniser.specs.Scan.{closing, expressionReader, inputName, inputReader, neverEnd, neverReader}
+use Rattle.text_recogniser.specs.Scan.{gateExpression, gateBracket, gateNaming, gateReader, outputShown}
+use Rattle.text_recogniser.specs.Scan.{outputSpace, outputPort, outputReader}
 
-pub shortens-word : (w : List ℕ) → Shortens (wordReader w)
-unfolding wordReader
-shortens-word w = shortens-expect w (shortens-pure 0)
-
-pub input-word : Continues inputReader (wordReader (ascii "in ")) (λ t. scanOf (inputName t))
+pub input-word : Then inputReader (wordReader (ascii "in ")) inputName
 unfolding inputReader
-input-word = continues-word (ascii "in ") inputName
+input-word = word-then (ascii "in ") inputName
 
-pub input-name : Continues inputName (nameReader (firstByte false)) (λ t. scanOf (closing t))
+pub input-name : Then inputName (nameReader (firstByte false)) closing
 unfolding inputName
-input-name = continues-skip (nameReader (firstByte false)) closing
+input-name = skip-then (shortens-name (firstByte false)) closing
 
-pub never-word : Continues neverReader (wordReader (ascii "never")) (λ t. scanOf (neverEnd t))
+pub never-word : Then neverReader (wordReader (ascii "never")) neverEnd
 unfolding neverReader
-never-word = continues-word (ascii "never") neverEnd
-
-pub never-pairs : Continues neverEnd neverPairs (λ t. scanOf (wordReader (ascii "\n") t))
-unfolding neverEnd
-never-pairs = continues-skip neverPairs (wordReader (ascii "\n"))
+never-word = word-then (ascii "never") neverEnd
 
 pub shortens-never-pairs : Shortens neverPairs
 unfolding neverPairs
 shortens-never-pairs = record { leaves = λ s. shortens-pairs (length s) 1 .leaves s }
 
+pub never-pairs : Then neverEnd neverPairs (wordReader (ascii "\n"))
+unfolding neverEnd
+never-pairs = skip-then shortens-never-pairs (wordReader (ascii "\n"))
+
 -- the code's bound is the number of bytes left
-pub never-bound : (t : List ℕ) (n : ℕ) → length t ≡ n → {r : Scan} → r ≡ scanOf (pairsReader n 1 t) → r ≡ scanOf (neverPairs t)
+pub never-bound : (s : List ℕ) (at : ℕ) {r : Scan}
+    → r ≡ scanOf (pairsReader (length s - at) 1 (take (length s - at) (drop at s)))
+    → r ≡ scanOf (neverPairs (take (length s - at) (drop at s)))
 unfolding neverPairs
-never-bound t n l e = rw l e
+never-bound s at e = rw (ap length (rest-is-drop s at) ∙ length-drop at s) e
 
-pub gate-word : Continues gateReader (wordReader (ascii "gate ")) (λ t. scanOf (gateNaming t))
+pub shortens-expression : Shortens expressionReader
+unfolding expressionReader
+shortens-expression = shortens-expr apply (shortens-term (maxDepth - 1))
+
+pub gate-word : Then gateReader (wordReader (ascii "gate ")) gateNaming
 unfolding gateReader
-gate-word = continues-word (ascii "gate ") gateNaming
+gate-word = word-then (ascii "gate ") gateNaming
 
-pub gate-name : Continues gateNaming (nameReader (firstByte true)) (λ t. scanOf (gateBracket t))
+pub gate-name : Then gateNaming (nameReader (firstByte true)) gateBracket
 unfolding gateNaming
-gate-name = continues-skip (nameReader (firstByte true)) gateBracket
+gate-name = skip-then (shortens-name (firstByte true)) gateBracket
 
-pub gate-bracket : Continues gateBracket (wordReader (ascii " (")) (λ t. scanOf (gateExpression t))
+pub gate-bracket : Then gateBracket (wordReader (ascii " (")) gateExpression
 unfolding gateBracket
-gate-bracket = continues-word (ascii " (") gateExpression
+gate-bracket = word-then (ascii " (") gateExpression
 
-pub gate-expression : Continues gateExpression (exprReader {A = Term} (termReader (maxDepth - 1)) apply) (λ t. scanOf (closing t))
+pub gate-expression : Then gateExpression expressionReader closing
 unfolding gateExpression
-gate-expression = continues-skip (exprReader {A = Term} (termReader (maxDepth - 1)) apply) closing
+gate-expression = skip-then shortens-expression closing
 
-pub output-word : Continues outputReader (wordReader (ascii "out ")) (λ t. scanOf (outputPort t))
+pub output-word : Then outputReader (wordReader (ascii "out ")) outputPort
 unfolding outputReader
-output-word = continues-word (ascii "out ") outputPort
+output-word = word-then (ascii "out ") outputPort
 
-pub output-port : Continues outputPort (nameReader (firstByte false)) (λ t. scanOf (outputSpace t))
+pub output-port : Then outputPort (nameReader (firstByte false)) outputSpace
 unfolding outputPort
-output-port = continues-skip (nameReader (firstByte false)) outputSpace
+output-port = skip-then (shortens-name (firstByte false)) outputSpace
 
-pub output-space : Continues outputSpace (wordReader (ascii " ")) (λ t. scanOf (outputShown t))
+pub output-space : Then outputSpace (wordReader (ascii " ")) outputShown
 unfolding outputSpace
-output-space = continues-word (ascii " ") outputShown
+output-space = word-then (ascii " ") outputShown
 
-pub output-shown : Continues outputShown (nameReader (firstByte true)) (λ t. scanOf (closing t))
+pub output-shown : Then outputShown (nameReader (firstByte true)) closing
 unfolding outputShown
-output-shown = continues-skip (nameReader (firstByte true)) closing
+output-shown = skip-then (shortens-name (firstByte true)) closing

@@ -1,65 +1,21 @@
--- What the recogniser answers, and what its readers answer of the readers in `netlist`: bytes left, and no tree. Read's
--- crate cites `firstBad`. Assumes nothing: these are definitions.
+-- What the recogniser answers, and the lines as it reads them: netlist's readers without their tree, and what follows
+-- each of their parts. Read's crate cites `firstBad`. Assumes nothing: these are definitions.
 use Prim.Native.Nat.{ℕ, _-_}
-use mathlib.Core.Bool.{Bool, true, false, cond, _&&_}
+use mathlib.Core.Bool.{true, false, cond, _&&_}
 use mathlib.Core.List.{List}
-use mathlib.Core.Option.{Option, none, some}
-use lib.ListN.{length, getD}
+use mathlib.Core.Option.{Option}
+use lib.ListN.{getD}
 use lib.Dec.{eqb, leb}
 use Rattle.prelude.specs.Lists.{ascii, is}
-use Rattle.netlist.specs.Names.{isLetter, isNameStart}
 use Rattle.netlist.specs.Limits.{maxDepth}
-use Rattle.netlist.specs.Syntax.{apply}
-use Rattle.netlist.specs.Parse.{Parsed, got, stuck, Reader, pure, stop, ifNext, expect, bind, nameReader, exprReader, termReader, bitReader}
-use Rattle.netlist.specs.Parse.{neverPairs, parse}
-use Rattle.text_recogniser.specs.declared.Scan.{Scan}
-use Rattle.text_recogniser.specs.declared.Scan.the-variants.{Next, Bad as Stuck}
-use Rattle.text_recogniser.specs.declared.Kind.{Kind}
-use Rattle.text_recogniser.specs.declared.Kind.the-variants.{Is, Bad as NoKind}
-
--- the place that a reader tells of a bad text: the number of bytes before the bad one
-abbrev pub badOf : {A : Type 0} → List ℕ → Parsed A → Option ℕ
-badOf text (got t rest) = none
-badOf text (stuck left) = some (length text - left)
+use Rattle.netlist.specs.Syntax.{Term, apply}
+use Rattle.netlist.specs.Parse.{Reader, expect, bind, nameReader, exprReader, termReader, neverPairs, parse}
+use Rattle.text_scan.specs.Scan.{wordReader, firstByte}
+pub use Rattle.text_scan.specs.Scan.{badOf}
 
 -- refusal 2: the first byte that no legal text has behind that beginning, or the length where the text is cut off
 unfoldable pub firstBad : List ℕ → Option ℕ
 firstBad text = badOf text (parse text)
-
--- the bytes left of what a reader answers
-abbrev pub scanOf : {A : Type 0} → Parsed A → Scan
-scanOf (got a rest) = Next (length rest)
-scanOf (stuck left) = Stuck left
-
-abbrev pub kindOf : Parsed ℕ → Kind
-kindOf (got k rest) = Is k (length rest)
-kindOf (stuck left) = NoKind left
-
--- ---- parts of netlist's readers that are functions of their own in the code
-
--- a reader of exactly these bytes
-unfoldable pub wordReader : List ℕ → Reader ℕ
-wordReader w = expect w (pure 0)
-
--- may this byte begin a name, where `_` is allowed or not?
-unfoldable pub firstByte : Bool → ℕ → Bool
-firstByte true = isNameStart
-firstByte false = isLetter
-
--- the reader of a kind whose word goes on with these bytes
-unfoldable pub kindWord : List ℕ → ℕ → Reader ℕ
-kindWord w k = expect w (pure k)
-
--- the readers of a kind behind `no` and behind `n`
-unfoldable pub kindNo : Reader ℕ
-kindNo = ifNext (is "t") (λ _. pure 0) (ifNext (is "r") (λ _. pure 4) stop)
-
-unfoldable pub kindN : Reader ℕ
-kindN = ifNext (is "a") (λ _. kindWord (ascii "nd") 3) (ifNext (is "o") (λ _. kindNo) stop)
-
--- the reader of a kind behind `x`
-unfoldable pub kindX : Reader ℕ
-kindX = ifNext (is "o") (λ _. kindWord (ascii "r") 5) (ifNext (is "n") (λ _. kindWord (ascii "or") 6) stop)
 
 -- one line behind its opening bracket, without its tree, and what follows each of its parts
 abbrev pub closing : Reader ℕ
@@ -77,8 +33,12 @@ neverEnd = bind neverPairs (λ _. wordReader (ascii "\n"))
 unfoldable pub neverReader : Reader ℕ
 neverReader = expect (ascii "never") neverEnd
 
+-- an expression behind its opening bracket, of the depth that a line's may have
+unfoldable pub expressionReader : Reader Term
+expressionReader = exprReader (termReader (maxDepth - 1)) apply
+
 unfoldable pub gateExpression : Reader ℕ
-gateExpression = bind (exprReader (termReader (maxDepth - 1)) apply) (λ _. closing)
+gateExpression = bind expressionReader (λ _. closing)
 
 unfoldable pub gateBracket : Reader ℕ
 gateBracket = expect (ascii " (") gateExpression
@@ -114,16 +74,3 @@ lineReader phase = expect (ascii "(") (lineBehind phase)
 -- the phase behind a line with this letter
 unfoldable pub phaseOf : ℕ → ℕ
 phaseOf c = cond (is "i" c) 0 (cond (is "n" c) 1 (cond (is "g" c) 2 3))
-
--- a pair behind its space, without its tree, and what follows each of its parts
-unfoldable pub bitEnd : Reader ℕ
-bitEnd = bind bitReader (λ _. wordReader (ascii ")"))
-
-unfoldable pub pairValue : Reader ℕ
-pairValue = expect (ascii " ") bitEnd
-
-unfoldable pub pairName : Reader ℕ
-pairName = bind (nameReader (firstByte true)) (λ _. pairValue)
-
-unfoldable pub pairScan : Reader ℕ
-pairScan = expect (ascii " (") pairName

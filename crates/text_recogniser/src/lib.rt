@@ -1,8 +1,8 @@
 // The recogniser: does a text have the grammar's form, and where does it break (SPECIFICATION 1, and Read's refusal 2
 // in 7.3)? It goes by recursive descent with one byte of look-ahead, and tells the first byte with which no legal text
-// goes on. `pairs` serves the bench's set lines too. Each reader takes the rest of the text as its slice and answers
-// how many bytes are left. Nothing is written.
+// goes on. Each reader takes the rest of the text as its slice and answers how many bytes are left. Nothing is written.
 use netlist::Refusal;
+use text_scan::Scan;
 use words_layout::bytes::byte_at;
 use words_refusals::Test;
 ghost use mathlib.Core.Path.{_≡_};
@@ -10,24 +10,7 @@ ghost use Rattle.netlist.specs.declared.Refusal.the-variants.{SyntaxError};
 ghost use Rattle.words_refusals.specs.Tests.{testAt};
 ghost use Rattle.text_recogniser.specs.Scan.{firstBad};
 
-pub mod bytes;
 mod lines;
-mod names;
-pub mod pairs;
-mod terms;
-
-// What a reader answers: the bytes left behind what it read, or the bytes left from the bad one on.
-pub enum Scan {
-    Next(usize),
-    Bad(usize),
-}
-
-// What the reader of a kind answers: the kind's number and the bytes left behind its word, or the bytes left from the
-// bad one on.
-enum Kind {
-    Is { kind: usize, left: usize },
-    Bad(usize),
-}
 
 // Refusal 2: the place of the first byte that no legal text has there. The loop lends each line's reader the rest of
 // the text; `phase` says which lines may still come.

@@ -43,12 +43,16 @@ module _ {number detail : ℕ} (n : number < 18446744073709551616) (d : detail <
   unfolding toldLine
   line-length = simp length-append (omega (arith, number-short number n, number-short detail d))
 
-pub line-told : (r : Refusal) (entry exit : List ℕ) (end : ℕ) {number detail : ℕ} → maxLine ≤ length entry → number ≡ refusalNumber r → detail ≡ refusalDetail r
-    → number < 18446744073709551616 → detail < 18446744073709551616 → Appended (toldLine number detail) entry 0 exit end → Shown (refused r) entry exit end
+pub line-told : (r : Refusal) (entry exit : List ℕ) (end : ℕ) {number detail : ℕ} → maxLine ≤ length entry
+    → number ≡ refusalNumber r → detail ≡ refusalDetail r
+    → number < 18446744073709551616 → detail < 18446744073709551616 → Appended (toldLine number detail) entry 0 exit end
+    → Shown (refused r) entry exit end
 unfolding shown refusalLine toldLine
 line-told r entry exit end {number} {detail} room e f n d a =
     let is : toldLine number detail ≡ refusalLine r = rw (e, f) refl in
     record {
-      textIs = a .textIs ∙ sets-placed (toldLine number detail) entry (omega (arith, line-length n d, room)) ∙ ap (λ (l : List ℕ). placed l entry) is;
+      textIs =
+          a .textIs ∙ sets-placed (toldLine number detail) entry (omega (arith, line-length n d, room))
+          ∙ ap (λ (l : List ℕ). placed l entry) is;
       countIs = a .endIs ∙ rw (zero-add) (ap length is);
     }

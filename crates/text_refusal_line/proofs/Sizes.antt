@@ -1,4 +1,5 @@
--- What fits into a slice of a given room: refusals, results that are short enough, and the largest block that Read gives. Assumes nothing.
+-- What fits into a slice of a given room: refusals, results that are short enough, and the largest block that Read
+-- gives. Assumes nothing.
 use mathlib.Core.Path.{_≡_, refl, sym, ap, _∙_}
 use mathlib.Core.Bool.{Bool, true, false}
 use mathlib.Core.Option.{Option, none, some}
@@ -15,10 +16,10 @@ use Rattle.netlist.specs.Parse.{Parsed, got, stuck, parse}
 use Rattle.netlist.specs.Reading.{isOverLimit, firstDuplicate, firstUndeclared, blockOf}
 use Rattle.netlist.specs.Answers.{Outcome, refused, refuseIf, refuseAt}
 use Rattle.netlist.specs.Operations.{counted, readTree, readParsed, readText}
-use Rattle.text_symbols.specs.Results.{treeCounts}
+use Rattle.text_counts.specs.Counting.{treeCounts}
 use Rattle.theory_grammar.proofs.Limits.{limits-within}
-use Rattle.op_read.specs.Words.{wordCount}
-use Rattle.op_read.proofs.BlockWords.{block-length}
+use Rattle.text_block.specs.Words.{wordCount}
+use Rattle.text_expressions.proofs.BlockSize.{block-length}
 use Rattle.text_refusal_line.proofs.Told.{Fits}
 
 module _ (room : ℕ) where
@@ -58,7 +59,8 @@ module _ (room : ℕ) where
     parsed-fits text (stuck left) = refused-fits _
     parsed-fits text (got t rest) =
         if-fits (isOverLimit t) _ _
-        (λ o. at-fits (firstDuplicate t) _ _ (at-fits (firstUndeclared t) _ _ (counted-fits (encode (blockOf t)) (read-length t o))))
+        (λ o. at-fits (firstDuplicate t) _ _
+        (at-fits (firstUndeclared t) _ _ (counted-fits (encode (blockOf t)) (read-length t o))))
 
     pub read-fits : (text : List ℕ) → Fits room (readText text)
     unfolding readText

@@ -17,7 +17,8 @@ use Rattle.text_refusal_line.specs.Shown.{Shown}
 
 -- the result fits, and the count is its length
 pub record Fits (room : ℕ) (o : Outcome) : Type 0 where
-  pub fits : (result : List ℕ) (count detail : ℕ) → o ≡ done result count detail → (length result ≤ room) × (count ≡ length result)
+  pub fits : (result : List ℕ) (count detail : ℕ) → o ≡ done result count detail
+      → (length result ≤ room) × (count ≡ length result)
 
 -- then there is no refusal 11
 pub in-room : (room : ℕ) (o : Outcome) → Fits room o → inRoom room o ≡ o
@@ -76,16 +77,19 @@ module _ (o : Outcome) (a : Answer) (entry exit : List ℕ) (f : Fits (length en
 
 -- ---- what is shown
 
-pub shown-refused : (o : Outcome) (r : Refusal) (entry mid exit : List ℕ) (n : ℕ) → o ≡ refused r → mid ≡ entry → Shown (refused r) mid exit n
+pub shown-refused : (o : Outcome) (r : Refusal) (entry mid exit : List ℕ) (n : ℕ) → o ≡ refused r → mid ≡ entry
+    → Shown (refused r) mid exit n
     → Shown o entry exit n
 shown-refused o r entry mid exit n e k s = rw (e, ← k) s
 
-pub shown-gave : {o : Outcome} {entry exit : List ℕ} {count detail : ℕ} → Gave o entry exit count detail → Shown o entry exit count
+pub shown-gave : {o : Outcome} {entry exit : List ℕ} {count detail : ℕ} → Gave o entry exit count detail
+    → Shown o entry exit count
 unfolding shown
 shown-gave g = record { textIs = rw (g .is) (g .left); countIs = rw (g .is) (g .counts) }
 
 pub shown-is : {o u : Outcome} {entry exit : List ℕ} {n : ℕ} → o ≡ u → Shown u entry exit n → Shown o entry exit n
 shown-is e s = rw e s
 
-pub gave-within : {o : Outcome} {entry exit : List ℕ} {count detail : ℕ} → Gave o entry exit count detail → count ≤ length exit
+pub gave-within : {o : Outcome} {entry exit : List ℕ} {count detail : ℕ} → Gave o entry exit count detail
+    → count ≤ length exit
 gave-within {o} {entry} g = rw (g .left) (placed-room (g .result) entry (sym (g .counts)))

@@ -1,6 +1,3 @@
-pub mod Packed
-pub mod Lines
-pub mod Search
-pub mod Index
-pub mod Trees
+-- What the contracts of this crate add to the definitions of `netlist`.
+pub mod Tables
 pub mod Results

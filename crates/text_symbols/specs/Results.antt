@@ -1,53 +1,25 @@
--- What the functions of src/ answer, in terms of the tree that a text prints.
-use Prim.Native.Nat.{ℕ, _+_, _-_, _≤_, _<_}
+-- What the functions of src/ answer, in terms of the tree that a text prints. Assumes nothing.
+use Prim.Native.Nat.{ℕ, _+_, _≤_, _<_}
 use mathlib.Core.Path.{_≡_}
-use mathlib.Core.Bool.{Bool, true, not, _&&_}
+use mathlib.Core.Bool.{true}
 use mathlib.Core.List.{List, [], _++_, map}
 use mathlib.Core.Option.{Option}
 use lib.ListN.{length, getD, take}
-use lib.Dec.{leb}
-use Rattle.prelude.specs.Lists.{sum}
 use Rattle.netlist.specs.declared.Refusal.the-variants.{DuplicateDeclaration}
 use Rattle.words_refusals.specs.declared.Test.{Test}
 use Rattle.words_refusals.specs.declared.Test.the-variants.{Passed}
 use Rattle.words_refusals.specs.Tests.{testAt}
-use Rattle.netlist.specs.Limits.{maxText, maxInputs, maxNevers, maxGates, maxOutputs}
+use Rattle.netlist.specs.Limits.{maxText, maxInputs, maxGates}
 use Rattle.netlist.specs.StoredBlock.{nodeWord}
 use Rattle.netlist.specs.Syntax.{Tree, isLegalTree}
-use Rattle.netlist.specs.Reading.{Mention, Binding, lineGates, gateLinesAt, declaredNodes, declaredPorts, bindings, firstRepeat, orElse}
-use Rattle.text_symbols.specs.Packed.{packed}
-use Rattle.text_symbols.specs.Lines.{times, timesBehind, tableSize}
-use Rattle.text_symbols.specs.Index.{hashes, Indexed}
-use Rattle.text_symbols.specs.Trees.{TextOf}
-use Rattle.text_symbols.specs.declared.Counts.{Counts}
-
--- the counts as the bytes of the lines behind never lines give them: each line has one bracket of its own, each gate
--- one more; `g` stands behind those of named gates alone. The lines before are counted already
-unfoldable pub countsOf : ℕ → ℕ → List ℕ → Counts
-countsOf inputs nevers rest =
-    record {
-      inputs = inputs;
-      nevers = nevers;
-      named = timesBehind 40 103 rest;
-      outputs = times 10 rest - timesBehind 40 103 rest;
-      gates = times 40 rest - times 10 rest;
-    }
-
--- the counts as the tree gives them
-unfoldable pub treeCounts : Tree → Counts
-treeCounts t =
-    record {
-      inputs = length (t .inputs);
-      nevers = length (t .nevers);
-      named = length (t .gates);
-      outputs = length (t .outputs);
-      gates = sum (map lineGates (t .gates));
-    }
-
--- refusal 3, from the counts
-unfoldable pub isOver : Counts → Bool
-isOver c =
-    not (leb (c .inputs) maxInputs && leb (c .nevers) maxNevers && leb (c .gates) maxGates && leb (c .outputs) maxOutputs)
+use Rattle.netlist.specs.Reading.{Mention, Binding, gateLinesAt, declaredNodes, declaredPorts, bindings, firstRepeat}
+use Rattle.netlist.specs.Reading.{orElse}
+use Rattle.text_names.specs.Packed.{packed}
+use Rattle.text_counts.specs.Counting.{treeCounts}
+use Rattle.text_symbols.specs.Tables.{tableSize}
+use Rattle.text_names.specs.Index.{hashes, Indexed}
+use Rattle.text_lines.specs.Trees.{TextOf}
+use Rattle.text_counts.specs.declared.Counts.{Counts}
 
 -- every declaration, in the order of the text: the nodes, then the ports
 unfoldable pub declared : Tree → List Mention
@@ -73,6 +45,12 @@ pub record Declared (t : Tree) (names places words : List ℕ) : Type 0 where
   pub table : NameTable t names places
   pub nodesAre : take (length (bindings t)) words ≡ nodeWords t
 
+-- a text, and room for the numbers of the names of n inputs
+pub record InputRoom (text : List ℕ) (n : ℕ) (inputs : List ℕ) : Type 0 where
+  pub short : length text ≤ maxText
+  pub few : n ≤ maxInputs
+  pub room : length inputs ≡ maxInputs
+
 -- a table begins with the numbers of the names of n inputs
 pub record InputNames (text : List ℕ) (n : ℕ) (inputs : List ℕ) : Type 0 where
   pub sized : length inputs ≡ maxInputs
@@ -89,7 +67,8 @@ pub record TableRoom (c : Counts) (text : List ℕ) (end : ℕ) (names places wo
   pub nodeRoom : tableSize ≤ length words
 
 -- the tables keep their lengths and are those of the tree
-pub record Filled (c : Counts) (text : List ℕ) (end : ℕ) (names places words names′ places′ words′ : List ℕ) : Type 0 where
+pub record Filled (c : Counts) (text : List ℕ) (end : ℕ) (names places words names′ places′ words′ : List ℕ) : Type
+    0 where
   pub nameSize : length names′ ≡ length names
   pub placeSize : length places′ ≡ length places
   pub nodeSize : length words′ ≡ length words
@@ -97,7 +76,8 @@ pub record Filled (c : Counts) (text : List ℕ) (end : ℕ) (names places words
 
 -- the index holds the names of the declared nodes
 abbrev pub NodesIndexed : Counts → List ℕ → List ℕ → Type 0
-NodesIndexed c names index = Indexed (take (c .inputs + c .named) names) (length (take (c .inputs + c .named) names)) index
+NodesIndexed c names index =
+    Indexed (take (c .inputs + c .named) names) (length (take (c .inputs + c .named) names)) index
 
 -- the tables of names and places are filled for these counts, and the index is empty
 pub record IndexReady (c : Counts) (names places index : List ℕ) : Type 0 where
@@ -113,5 +93,6 @@ declaredTwice t = orElse (firstRepeat [] (declaredNodes t)) (firstRepeat [] (dec
 
 -- the answer of refusal 4 outside never lines; where it passes, the index holds the names
 pub record Repeats (c : Counts) (names places index : List ℕ) (r : Test) : Type 0 where
-  pub answer : (t : Tree) → isLegalTree t ≡ true → c ≡ treeCounts t → NameTable t names places → r ≡ testAt (declaredTwice t) DuplicateDeclaration
+  pub answer : (t : Tree) → isLegalTree t ≡ true → c ≡ treeCounts t → NameTable t names places
+      → r ≡ testAt (declaredTwice t) DuplicateDeclaration
   pub indexed : r ≡ Passed → NodesIndexed c names index

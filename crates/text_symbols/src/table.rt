@@ -1,34 +1,21 @@
 // The table of declared names, in the order of the text: numbers of the names, their places, and the node numbers of
 // inputs and gates.
-use crate::Counts;
-use crate::lines::line_of;
-use crate::pack::pack_at;
+use text_counts::Counts;
+use text_lines::line_of;
+use text_names::pack::fill_names;
+use text_names::pack::pack_at;
 use words_layout::limits::MAX_GATES;
 use words_layout::limits::MAX_INPUTS;
 use words_layout::limits::MAX_OUTPUTS;
 ghost use mathlib.Core.Path.{_≡_};
 ghost use Prim.Native.Nat.{_≤_};
 ghost use lib.ListN.{length};
-ghost use Rattle.prelude.specs.Lists.{tab, placed};
 ghost use Rattle.netlist.specs.Limits.{maxText, maxInputs};
-ghost use Rattle.text_symbols.specs.Lines.{lineWord, FillReady, FilledTo};
-ghost use Rattle.text_symbols.specs.Packed.{packedThrough};
-ghost use Rattle.text_symbols.specs.Results.{InputNames, TableRoom, Filled};
+ghost use Rattle.text_symbols.specs.Tables.{lineWord, FillReady, FilledTo};
+ghost use Rattle.text_symbols.specs.Results.{InputRoom, InputNames, TableRoom, Filled};
 
 // The names that the largest text declares.
 pub const NAMES: usize = MAX_INPUTS + MAX_GATES + MAX_OUTPUTS;
-
-// The number of the name at each of these places.
-pub fn fill_names(text: &[u8], places: &[usize], lines: usize, names: &mut [u64])
-    requires { ⌜ (lines ≤ length (now places)) × (lines ≤ length (now names)) ⌝ }
-    ensures { λ r. ⌜ now (names .exit) ≡ placed (tab (packedThrough (now (text .entry)) (now (places .entry))) lines) (now (names .entry)) ⌝ }
-{
-    let mut i = 0;
-    while i < lines {
-        names[i] = pack_at(text, places[i]);
-        i += 1;
-    }
-}
 
 // The node that line i declares when `gates` gates close up to its end.
 fn line_word(n: usize, i: usize, gates: usize) -> usize
@@ -70,7 +57,7 @@ fn fill_lines(
 
 // The numbers of the names that the first n lines declare, which are those of the inputs.
 pub fn input_names(text: &[u8], n: usize, inputs: &mut [u64; MAX_INPUTS])
-    requires { ⌜ (length (now text) ≤ maxText) × (n ≤ maxInputs) × (length (now inputs) ≡ maxInputs) ⌝ }
+    requires { ⌜ InputRoom (now text) n (now inputs) ⌝ }
     ensures { λ r. ⌜ InputNames (now (text .entry)) n (now (inputs .exit)) ⌝ }
 {
     let mut at = 0;

@@ -1,4 +1,5 @@
--- The whole way to the board: from what a rendering is (`Renders`) and what its cells are (`RunsAs`), and from nothing else of either.
+-- The whole way to the board: from what a rendering is (`Renders`) and what its cells are (`RunsAs`), and from nothing
+-- else of either.
 --   whole-way            of words that render the original and of cells that run as they pass
 --   whole-way-made       where making is done with the cells
 --   whole-way-promised   from the promises of the two operations, whenever both answer 0
@@ -42,7 +43,8 @@ module _ (n s : ℕ) where
 
   bytes-low : isTwoValued (bytesOfSetting n s) ≡ true
   unfolding bytesOfSetting settingOf isTwoValued code
-  bytes-low = all-map (λ v. leb v 1) code (settingOf n s) ∙ all-tab-from (λ v. leb (code v) 1) (λ i. val (eqb (bit s i) 1)) n (λ i l. low (eqb (bit s i) 1))
+  bytes-low = all-map (λ v. leb v 1) code (settingOf n s)
+      ∙ all-tab-from (λ v. leb (code v) 1) (λ i. val (eqb (bit s i) 1)) n (λ i l. low (eqb (bit s i) 1))
     where
       low : (t : Bool) → leb (code (val t)) 1 ≡ true
       low true = refl
@@ -51,19 +53,25 @@ module _ (n s : ℕ) where
 -- ---- what the outputs show
 
 -- a node that is there is read alike in codes and in values
-node-read : (b : Block) (x state : List Value) → length x ≡ inputCount b → length state ≡ gateCount b → (o : Operand) → isNode b o ≡ true
+node-read : (b : Block) (x state : List Value) → length x ≡ inputCount b → length state ≡ gateCount b → (o : Operand)
+    → isNode b o ≡ true
     → operandBit (map code x) (map code state) o ≡ code (operandValue x state o)
 unfolding operandBit operandValue isNode
 node-read b x state e f (input i) t = getD-map code x i undefined 0 (rw e (ltb-true i (inputCount b) t))
 node-read b x state e f (gate j) t = getD-map code state j undefined 0 (rw f (ltb-true j (gateCount b) t))
 node-read b x state e f (constant c) t = not-both t refl
 
-outputs-read : (b : Block) (x state : List Value) → length x ≡ inputCount b → length state ≡ gateCount b → (os : List Output)
-    → all (λ o. isNode b (o .node)) os ≡ true → map (shownByte (map code x) (map code state)) os ≡ map code (map (outputValue x state) os)
+outputs-read : (b : Block) (x state : List Value) → length x ≡ inputCount b → length state ≡ gateCount b
+    → (os : List Output)
+    → all (λ o. isNode b (o .node)) os ≡ true
+    → map (shownByte (map code x) (map code state)) os ≡ map code (map (outputValue x state) os)
 unfolding shownByte outputValue
 outputs-read b x state e f [] t = refl
 outputs-read b x state e f (o ∷ os) t =
-    rw (node-read b x state e f (o .node) (and-left (isNode b (o .node)) _ t), outputs-read b x state e f os (and-right (isNode b (o .node)) _ t))
+    rw (
+      node-read b x state e f (o .node) (and-left (isNode b (o .node)) _ t),
+      outputs-read b x state e f os (and-right (isNode b (o .node)) _ t),
+    )
 
 -- ---- the whole way
 
@@ -85,18 +93,22 @@ module _ (ws out cells : List ℕ) (r : Renders ws out) (c : RunsAs out cells) w
         at (c .agrees .swept (bytesOfSetting n s) (length-bytes n s ∙ sym same-count) (bytes-low n s))
 
     runs-at : (room : ℕ) → cellCount cells ≤ room
-        → runCells n cells (bytesOfSetting n s) room ≡ done (cellValues n cells (bytesOfSetting n s)) (cellCount cells) 0
+        → runCells n cells (bytesOfSetting n s) room
+        ≡ done (cellValues n cells (bytesOfSetting n s)) (cellCount cells) 0
     runs-at room l =
-        run-done n cells (bytesOfSetting n s) room (rw same-count at (c .agrees .legal)) (length-bytes n s) (bytes-low n s) l
+        run-done n cells (bytesOfSetting n s) room (rw same-count at (c .agrees .legal)) (length-bytes n s)
+        (bytes-low n s) l
 
     outputs-at : s < settingCount (decode ws) → isExcluded (decode ws) s ≡ false
-        → map (shownByte (bytesOfSetting n s) (cellValues n cells (bytesOfSetting n s))) (decode out .outputs) ≡ map code (outputsUnder (decode ws) s)
+        → map (shownByte (bytesOfSetting n s) (cellValues n cells (bytesOfSetting n s))) (decode out .outputs)
+        ≡ map code (outputsUnder (decode ws) s)
     unfolding bytesOfSetting settingOf outputsUnder
     outputs-at l e =
         let b = decode out in
         let nodes = wellFormed-parts b (whole-wellFormed out (r .notTorn)) .nodesThere in
         let long : length x ≡ inputCount b = length-tab (λ i. val (eqb (bit s i) 1)) n ∙ sym same-count in
-        rw values-swept (outputs-read b x (sweep b x) long (length-sweep b x) (b .outputs) nodes ∙ ap (map code) (r .sameOutputs s l e))
+        rw values-swept (outputs-read b x (sweep b x) long (length-sweep b x) (b .outputs) nodes
+        ∙ ap (map code) (r .sameOutputs s l e))
 
   pub whole-way : Drives ws out cells
   whole-way =
@@ -108,10 +120,13 @@ module _ (ws out cells : List ℕ) (r : Renders ws out) (c : RunsAs out cells) w
       }
 
 -- where making is done with the cells
-pub whole-way-made : (ws out cells : List ℕ) (room : ℕ) {count detail : ℕ} → Renders ws out → makeCells out room ≡ done cells count detail → Drives ws out cells
+pub whole-way-made : (ws out cells : List ℕ) (room : ℕ) {count detail : ℕ} → Renders ws out
+    → makeCells out room ≡ done cells count detail → Drives ws out cells
 whole-way-made ws out cells room r e = whole-way ws out cells r (done-cells out cells room e)
 
 -- from the promises of Render and of Cells, whenever both answer 0
-pub whole-way-promised : {ws entry exit entry′ exit′ : List ℕ} {a a′ : Answer} → RenderPromise ws entry a exit → numberOf a ≡ 0
-    → CellsPromise (take (countOf a) exit) entry′ a′ exit′ → numberOf a′ ≡ 0 → Drives ws (take (countOf a) exit) (take (countOf a′) exit′)
+pub whole-way-promised : {ws entry exit entry′ exit′ : List ℕ} {a a′ : Answer} → RenderPromise ws entry a exit
+    → numberOf a ≡ 0
+    → CellsPromise (take (countOf a) exit) entry′ a′ exit′ → numberOf a′ ≡ 0
+    → Drives ws (take (countOf a) exit) (take (countOf a′) exit′)
 whole-way-promised p z q z′ = whole-way _ _ _ (p .renders z) (q .runs z′)

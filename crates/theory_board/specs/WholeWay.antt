@@ -27,7 +27,8 @@ pub record ShowsAt (ws out cells : List ℕ) (s : ℕ) : Type 0 where
   pub runs : (room : ℕ) → cellCount cells ≤ room → let n = inputCount (decode ws) in
       runCells n cells (bytesOfSetting n s) room ≡ done (cellValues n cells (bytesOfSetting n s)) (cellCount cells) 0
   pub outputs : let n = inputCount (decode ws) in
-      map (shownByte (bytesOfSetting n s) (cellValues n cells (bytesOfSetting n s))) (decode out .outputs) ≡ map code (outputsUnder (decode ws) s)
+      map (shownByte (bytesOfSetting n s) (cellValues n cells (bytesOfSetting n s))) (decode out .outputs)
+      ≡ map code (outputsUnder (decode ws) s)
 
 -- The original's words `ws`, its rendering's words `out`, and the `cells` made of these: the inputs and the ports are
 -- the original's, a run takes the cells, and every setting that isn't excluded shows the original's outputs.

@@ -29,7 +29,8 @@ record Passed (torn legal long listed : Bool) (o : Outcome) (r : Outcome) : Type
   same : o ≡ r
 
 done-passed : (torn legal long listed : Bool) (o : Outcome) {count detail : ℕ}
-    → refuseIf torn MalformedBlock (refuseIf (not legal) MalformedBlock (refuseIf (not long) InterfaceMismatch (refuseIf (not listed) MalformedBlock o)))
+    → refuseIf torn MalformedBlock (refuseIf (not legal) MalformedBlock
+    (refuseIf (not long) InterfaceMismatch (refuseIf (not listed) MalformedBlock o)))
     ≡ done [] count detail → Passed torn legal long listed o (done [] count detail)
 unfolding refuseIf
 done-passed true legal long listed o e = let z : _≡_ {A = ℕ} 0 1 = cc in absurd (omega arith)
@@ -44,7 +45,8 @@ module _ (ws cells shown : List ℕ) where
   unfolding compareCells refuseIf isListed
   fits-compared f =
       let n = inputCount (decode ws) in
-      let listed : all (isListed n cells) shown ≡ true = all-from (isListed n cells) shown 0 (λ o l. lt-ltb (getD shown o 0) _ (f .listed o l)) in
+      let listed : all (isListed n cells) shown ≡ true =
+      all-from (isListed n cells) shown 0 (λ o l. lt-ltb (getD shown o 0) _ (f .listed o l)) in
       rw (f .block, f .legal, eq-eqb (length shown) (outputCount (decode ws)) (f .oneEach), listed) refl
 
   -- the comparison answered: nothing was refused
@@ -53,7 +55,8 @@ module _ (ws cells shown : List ℕ) where
   unfolding compareCells isListed
   compared-fits e =
       let n = inputCount (decode ws) in
-      let p = done-passed (isMalformed ws) (areLegalCells n cells) (eqb (length shown) (outputCount (decode ws))) (all (isListed n cells) shown) _ e in (
+      let p = done-passed (isMalformed ws) (areLegalCells n cells) (eqb (length shown) (outputCount (decode ws)))
+      (all (isListed n cells) shown) _ e in (
         record {
           block = p .torn′;
           legal = p .legal′;

@@ -1,4 +1,5 @@
--- Whatever Cells makes of what Render makes of a block is accepted for that block, with the rendering's own output nodes, by the whole way to the board.
+-- Whatever Cells makes of what Render makes of a block is accepted for that block, with the rendering's own output
+-- nodes, by the whole way to the board.
 --   made-accepted       of words that render the original and of cells that run as they pass
 --   promised-accepted   from the promises of the two operations, whenever both answer 0
 -- Assumes nothing.
@@ -38,7 +39,8 @@ use Rattle.theory_cell_equivalence.proofs.Answers.{answers-by}
 bits-bytes : (n s : ℕ) → settingBits n s ≡ bytesOfSetting n s
 unfolding settingBits bytesOfSetting settingOf code bit
 bits-bytes n s =
-    tab-ext (bit s) (λ i. code (val (eqb (bit s i) 1))) n (λ i l. low (bit s i) (omega arith)) ∙ sym (map-tab code (λ i. val (eqb (bit s i) 1)) n)
+    tab-ext (bit s) (λ i. code (val (eqb (bit s i) 1))) n (λ i l. low (bit s i) (omega arith))
+    ∙ sym (map-tab code (λ i. val (eqb (bit s i) 1)) n)
   where
     low : (v : ℕ) → v < 2 → v ≡ code (val (eqb v 1))
     low zero h = refl
@@ -66,17 +68,20 @@ module _ (ws out cells : List ℕ) (whole : isMalformed ws ≡ false) (r : Rende
   same-inputs = ap length (r .sameInputs)
 
   same-outputs : length (there .outputs) ≡ outputCount (decode ws)
-  same-outputs = sym (length-map (there .outputs) portOf) ∙ ap length (r .samePorts) ∙ length-map (decode ws .outputs) portOf
+  same-outputs = sym (length-map (there .outputs) portOf) ∙ ap length (r .samePorts)
+      ∙ length-map (decode ws .outputs) portOf
 
   is-node : (o : ℕ) → o < length (there .outputs) → (d : Output) → isNode there (getD (there .outputs) o d .node) ≡ true
-  is-node o l d = all-at (λ o. isNode there (o .node)) (there .outputs) o d (wellFormed-parts there (whole-wellFormed out (r .notTorn)) .nodesThere) l
+  is-node o l d = all-at (λ o. isNode there (o .node)) (there .outputs) o d
+      (wellFormed-parts there (whole-wellFormed out (r .notTorn)) .nodesThere) l
 
   -- the list has a node for each output
   length-list : length (listOf out) ≡ outputCount (decode ws)
   unfolding listOf
   length-list = length-map (there .outputs) nodeOf ∙ same-outputs
 
-  list-at : (o : ℕ) → o < length (there .outputs) → (d : Output) → getD (listOf out) o 0 ≡ nodeOf (getD (there .outputs) o d)
+  list-at : (o : ℕ) → o < length (there .outputs) → (d : Output)
+      → getD (listOf out) o 0 ≡ nodeOf (getD (there .outputs) o d)
   unfolding listOf
   list-at o l d = getD-map nodeOf (there .outputs) o d 0 l
 
@@ -90,13 +95,15 @@ module _ (ws out cells : List ℕ) (whole : isMalformed ws ≡ false) (r : Rende
   bytes s = bytesOfSetting n s
 
   shown-is : (s o : ℕ) → o < length (there .outputs)
-      → cellShown n cells (listOf out) s o ≡ shownByte (bytes s) (cellValues n cells (bytes s)) (getD (there .outputs) o nothing)
+      → cellShown n cells (listOf out) s o
+      ≡ shownByte (bytes s) (cellValues n cells (bytes s)) (getD (there .outputs) o nothing)
   unfolding cellShown shownByte
   shown-is s o l =
       let node = getD (there .outputs) o nothing .node in
       let few = few-nodes there (wellFormed-parts there (whole-wellFormed out (r .notTorn))) in
       let is : operandOf n (getD (listOf out) o 0) ≡ node =
-      rw (list-at o l nothing, ← same-inputs) (operandOf-nodeWord there node few (isNode-isOperand there node (is-node o l nothing))) in
+      rw (list-at o l nothing, ← same-inputs)
+      (operandOf-nodeWord there node few (isNode-isOperand there node (is-node o l nothing))) in
       rw (is, bits-bytes n s)
 
   made-accepts : AcceptsCells (decode ws) cells (listOf out)
@@ -105,7 +112,8 @@ module _ (ws out cells : List ℕ) (whole : isMalformed ws ≡ false) (r : Rende
       let below : o < length (there .outputs) = omega (arith, same-outputs) in
       let comes : isExcluded (decode ws) s ≡ false =
       not-true (isExcluded (decode ws) s) (and-left (not (isExcluded (decode ws) s)) (isSettled (decode ws) s) t) in
-      let shows : map (shownByte (bytes s) (cellValues n cells (bytes s))) (there .outputs) ≡ map code (outputsUnder (decode ws) s) =
+      let shows : map (shownByte (bytes s) (cellValues n cells (bytes s))) (there .outputs)
+      ≡ map code (outputsUnder (decode ws) s) =
       whole-way ws out cells r c .shows s l comes .outputs in
       let many : length (outputsUnder (decode ws) s) ≡ outputCount (decode ws) =
       sym (length-map (outputsUnder (decode ws) s) code) ∙ sym (ap length shows)
@@ -124,7 +132,8 @@ module _ (ws out cells : List ℕ) (whole : isMalformed ws ≡ false) (r : Rende
         oneEach = length-list;
         listed = λ o l.
             let below : o < length (there .outputs) = omega (arith, length-list, same-outputs) in
-            rw (list-at o below nothing, ← same-inputs, c .agrees .oneEach) (node-below there _ (is-node o below nothing));
+            rw (list-at o below nothing, ← same-inputs, c .agrees .oneEach)
+            (node-below there _ (is-node o below nothing));
       }
 
   pub made-accepted : MadeIsAccepted ws out cells
@@ -140,7 +149,8 @@ rendered-whole ws room e = go (isMalformed ws) refl
     go false h = h
 
 -- from the promises of Render and of Cells, whenever both answer 0
-pub promised-accepted : {ws entry exit entry′ exit′ : List ℕ} {a a′ : Answer} → RenderPromise ws entry a exit → numberOf a ≡ 0
+pub promised-accepted : {ws entry exit entry′ exit′ : List ℕ} {a a′ : Answer} → RenderPromise ws entry a exit
+    → numberOf a ≡ 0
     → CellsPromise (take (countOf a) exit) entry′ a′ exit′ → numberOf a′ ≡ 0
     → MadeIsAccepted ws (take (countOf a) exit) (take (countOf a′) exit′)
 promised-accepted {ws} {entry} p z q z′ =

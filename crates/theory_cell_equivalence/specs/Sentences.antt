@@ -33,8 +33,10 @@ pub record AnswersBy (ws cells shown : List ℕ) : Type 0 where
   pub says : compareCells ws cells shown ≡ done [] 0 0 → Fits ws cells shown × AcceptsCells (decode ws) cells shown
   -- any other count and detail are the lowest setting and there the lowest output, counted from 1, and these are always
   -- told
-  pub lowest : (s o : ℕ) → compareCells ws cells shown ≡ done [] (o + 1) s → Fits ws cells shown × CellDisagreement (decode ws) cells shown s o
-  pub told : (s o : ℕ) → Fits ws cells shown → CellDisagreement (decode ws) cells shown s o → compareCells ws cells shown ≡ done [] (o + 1) s
+  pub lowest : (s o : ℕ) → compareCells ws cells shown ≡ done [] (o + 1) s
+      → Fits ws cells shown × CellDisagreement (decode ws) cells shown s o
+  pub told : (s o : ℕ) → Fits ws cells shown → CellDisagreement (decode ws) cells shown s o
+      → compareCells ws cells shown ≡ done [] (o + 1) s
 
 -- the words of the nodes that the outputs of the block of `out` show
 unfoldable pub listOf : List ℕ → List ℕ

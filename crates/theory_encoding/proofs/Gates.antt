@@ -1,5 +1,5 @@
--- Gates in the stored block: the rule on five words is "the gate fits and its unused operand words are 0", and a gate and its words are each other's.
--- Cited by Outputs, RoundTrip, Readers. Assumes nothing.
+-- Gates in the stored block: the rule on five words is "the gate fits and its unused operand words are 0", and a gate
+-- and its words are each other's. Cited by Outputs, RoundTrip, Readers. Assumes nothing.
 use mathlib.Core.Path.{_≡_, refl, sym, ap, ap₂, _∙_}
 use mathlib.Core.Logic.{⊎-elim}
 use mathlib.Core.Bool.{Bool, true, false, cond, _&&_}
@@ -16,7 +16,8 @@ use Rattle.prelude.proofs.Tab.{length-tab, getD-tab, tab-ext, map-tab, tab-add}
 use Rattle.prelude.proofs.Quantifiers.{all-at, all-tab-at, all-tab-from, all-below, below-all}
 use Rattle.netlist.specs.Kinds.{isKind, arityFits, mostOperands, fewestOperands, signatureOf}
 use Rattle.netlist.specs.Netlist.{Operand, constant, Gate, Block, inputCount, gateCount}
-use Rattle.netlist.specs.StoredBlock.{gateSize, operandWords, nodeWord, operandOf, gateWords, gateAt, isOperand, gateFits}
+use Rattle.netlist.specs.StoredBlock.{gateSize, operandWords, nodeWord, operandOf, gateWords, gateAt, isOperand}
+use Rattle.netlist.specs.StoredBlock.{gateFits}
 use Rattle.theory_encoding.specs.Rules.{operandRule, gateRule}
 use Rattle.theory_encoding.proofs.ListFacts.{tab-is, getD-map}
 use Rattle.theory_encoding.proofs.Nodes.{nodeWord-operandOf, operandOf-nodeWord, isOperand-operandOf}
@@ -53,24 +54,37 @@ most-four (suc (suc (suc (suc (suc (suc (suc k))))))) = omega arith
 -- no gate has more than four operands
 pub arity-four : (k count : ℕ) → arityFits k count ≡ true → count ≤ operandWords
 unfolding arityFits
-arity-four k count h = omega (arith, most-four k, leb-true count (mostOperands k) (and-right (leb (fewestOperands k) count) (leb count (mostOperands k)) h))
+arity-four k count h = omega (
+  arith,
+  most-four k,
+  leb-true count (mostOperands k) (and-right (leb (fewestOperands k) count) (leb count (mostOperands k)) h),
+)
 
 -- `not` has one operand
 pub arity-not : (count : ℕ) → arityFits 0 count ≡ true → count ≡ 1
 unfolding arityFits mostOperands fewestOperands signatureOf
-arity-not count h = omega (arith, leb-true 1 count (and-left (leb 1 count) (leb count 1) h), leb-true count 1 (and-right (leb 1 count) (leb count 1) h))
+arity-not count h = omega (
+  arith,
+  leb-true 1 count (and-left (leb 1 count) (leb count 1) h),
+  leb-true count 1 (and-right (leb 1 count) (leb count 1) h),
+)
 
 fewest-two : (k : ℕ) → isKind k ≡ true → 1 ≤ k → fewestOperands k ≡ 2
 unfolding fewestOperands signatureOf
 fewest-two =
-    by-kind (λ k. 1 ≤ k → fewestOperands k ≡ 2) (λ l. absurd (omega arith)) (λ _. refl) (λ _. refl) (λ _. refl) (λ _. refl) (λ _. refl)
+    by-kind (λ k. 1 ≤ k → fewestOperands k ≡ 2) (λ l. absurd (omega arith)) (λ _. refl) (λ _. refl) (λ _. refl)
+    (λ _. refl) (λ _. refl)
     (λ _. refl)
 
 -- the other kinds have two at least
 pub arity-others : (k count : ℕ) → isKind k ≡ true → 1 ≤ k → arityFits k count ≡ true → 2 ≤ count
 unfolding arityFits
 arity-others k count h l e =
-    omega (arith, fewest-two k h l, leb-true (fewestOperands k) count (and-left (leb (fewestOperands k) count) (leb count (mostOperands k)) e))
+    omega (
+      arith,
+      fewest-two k h l,
+      leb-true (fewestOperands k) count (and-left (leb (fewestOperands k) count) (leb count (mostOperands k)) e),
+    )
 
 -- ---- a gate's five words
 
@@ -87,10 +101,12 @@ pub no-operand-word : (n : ℕ) (os : List Operand) (i : ℕ) → length os ≤ 
 no-operand-word n os i l = List·getD-eq-default (map (nodeWord n) os) 0 (rw (length-map os (nodeWord n)) l)
 
 -- the words of a gate read from words are those words, if the unused ones are 0
-pub gateWords-gateAt : (n : ℕ) (ws : List ℕ) (at : ℕ) → Unused ws at → gateWords n (gateAt n ws at) ≡ tab (λ i. getD ws (at + i) 0) gateSize
+pub gateWords-gateAt : (n : ℕ) (ws : List ℕ) (at : ℕ)
+    → Unused ws at → gateWords n (gateAt n ws at) ≡ tab (λ i. getD ws (at + i) 0) gateSize
 unfolding gateWords gateAt
 gateWords-gateAt n ws at unused =
-    ap₂ _∷_ head (tab-ext (λ i. getD (map (nodeWord n) (tab operand count)) i 0) (λ i. getD ws (at + (1 + i)) 0) operandWords tail)
+    ap₂ _∷_ head (tab-ext (λ i. getD (map (nodeWord n) (tab operand count)) i 0) (λ i. getD ws (at + (1 + i)) 0)
+    operandWords tail)
     ∙ sym (tab-add (λ i. getD ws (at + i) 0) 1 operandWords)
   where
     count : ℕ
@@ -111,7 +127,8 @@ gateWords-gateAt n ws at unused =
           nodeWord-operandOf n (getD ws (at + 1 + i) 0),
           add-assoc at 1 i,
         ))
-        (λ k. no-operand-word n (tab operand count) i (rw (length-tab operand count) k) ∙ sym (unused i k l) ∙ rw (add-assoc at 1 i))
+        (λ k. no-operand-word n (tab operand count) i (rw (length-tab operand count) k) ∙ sym (unused i k l)
+        ∙ rw (add-assoc at 1 i))
         (lt-or-le i count)
 
 -- a gate's words stand at `at`
@@ -128,14 +145,16 @@ module _ (n : ℕ) (ws : List ℕ) (at : ℕ) (g : Gate) (standing : GateStands 
   tail-word i l =
       let next : 1 + i ≡ suc i = omega arith in
       rw (add-assoc at 1 i)
-      (standing (1 + i) (omega arith) ∙ rw next (getD-tab (λ i. getD (map (nodeWord n) (g .operands)) i 0) operandWords i 0 l))
+      (standing (1 + i) (omega arith)
+      ∙ rw next (getD-tab (λ i. getD (map (nodeWord n) (g .operands)) i 0) operandWords i 0 l))
 
 -- where a gate read from words has these words, the unused ones are 0
 pub stands-unused : (n : ℕ) (ws : List ℕ) (at : ℕ) → GateStands n ws at (gateAt n ws at) → Unused ws at
 unfolding gateAt
 stands-unused n ws at standing i few l =
     tail-word n ws at (gateAt n ws at) standing i l
-    ∙ no-operand-word n (gateAt n ws at .operands) i (rw (length-tab (λ i. operandOf n (getD ws (at + 1 + i) 0)) (getD ws at 0 / 8)) few)
+    ∙ no-operand-word n (gateAt n ws at .operands) i
+    (rw (length-tab (λ i. operandOf n (getD ws (at + 1 + i) 0)) (getD ws at 0 / 8)) few)
 
 -- ---- the parts of "the gate fits"
 
@@ -154,9 +173,11 @@ module _ (b : Block) (g : Gate) (fits : gateFits b g ≡ true) where
 
   pub fits-operands : all (isOperand b) (g .operands) ≡ true
   unfolding gateFits
-  fits-operands = and-right (isKind (g .kind) && arityFits (g .kind) (length (g .operands))) (all (isOperand b) (g .operands)) fits
+  fits-operands =
+      and-right (isKind (g .kind) && arityFits (g .kind) (length (g .operands))) (all (isOperand b) (g .operands)) fits
 
-pub fits-from : (b : Block) (g : Gate) → isKind (g .kind) ≡ true → arityFits (g .kind) (length (g .operands)) ≡ true → all (isOperand b) (g .operands) ≡ true
+pub fits-from : (b : Block) (g : Gate) → isKind (g .kind) ≡ true → arityFits (g .kind) (length (g .operands)) ≡ true
+    → all (isOperand b) (g .operands) ≡ true
     → gateFits b g ≡ true
 unfolding gateFits
 fits-from b g k a o =
@@ -165,7 +186,8 @@ fits-from b g k a o =
     o
 
 -- where a fitting gate's words stand, that gate is read
-pub gateAt-gateWords : (b : Block) (ws : List ℕ) (at : ℕ) (g : Gate) → inputCount b + gateCount b ≤ 65534 → gateFits b g ≡ true
+pub gateAt-gateWords : (b : Block) (ws : List ℕ) (at : ℕ) (g : Gate) → inputCount b + gateCount b ≤ 65534
+    → gateFits b g ≡ true
     → GateStands (inputCount b) ws at g → gateAt (inputCount b) ws at ≡ g
 unfolding gateAt
 gateAt-gateWords b ws at g few fits standing = λ i. record { kind = kind-is i; operands = operands-are i }
@@ -182,12 +204,15 @@ gateAt-gateWords b ws at g few fits standing = λ i. record { kind = kind-is i; 
     count-is : getD ws at 0 / 8 ≡ length (g .operands)
     count-is = rw (head-word n ws at g standing) (omega (arith, small))
 
-    operand-is : (i : ℕ) → i < length (g .operands) → operandOf n (getD ws (at + 1 + i) 0) ≡ getD (g .operands) i (constant false)
+    operand-is : (i : ℕ) → i < length (g .operands)
+        → operandOf n (getD ws (at + 1 + i) 0) ≡ getD (g .operands) i (constant false)
     operand-is i l =
         ap (operandOf n)
-        (tail-word n ws at g standing i (omega (arith, arity-four (g .kind) (length (g .operands)) (fits-arity b g fits)))
+        (tail-word n ws at g standing i
+        (omega (arith, arity-four (g .kind) (length (g .operands)) (fits-arity b g fits)))
         ∙ getD-map (nodeWord n) (g .operands) i (constant false) 0 l)
-        ∙ operandOf-nodeWord b (getD (g .operands) i (constant false)) few (all-at (isOperand b) (g .operands) i (constant false) (fits-operands b g fits) l)
+        ∙ operandOf-nodeWord b (getD (g .operands) i (constant false)) few
+        (all-at (isOperand b) (g .operands) i (constant false) (fits-operands b g fits) l)
 
     operands-are : tab (λ i. operandOf n (getD ws (at + 1 + i) 0)) (getD ws at 0 / 8) ≡ g .operands
     operands-are =
@@ -200,7 +225,8 @@ header-test : List ℕ → ℕ → Bool
 header-test ws at = isKind (getD ws at 0 % 8) && arityFits (getD ws at 0 % 8) (getD ws at 0 / 8)
 
 operand-test : List ℕ → ℕ → ℕ → ℕ → Bool
-operand-test ws nodes at i = cond (ltb i (getD ws at 0 / 8)) (operandRule nodes (getD ws (at + 1 + i) 0)) (eqb (getD ws (at + 1 + i) 0) 0)
+operand-test ws nodes at i =
+    cond (ltb i (getD ws at 0 / 8)) (operandRule nodes (getD ws (at + 1 + i) 0)) (eqb (getD ws (at + 1 + i) 0) 0)
 
 module _ (ws : List ℕ) (nodes at : ℕ) (rule : gateRule ws nodes at ≡ true) where
   header : header-test ws at ≡ true
@@ -223,12 +249,14 @@ module _ (ws : List ℕ) (nodes at : ℕ) (rule : gateRule ws nodes at ≡ true)
   unfolding operand-test
   gateRule-operand i l =
       rw (lt-ltb i (getD ws at 0 / 8) l)
-      at (all-below (operand-test ws nodes at) operandWords i operand-words (omega (arith, arity-four (getD ws at 0 % 8) (getD ws at 0 / 8) gateRule-arity)))
+      at (all-below (operand-test ws nodes at) operandWords i operand-words
+      (omega (arith, arity-four (getD ws at 0 % 8) (getD ws at 0 / 8) gateRule-arity)))
 
   pub gateRule-unused : Unused ws at
   unfolding operand-test
   gateRule-unused i k l =
-      eqb-true (getD ws (at + 1 + i) 0) 0 (rw (le-ltb i (getD ws at 0 / 8) k) at (all-below (operand-test ws nodes at) operandWords i operand-words l))
+      eqb-true (getD ws (at + 1 + i) 0) 0
+      (rw (le-ltb i (getD ws at 0 / 8) k) at (all-below (operand-test ws nodes at) operandWords i operand-words l))
 
 module _ (ws : List ℕ) (at : ℕ) (b : Block) (n m : ℕ) (inputs : inputCount b ≡ n) (gates : gateCount b ≡ m) where
   operand : ℕ → Operand
@@ -248,7 +276,8 @@ module _ (ws : List ℕ) (at : ℕ) (b : Block) (n m : ℕ) (inputs : inputCount
   unfolding gateRule gateAt operand-test header-test operand
   gateRule-from fits unused =
       and-intro (header-test ws at) (all (operand-test ws (n + m) at) (upTo operandWords))
-      (and-intro (isKind (getD ws at 0 % 8)) (arityFits (getD ws at 0 % 8) (getD ws at 0 / 8)) (fits-kind b (gateAt n ws at) fits)
+      (and-intro (isKind (getD ws at 0 % 8)) (arityFits (getD ws at 0 % 8) (getD ws at 0 / 8))
+      (fits-kind b (gateAt n ws at) fits)
       (rw (length-tab operand (getD ws at 0 / 8)) at (fits-arity b (gateAt n ws at) fits)))
       (below-all (operand-test ws (n + m) at) operandWords
       (λ i l. ⊎-elim

@@ -1,9 +1,10 @@
--- The rules of the stored block, word by word, together say "not torn". Cited by the proof of the code that tests the rules. Assumes nothing.
+-- The rules of the stored block, word by word, together say "not malformed". Cited by the proof of the code that tests
+-- the rules. Assumes nothing.
 --   Intact: the rules on the words, each as a fact
 --   intact-parts, intact-from: the test and the facts
 --   intact-wellFormed, intact-encode: words that meet the rules hold a well-formed block and are its words
 --   encoded-intact: the other way round
---   intact-torn: the main law: the rules are "not torn"
+--   intact-torn: the main law: the rules are "not malformed"
 use mathlib.Core.Path.{_≡_, refl, sym, ap, _∙_}
 use mathlib.Core.Bool.{Bool, true, not, _&&_}
 use mathlib.Core.List.{List}
@@ -18,7 +19,8 @@ use Rattle.prelude.proofs.Quantifiers.{all-tab-at, all-tab-from, all-below, bel
 use Rattle.netlist.specs.Limits.{maxInputs, maxNevers, maxGates, maxOutputs}
 use Rattle.netlist.specs.Assignments.{Assignment}
 use Rattle.netlist.specs.Netlist.{Name, Gate, Output}
-use Rattle.netlist.specs.StoredBlock.{nameSize, neverSize, gateSize, outputSize, inputsAt, neversAt, gatesAt, outputsAt, nameAt, neverAt}
+use Rattle.netlist.specs.StoredBlock.{nameSize, neverSize, gateSize, outputSize, inputsAt, neversAt, gatesAt, outputsAt}
+use Rattle.netlist.specs.StoredBlock.{nameAt, neverAt}
 use Rattle.netlist.specs.Names.{isPlainName}
 use Rattle.netlist.specs.StoredBlock.{gateAt, outputAt, isNode, neverFits}
 use Rattle.netlist.specs.StoredBlock.{gateFits, encode, decode, isWellFormed, isMalformed}
@@ -26,10 +28,12 @@ use Rattle.theory_encoding.specs.Rules.{namesRule, neverRule, nodeRule, 
 use Rattle.theory_encoding.proofs.ListFacts.{and-parts, all-map}
 use Rattle.theory_encoding.proofs.Names.{namesRule-names}
 use Rattle.theory_encoding.proofs.Nodes.{isNode-operandOf}
-use Rattle.theory_encoding.proofs.Gates.{GateStands, gateRule-unused, gateRule-fits, gateRule-from, stands-unused}
+use Rattle.theory_encoding.proofs.Gates.{GateStands, gateRule-unused, gateRule-fits, gateRule-from}
+use Rattle.theory_encoding.proofs.Gates.{stands-unused}
 use Rattle.theory_encoding.proofs.WellFormed.{WellFormed, wellFormed-parts, wellFormed-from}
 use Rattle.theory_encoding.proofs.Encoded.{length-encode, encode-gate}
-use Rattle.theory_encoding.proofs.Decoded.{decode-inputCount, decode-gateCount, decode-outputCount, decode-neverCount, decode-gate, decode-ports}
+use Rattle.theory_encoding.proofs.Decoded.{decode-inputCount, decode-gateCount, decode-outputCount}
+use Rattle.theory_encoding.proofs.Decoded.{decode-neverCount, decode-gate, decode-ports}
 use Rattle.theory_encoding.proofs.RoundTrip.{encode-decode}
 
 -- the rules, each as a fact
@@ -44,7 +48,8 @@ pub record Intact (ws : List ℕ) (n m k : ℕ) : Type 0 where
   pub nevers : (i : ℕ) → i < getD ws 3 0 → neverRule ws n (neversAt n + neverSize * i) ≡ true
   pub gates : (j : ℕ) → j < m → gateRule ws (n + m) (gatesAt n (getD ws 3 0) + gateSize * j) ≡ true
   pub ports : namesRule ws (outputsAt n (getD ws 3 0) m) outputSize k ≡ true
-  pub nodes : (o : ℕ) → o < k → nodeRule (n + m) (getD ws (outputsAt n (getD ws 3 0) m + outputSize * o + nameSize) 0) ≡ true
+  pub nodes : (o : ℕ) → o < k
+      → nodeRule (n + m) (getD ws (outputsAt n (getD ws 3 0) m + outputSize * o + nameSize) 0) ≡ true
 
 module _ (ws : List ℕ) where
   never-test : ℕ → Bool
@@ -54,7 +59,8 @@ module _ (ws : List ℕ) where
   gate-test j = gateRule ws (getD ws 0 0 + getD ws 1 0) (gatesAt (getD ws 0 0) (getD ws 3 0) + gateSize * j)
 
   node-test : ℕ → Bool
-  node-test o = nodeRule (getD ws 0 0 + getD ws 1 0) (getD ws (outputsAt (getD ws 0 0) (getD ws 3 0) (getD ws 1 0) + outputSize * o + nameSize) 0)
+  node-test o = nodeRule (getD ws 0 0 + getD ws 1 0)
+      (getD ws (outputsAt (getD ws 0 0) (getD ws 3 0) (getD ws 1 0) + outputSize * o + nameSize) 0)
 
   -- what "intact" says, rule by rule
   pub intact-parts : intact ws ≡ true → Intact ws (getD ws 0 0) (getD ws 1 0) (getD ws 2 0)
@@ -76,7 +82,8 @@ module _ (ws : List ℕ) where
         fewGates = leb-true (getD ws 1 0) maxGates (g2 .1);
         fewOutputs = leb-true (getD ws 2 0) maxOutputs (g3 .1);
         fewNevers = leb-true (getD ws 3 0) maxNevers (g4 .1);
-        sized = eqb-true (length ws) (outputsAt (getD ws 0 0) (getD ws 3 0) (getD ws 1 0) + outputSize * getD ws 2 0) (g5 .1);
+        sized = eqb-true (length ws) (outputsAt (getD ws 0 0) (getD ws 3 0) (getD ws 1 0) + outputSize * getD ws 2 0)
+            (g5 .1);
         inputNames = h1 .1;
         nevers = λ i l. all-below never-test (getD ws 3 0) i (h2 .1) l;
         gates = λ j l. all-below gate-test (getD ws 1 0) j (h3 .1) l;
@@ -93,7 +100,8 @@ module _ (ws : List ℕ) where
       let gates = le-leb (getD ws 1 0) maxGates (w .fewGates) in
       let outputs = le-leb (getD ws 2 0) maxOutputs (w .fewOutputs) in
       let nevers = le-leb (getD ws 3 0) maxNevers (w .fewNevers) in
-      let sized = eq-eqb (length ws) (outputsAt (getD ws 0 0) (getD ws 3 0) (getD ws 1 0) + outputSize * getD ws 2 0) (w .sized) in
+      let sized = eq-eqb (length ws) (outputsAt (getD ws 0 0) (getD ws 3 0) (getD ws 1 0) + outputSize * getD ws 2 0)
+      (w .sized) in
       rw (
         long,
         inputs,
@@ -123,7 +131,8 @@ module _ (ws : List ℕ) where
   never-at : ℕ → Assignment
   never-at i = neverAt ws (neversAt (getD ws 0 0) + neverSize * i)
 
-  never-rule : (i : ℕ) → neverFits (decode ws) (never-at i) ≡ neverRule ws (getD ws 0 0) (neversAt (getD ws 0 0) + neverSize * i)
+  never-rule : (i : ℕ) → neverFits (decode ws) (never-at i)
+      ≡ neverRule ws (getD ws 0 0) (neversAt (getD ws 0 0) + neverSize * i)
   unfolding neverFits neverRule never-at neverAt
   never-rule i = rw (decode-inputCount ws)
 
@@ -148,13 +157,15 @@ module _ (ws : List ℕ) where
         neversFit = all-tab-from (neverFits (decode ws)) never-at (getD ws 3 0) (λ i l. never-rule i ∙ w .nevers i l);
         gatesFit =
             all-tab-from (gateFits (decode ws)) gate-at (getD ws 1 0)
-            (λ j l. gateRule-fits ws (gatesAt (getD ws 0 0) (getD ws 3 0) + gateSize * j) (decode ws) (getD ws 0 0) (getD ws 1 0) (decode-inputCount ws)
+            (λ j l. gateRule-fits ws (gatesAt (getD ws 0 0) (getD ws 3 0) + gateSize * j) (decode ws) (getD ws 0 0)
+            (getD ws 1 0) (decode-inputCount ws)
             (decode-gateCount ws) (w .gates j l));
         portNames =
             sym (all-map isPlainName port-of (decode ws .outputs))
             ∙ ap (all isPlainName) (decode-ports ws)
             ∙ and-left (all isPlainName (tab port (getD ws 2 0))) (distinct (tab port (getD ws 2 0))) ports;
-        portsDistinct = ap distinct (decode-ports ws) ∙ and-right (all isPlainName (tab port (getD ws 2 0))) (distinct (tab port (getD ws 2 0))) ports;
+        portsDistinct = ap distinct (decode-ports ws)
+            ∙ and-right (all isPlainName (tab port (getD ws 2 0))) (distinct (tab port (getD ws 2 0))) ports;
         nodesThere =
             all-tab-from (λ o. isNode (decode ws) (o .node)) output-at (getD ws 2 0)
             (λ o l. isNode-operandOf (decode ws) (getD ws 0 0) (getD ws 1 0)
@@ -172,27 +183,32 @@ module _ (ws : List ℕ) where
       names = sym (namesRule-names ws inputsAt nameSize (getD ws 0 0)) ∙ w .inputNames
 
       ports : all isPlainName (tab port (getD ws 2 0)) && distinct (tab port (getD ws 2 0)) ≡ true
-      ports = sym (namesRule-names ws (outputsAt (getD ws 0 0) (getD ws 3 0) (getD ws 1 0)) outputSize (getD ws 2 0)) ∙ w .ports
+      ports = sym (namesRule-names ws (outputsAt (getD ws 0 0) (getD ws 3 0) (getD ws 1 0)) outputSize (getD ws 2 0))
+          ∙ w .ports
 
-  -- and are the words of that block
+  -- words that keep the rules are the words of the block that they hold
   pub intact-encode : intact ws ≡ true → encode (decode ws) ≡ ws
   intact-encode h =
       encode-decode ws (getD ws 0 0) (getD ws 1 0) (getD ws 2 0) (getD ws 3 0) refl refl refl refl (w .sized)
-      (λ j l. gateRule-unused ws (getD ws 0 0 + getD ws 1 0) (gatesAt (getD ws 0 0) (getD ws 3 0) + gateSize * j) (w .gates j l))
+      (λ j l. gateRule-unused ws (getD ws 0 0 + getD ws 1 0) (gatesAt (getD ws 0 0) (getD ws 3 0) + gateSize * j)
+      (w .gates j l))
     where
       w : Intact ws (getD ws 0 0) (getD ws 1 0) (getD ws 2 0)
       w = intact-parts ws h
 
   -- words that are the words of the block that they hold have its length
-  encoded-length : encode (decode ws) ≡ ws → length ws ≡ outputsAt (getD ws 0 0) (getD ws 3 0) (getD ws 1 0) + outputSize * getD ws 2 0
-  encoded-length e = sym (ap length e) ∙ length-encode (decode ws) ∙ rw (decode-inputCount ws, decode-gateCount ws, decode-outputCount ws, decode-neverCount ws)
+  encoded-length : encode (decode ws) ≡ ws
+      → length ws ≡ outputsAt (getD ws 0 0) (getD ws 3 0) (getD ws 1 0) + outputSize * getD ws 2 0
+  encoded-length e = sym (ap length e) ∙ length-encode (decode ws)
+      ∙ rw (decode-inputCount ws, decode-gateCount ws, decode-outputCount ws, decode-neverCount ws)
 
-  -- and hold the words of its gates
+  -- the words of a block's gates stand in words that are the block's
   gate-stands : encode (decode ws) ≡ ws → (j : ℕ) → j < getD ws 1 0
       → GateStands (getD ws 0 0) ws (gatesAt (getD ws 0 0) (getD ws 3 0) + gateSize * j) (gate-at j)
   unfolding gate-at
   gate-stands e j l =
-      rw (e, decode-inputCount ws, decode-neverCount ws, decode-gate ws j l) at (encode-gate (decode ws) j (rw (decode-gateCount ws) l))
+      rw (e, decode-inputCount ws, decode-neverCount ws, decode-gate ws j l)
+      at (encode-gate (decode ws) j (rw (decode-gateCount ws) l))
 
   -- the words of a well-formed block meet the rules
   pub encoded-intact : isWellFormed (decode ws) ≡ true → encode (decode ws) ≡ ws → intact ws ≡ true
@@ -208,21 +224,26 @@ module _ (ws : List ℕ) where
         sized = sized;
         inputNames =
             namesRule-names ws inputsAt nameSize (getD ws 0 0)
-            ∙ and-intro (all isPlainName (tab name (getD ws 0 0))) (distinct (tab name (getD ws 0 0))) (w .inputNames) (w .inputsDistinct);
-        nevers = λ i l. sym (never-rule i) ∙ all-tab-at (neverFits (decode ws)) never-at (getD ws 3 0) i (w .neversFit) l;
+            ∙ and-intro (all isPlainName (tab name (getD ws 0 0))) (distinct (tab name (getD ws 0 0))) (w .inputNames)
+            (w .inputsDistinct);
+        nevers = λ i l. sym (never-rule i)
+            ∙ all-tab-at (neverFits (decode ws)) never-at (getD ws 3 0) i (w .neversFit) l;
         gates =
-            λ j l. gateRule-from ws (gatesAt (getD ws 0 0) (getD ws 3 0) + gateSize * j) (decode ws) (getD ws 0 0) (getD ws 1 0) (decode-inputCount ws)
+            λ j l. gateRule-from ws (gatesAt (getD ws 0 0) (getD ws 3 0) + gateSize * j) (decode ws) (getD ws 0 0)
+            (getD ws 1 0) (decode-inputCount ws)
             (decode-gateCount ws) (all-tab-at (gateFits (decode ws)) gate-at (getD ws 1 0) j (w .gatesFit) l)
             (stands-unused (getD ws 0 0) ws (gatesAt (getD ws 0 0) (getD ws 3 0) + gateSize * j) (gate-stands e j l));
         ports =
             namesRule-names ws (outputsAt (getD ws 0 0) (getD ws 3 0) (getD ws 1 0)) outputSize (getD ws 2 0)
             ∙ and-intro (all isPlainName (tab port (getD ws 2 0))) (distinct (tab port (getD ws 2 0)))
-            (sym (ap (all isPlainName) (decode-ports ws)) ∙ all-map isPlainName port-of (decode ws .outputs) ∙ w .portNames)
+            (sym (ap (all isPlainName) (decode-ports ws)) ∙ all-map isPlainName port-of (decode ws .outputs)
+            ∙ w .portNames)
             (sym (ap distinct (decode-ports ws)) ∙ w .portsDistinct);
         nodes =
             λ o l. sym (isNode-operandOf (decode ws) (getD ws 0 0) (getD ws 1 0)
             (getD ws (outputsAt (getD ws 0 0) (getD ws 3 0) (getD ws 1 0) + outputSize * o + nameSize) 0)
-            (decode-inputCount ws) (decode-gateCount ws) few) ∙ all-tab-at (λ o. isNode (decode ws) (o .node)) output-at (getD ws 2 0) o (w .nodesThere) l;
+            (decode-inputCount ws) (decode-gateCount ws) few)
+            ∙ all-tab-at (λ o. isNode (decode ws) (o .node)) output-at (getD ws 2 0) o (w .nodesThere) l;
       })
     where
       w : WellFormed (decode ws)
@@ -237,7 +258,7 @@ module _ (ws : List ℕ) where
       long : inputsAt ≤ outputsAt (getD ws 0 0) (getD ws 3 0) (getD ws 1 0) + outputSize * getD ws 2 0
       long = omega arith
 
--- The rules, word by word, together are "not torn".
+-- The rules, word by word, together are "not malformed".
 pub intact-torn : (ws : List ℕ) → isMalformed ws ≡ not (intact ws)
 unfolding isMalformed
 intact-torn ws =
@@ -245,4 +266,5 @@ intact-torn ws =
     (same-test (isWellFormed (decode ws) && same (encode (decode ws)) ws) (intact ws)
     (λ h. encoded-intact ws (and-left (isWellFormed (decode ws)) (same (encode (decode ws)) ws) h)
     (same-eq (encode (decode ws)) ws (and-right (isWellFormed (decode ws)) (same (encode (decode ws)) ws) h)))
-    (λ h. and-intro (isWellFormed (decode ws)) (same (encode (decode ws)) ws) (intact-wellFormed ws h) (eq-same (encode (decode ws)) ws (intact-encode ws h))))
+    (λ h. and-intro (isWellFormed (decode ws)) (same (encode (decode ws)) ws) (intact-wellFormed ws h)
+    (eq-same (encode (decode ws)) ws (intact-encode ws h))))

@@ -1,4 +1,4 @@
--- The stored block: encode and decode undo each other, and the rules on the words together say "not torn".
+-- The stored block: encode and decode undo each other, and the rules on the words together say "not malformed".
 pub mod ListFacts
 pub mod Names
 pub mod Nodes

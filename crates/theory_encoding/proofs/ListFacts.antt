@@ -1,5 +1,5 @@
--- Facts on lists that are nobody's in particular: all of a conjunction, lists put one behind the other, lists without repetition, zeros trimmed.
--- Assumes nothing.
+-- Facts on lists that are nobody's in particular: all of a conjunction, lists put one behind the other, lists without
+-- repetition, zeros trimmed. Assumes nothing.
 --   and-parts, all-and, all-tab, all-map: tests of all elements
 --   tab-is, joined-tab, length-joined, getD-joined, getD-middle: lists of values, one behind the other
 --   distinct-from, distinct-at: lists without repetition, by places
@@ -44,24 +44,31 @@ module _ {A : Type 0} where
       (λ h. all-tab-from p f n (λ i l. all-below (λ i. p (f i)) n i h l))
 
   -- a list of values is the list whose elements they are
-  pub tab-is : (f : ℕ → A) (xs : List A) (d : A) → ((i : ℕ) → i < length xs → f i ≡ getD xs i d) → tab f (length xs) ≡ xs
+  pub tab-is : (f : ℕ → A) (xs : List A) (d : A) → ((i : ℕ) → i < length xs → f i ≡ getD xs i d)
+      → tab f (length xs) ≡ xs
   tab-is f xs d h = tab-ext f (λ i. getD xs i d) (length xs) h ∙ tab-getD d xs (length xs) refl
 
   -- parts of one size, one after the other, are one list of values
   pub joined-tab : (f : ℕ → A) (size m : ℕ) → joined (tab (λ j. tab (λ i. f (size * j + i)) size) m) ≡ tab f (size * m)
   joined-tab f size zero = rw mul-zero
   joined-tab f size (suc m) =
-      rw (joined-snoc (tab (λ j. tab (λ i. f (size * j + i)) size) m) (tab (λ i. f (size * m + i)) size), joined-tab f size m, mul-suc)
+      rw (
+        joined-snoc (tab (λ j. tab (λ i. f (size * j + i)) size) m) (tab (λ i. f (size * m + i)) size),
+        joined-tab f size m,
+        mul-suc,
+      )
       (sym (tab-add f (size * m) size))
 
 -- an element of the middle one of three lists
-pub getD-middle : {A : Type 0} (p q r : List A) (at i : ℕ) (d : A) → length p ≡ at → i < length q → getD (p ++ q ++ r) (at + i) d ≡ getD q i d
+pub getD-middle : {A : Type 0} (p q r : List A) (at i : ℕ) (d : A) → length p ≡ at → i < length q
+    → getD (p ++ q ++ r) (at + i) d ≡ getD q i d
 getD-middle p q r at i d e l =
     rw (sym e)
     (List·getD-append (p ++ q) r d (length p + i) (rw (length-append p q) (omega arith)) ∙ getD-append-add p q i d)
 
 -- an element of a mapped list
-pub getD-map : {A B : Type 0} (g : A → B) (xs : List A) (i : ℕ) (d : A) (e : B) → i < length xs → getD (map g xs) i e ≡ g (getD xs i d)
+pub getD-map : {A B : Type 0} (g : A → B) (xs : List A) (i : ℕ) (d : A) (e : B) → i < length xs
+    → getD (map g xs) i e ≡ g (getD xs i d)
 getD-map g [] i d e l = absurd (not-suc-le-zero l)
 getD-map g (x ∷ xs) zero d e l = refl
 getD-map g (x ∷ xs) (suc i) d e l = getD-map g xs i d e (le-of-suc-le-suc l)
@@ -76,30 +83,38 @@ module _ {A B : Type 0} (g : A → List B) (size : ℕ) (sized : (x : A) → len
   length-joined [] = rw mul-zero
   length-joined (x ∷ xs) = rw (length-append, sized x, length-joined xs, mul-suc) (omega arith)
 
-  pub getD-joined : (xs : List A) (j i : ℕ) (d : A) (e : B) → j < length xs → i < size → getD (joined (map g xs)) (size * j + i) e ≡ getD (g (getD xs j d)) i e
+  pub getD-joined : (xs : List A) (j i : ℕ) (d : A) (e : B) → j < length xs → i < size
+      → getD (joined (map g xs)) (size * j + i) e ≡ getD (g (getD xs j d)) i e
   getD-joined [] j i d e h l = absurd (not-suc-le-zero h)
-  getD-joined (x ∷ xs) zero i d e h l = rw (mul-zero, zero-add) (List·getD-append (g x) (joined (map g xs)) e i (rw (sized x) l))
+  getD-joined (x ∷ xs) zero i d e h l =
+      rw (mul-zero, zero-add) (List·getD-append (g x) (joined (map g xs)) e i (rw (sized x) l))
   getD-joined (x ∷ xs) (suc j) i d e h l =
       let place : size * suc j + i ≡ length (g x) + (size * j + i) = rw (sized x, mul-suc) (omega arith) in
-      rw place (getD-append-add (g x) (joined (map g xs)) (size * j + i) e ∙ getD-joined xs j i d e (le-of-suc-le-suc h) l)
+      rw place
+      (getD-append-add (g x) (joined (map g xs)) (size * j + i) e ∙ getD-joined xs j i d e (le-of-suc-le-suc h) l)
 
 -- no list stands twice when no two places hold the same
-pub distinct-from : (xs : List (List ℕ)) → ((i j : ℕ) → i < j → j < length xs → same (getD xs i []) (getD xs j []) ≡ false) → distinct xs ≡ true
+pub distinct-from : (xs : List (List ℕ))
+    → ((i j : ℕ) → i < j → j < length xs → same (getD xs i []) (getD xs j []) ≡ false) → distinct xs ≡ true
 distinct-from [] h = refl
 distinct-from (x ∷ xs) h =
-    rw (not-true-false (memberList x xs) (λ m. let r = any-at (same x) xs [] m in not-both (r .2) (h 0 (suc (r .0)) (suc-le-suc zero-le) (suc-le-suc (r .1)))))
+    rw (not-true-false (memberList x xs) (λ m.
+    let r = any-at (same x) xs [] m in not-both (r .2) (h 0 (suc (r .0)) (suc-le-suc zero-le) (suc-le-suc (r .1)))))
     (distinct-from xs (λ i j l k. h (suc i) (suc j) (suc-le-suc l) (suc-le-suc k)))
 
-pub distinct-at : (xs : List (List ℕ)) (i j : ℕ) → distinct xs ≡ true → i < j → j < length xs → same (getD xs i []) (getD xs j []) ≡ false
+pub distinct-at : (xs : List (List ℕ)) (i j : ℕ) → distinct xs ≡ true → i < j → j < length xs
+    → same (getD xs i []) (getD xs j []) ≡ false
 distinct-at [] i j h l k = absurd (not-suc-le-zero k)
 distinct-at (x ∷ xs) i zero h l k = absurd (not-suc-le-zero l)
-distinct-at (x ∷ xs) i (suc j) h l k = go i l (memberList x xs) refl h (λ i′ d l′. distinct-at xs i′ j d l′ (le-of-suc-le-suc k))
+distinct-at (x ∷ xs) i (suc j) h l k =
+    go i l (memberList x xs) refl h (λ i′ d l′. distinct-at xs i′ j d l′ (le-of-suc-le-suc k))
   where
     go : (i : ℕ) → i < suc j → (b : Bool) → memberList x xs ≡ b → cond b false (distinct xs) ≡ true
         → ((i : ℕ) → distinct xs ≡ true → i < j → same (getD xs i []) (getD xs j []) ≡ false)
         → same (getD (x ∷ xs) i []) (getD xs j []) ≡ false
     go i l true e d again = absurd (false≢true d)
-    go zero l false e d again = not-true-false (same x (getD xs j [])) (λ s. not-both (any-from (same x) xs j [] (le-of-suc-le-suc k) s) e)
+    go zero l false e d again =
+        not-true-false (same x (getD xs j [])) (λ s. not-both (any-from (same x) xs j [] (le-of-suc-le-suc k) s) e)
     go (suc i) l false e d again = again i d (le-of-suc-le-suc l)
 
 -- ---- the zeros at the end

@@ -1,5 +1,5 @@
--- Names in the stored block: the rule on the words is "a legal name", a name and its four words are each other's, and two names are the same when
--- their words are. Cited by RoundTrip and Intact. Assumes nothing.
+-- Names in the stored block: the rule on the words is "a legal name", a name and its four words are each other's, and
+-- two names are the same when their words are. Cited by RoundTrip and Intact. Assumes nothing.
 --   plain-nameAt: the rule on the words is the rule on the name
 --   nameWords-nameAt, nameAt-nameWords: a name and its four words are each other's
 --   sameName-same: two names are the same when their words are
@@ -24,7 +24,8 @@ use Rattle.netlist.specs.Netlist.{Name}
 use Rattle.netlist.specs.StoredBlock.{nameSize, nameWords, bytesAt, nameAt}
 use Rattle.netlist.specs.Names.{isLetter, isDigit, isUnderscore, isNameByte, isLegalName, isPlainName}
 use Rattle.theory_encoding.specs.Rules.{padded, nameRule, sameName, namesRule}
-use Rattle.theory_encoding.proofs.ListFacts.{all-and, all-tab, joined-tab, distinct-from, distinct-at, getD-trimmed, length-trimmed}
+use Rattle.theory_encoding.proofs.ListFacts.{all-and, all-tab, joined-tab, distinct-from, distinct-at}
+use Rattle.theory_encoding.proofs.ListFacts.{getD-trimmed, length-trimmed}
 
 -- ---- the rule on the bytes
 
@@ -33,7 +34,8 @@ pub nameByte-range : (c : ℕ) → isNameByte c ≡ true → (48 ≤ c) × (c �
 unfolding isNameByte isLetter isDigit isUnderscore
 nameByte-range c h =
     ⊎-elim
-    (λ g. ⊎-elim (λ l. range 97 122 (omega arith) (omega arith) l) (λ d. range 48 57 (omega arith) (omega arith) d) (or-cases (isLetter c) (isDigit c) g))
+    (λ g. ⊎-elim (λ l. range 97 122 (omega arith) (omega arith) l) (λ d. range 48 57 (omega arith) (omega arith) d)
+    (or-cases (isLetter c) (isDigit c) g))
     (λ u. let e : c ≡ 95 = eqb-true c 95 u in (omega arith, omega arith))
     (or-cases (isLetter c || isDigit c) (isUnderscore c) h)
   where
@@ -66,7 +68,8 @@ unfolding padded isNameByte isLetter isDigit isUnderscore
 padded-trimmed [] = refl
 padded-trimmed (c ∷ cs) = rw (zeros-trimmed cs, padded-trimmed cs) (go (trimmed cs) (eqb c 0) refl)
   where
-    go : (t : List ℕ) (b : Bool) → eqb c 0 ≡ b → cond b (empty t) (isNameByte c && all isNameByte t) ≡ all isNameByte (onto c t)
+    go : (t : List ℕ) (b : Bool) → eqb c 0 ≡ b
+        → cond b (empty t) (isNameByte c && all isNameByte t) ≡ all isNameByte (onto c t)
     go [] true e = rw e
     go [] false e = rw e
     go (y ∷ t) true e = rw (eqb-true c 0 e)
@@ -112,7 +115,8 @@ trimmed-is (x ∷ xs) [] h n = let e : x ≡ 0 = h 0 in rw (e, trimmed-is xs [] 
 trimmed-is (x ∷ xs) (c ∷ s) h n =
     let e : x ≡ c = h 0 in
     let r : 48 ≤ c = nameByte-range c (and-left (isNameByte c) (all isNameByte s) n) .0 in
-    rw (e, trimmed-is xs s (λ i. h (suc i)) (and-right (isNameByte c) (all isNameByte s) n)) (go s (ne-eqb c 0 (omega arith)))
+    rw (e, trimmed-is xs s (λ i. h (suc i)) (and-right (isNameByte c) (all isNameByte s) n))
+    (go s (ne-eqb c 0 (omega arith)))
   where
     go : (t : List ℕ) → eqb c 0 ≡ false → onto c t ≡ c ∷ t
     go [] e = rw e
@@ -134,20 +138,24 @@ module _ (start : ℕ → Bool) (s : Name) (legal : isLegalName start s ≡ true
 
   pub legal-byte : (i : ℕ) → getD s i 0 < 256
   legal-byte i =
-      ⊎-elim (λ l. let r : getD s i 0 ≤ 122 = nameByte-range (getD s i 0) (all-at isNameByte s i 0 legal-bytes l) .1 in omega arith)
+      ⊎-elim (λ l. let r : getD s i 0 ≤ 122 = nameByte-range (getD s i 0) (all-at isNameByte s i 0 legal-bytes l) .1 in
+      omega arith)
       (λ l. rw (List·getD-eq-default s 0 {n = i} l) (omega arith))
       (lt-or-le i (length s))
 
-  -- its words are 16-bit words
+  -- the words of a legal name are 16-bit words
   pub legal-words : (i : ℕ) → i < nameSize → getD (nameWords s) i 0 < 65536
   unfolding nameWords
   legal-words i l =
-      rw (getD-tab (λ i. getD s (2 * i) 0 + 256 * getD s (2 * i + 1) 0) nameSize i 0 l) (omega (arith, legal-byte (2 * i), legal-byte (2 * i + 1)))
+      rw (getD-tab (λ i. getD s (2 * i) 0 + 256 * getD s (2 * i + 1) 0) nameSize i 0 l)
+      (omega (arith, legal-byte (2 * i), legal-byte (2 * i + 1)))
 
   -- where its words stand, it is read
-  pub nameAt-legal : (ws : List ℕ) (at : ℕ) → ((i : ℕ) → i < nameSize → getD ws (at + i) 0 ≡ getD (nameWords s) i 0) → nameAt ws at ≡ s
+  pub nameAt-legal : (ws : List ℕ) (at : ℕ) → ((i : ℕ) → i < nameSize → getD ws (at + i) 0 ≡ getD (nameWords s) i 0)
+      → nameAt ws at ≡ s
   unfolding nameAt bytesAt nameWords
-  nameAt-legal ws at stands = trimmed-is (bytesAt ws at) s (λ i. ap (λ (bs : List ℕ). getD bs i 0) bytes ∙ elements i) legal-bytes
+  nameAt-legal ws at stands =
+      trimmed-is (bytesAt ws at) s (λ i. ap (λ (bs : List ℕ). getD bs i 0) bytes ∙ elements i) legal-bytes
     where
       pair : (i : ℕ) → i < nameSize
           → getD ws (at + i) 0 % 256 ∷ getD ws (at + i) 0 / 256 ∷ [] ≡ tab (λ k. getD s (2 * i + k) 0) 2
@@ -162,13 +170,15 @@ module _ (start : ℕ → Bool) (s : Name) (legal : isLegalName start s ≡ true
       bytes : bytesAt ws at ≡ tab (λ i. getD s i 0) maxName
       bytes =
           ap joined
-          (tab-ext (λ i. getD ws (at + i) 0 % 256 ∷ getD ws (at + i) 0 / 256 ∷ []) (λ i. tab (λ k. getD s (2 * i + k) 0) 2) nameSize pair)
+          (tab-ext (λ i. getD ws (at + i) 0 % 256 ∷ getD ws (at + i) 0 / 256 ∷ [])
+          (λ i. tab (λ k. getD s (2 * i + k) 0) 2) nameSize pair)
           ∙ joined-tab (λ i. getD s i 0) 2 nameSize
 
       elements : (i : ℕ) → getD (tab (λ i. getD s i 0) maxName) i 0 ≡ getD s i 0
       elements i =
           ⊎-elim (λ l. getD-tab (λ i. getD s i 0) maxName i 0 l)
-          (λ l. List·getD-eq-default (tab (λ i. getD s i 0) maxName) 0 l ∙ sym (List·getD-eq-default s 0 (omega (arith, legal-short))))
+          (λ l. List·getD-eq-default (tab (λ i. getD s i 0) maxName) 0 l
+          ∙ sym (List·getD-eq-default s 0 (omega (arith, legal-short))))
           (lt-or-le i maxName)
 
 pub nameAt-nameWords : (ws : List ℕ) (at : ℕ) (s : Name) → isPlainName s ≡ true
@@ -179,7 +189,8 @@ nameAt-nameWords ws at s h stands = nameAt-legal isLetter s h ws at stands
 -- ---- names, not twice
 
 -- the same words hold the same name, in one block or in two
-pub nameAt-agrees : (ws vs : List ℕ) (at other : ℕ) → ((i : ℕ) → i < nameSize → getD ws (at + i) 0 ≡ getD vs (other + i) 0)
+pub nameAt-agrees : (ws vs : List ℕ) (at other : ℕ)
+    → ((i : ℕ) → i < nameSize → getD ws (at + i) 0 ≡ getD vs (other + i) 0)
     → nameAt ws at ≡ nameAt vs other
 unfolding nameAt bytesAt
 nameAt-agrees ws vs at other h =
@@ -191,7 +202,8 @@ nameAt-agrees ws vs at other h =
 
 -- two names are the same when their words are
 pub names-same : (ws vs : List ℕ) (at other : ℕ)
-    → all (λ i. eqb (getD ws (at + i) 0) (getD vs (other + i) 0)) (upTo nameSize) ≡ same (nameAt ws at) (nameAt vs other)
+    → all (λ i. eqb (getD ws (at + i) 0) (getD vs (other + i) 0)) (upTo nameSize)
+    ≡ same (nameAt ws at) (nameAt vs other)
 names-same ws vs at other = same-test (all agree (upTo nameSize)) (same (nameAt ws at) (nameAt vs other)) forth back
   where
     agree : ℕ → Bool
@@ -203,12 +215,14 @@ names-same ws vs at other = same-test (all agree (upTo nameSize)) (same (nameAt 
     forth : all agree (upTo nameSize) ≡ true → same (nameAt ws at) (nameAt vs other) ≡ true
     forth h =
         eq-same (nameAt ws at) (nameAt vs other)
-        (nameAt-agrees ws vs at other (λ i l. eqb-true (getD ws (at + i) 0) (getD vs (other + i) 0) (all-below agree nameSize i h l)))
+        (nameAt-agrees ws vs at other
+        (λ i l. eqb-true (getD ws (at + i) 0) (getD vs (other + i) 0) (all-below agree nameSize i h l)))
 
     back : same (nameAt ws at) (nameAt vs other) ≡ true → all agree (upTo nameSize) ≡ true
     back h =
         let e : words ws at ≡ words vs other =
-        sym (nameWords-nameAt ws at) ∙ ap nameWords (same-eq (nameAt ws at) (nameAt vs other) h) ∙ nameWords-nameAt vs other in
+        sym (nameWords-nameAt ws at) ∙ ap nameWords (same-eq (nameAt ws at) (nameAt vs other) h)
+        ∙ nameWords-nameAt vs other in
         below-all agree nameSize
         (λ i l. eq-eqb (getD ws (at + i) 0) (getD vs (other + i) 0)
         (sym (getD-tab (λ i. getD ws (at + i) 0) nameSize i 0 l)
@@ -219,8 +233,10 @@ pub sameName-same : (ws : List ℕ) (at other : ℕ) → sameName ws at other �
 unfolding sameName
 sameName-same ws at other = names-same ws ws at other
 
-distinct-tab : (f : ℕ → Name) (n : ℕ) → distinct (tab f n) ≡ all (λ j. all (λ i. not (same (f i) (f j))) (upTo j)) (upTo n)
-distinct-tab f n = same-test (distinct (tab f n)) (all (λ j. all (λ i. not (same (f i) (f j))) (upTo j)) (upTo n)) forth back
+distinct-tab : (f : ℕ → Name) (n : ℕ)
+    → distinct (tab f n) ≡ all (λ j. all (λ i. not (same (f i) (f j))) (upTo j)) (upTo n)
+distinct-tab f n =
+    same-test (distinct (tab f n)) (all (λ j. all (λ i. not (same (f i) (f j))) (upTo j)) (upTo n)) forth back
   where
     at : (i : ℕ) → i < n → getD (tab f n) i [] ≡ f i
     at i l = getD-tab f n i [] l
@@ -229,7 +245,8 @@ distinct-tab f n = same-test (distinct (tab f n)) (all (λ j. all (λ i. not (sa
     forth h =
         below-all (λ j. all (λ i. not (same (f i) (f j))) (upTo j)) n
         (λ j l. below-all (λ i. not (same (f i) (f j))) j
-        (λ i k. let e : same (getD (tab f n) i []) (getD (tab f n) j []) ≡ false = distinct-at (tab f n) i j h k (rw (length-tab f n) l) in
+        (λ i k. let e : same (getD (tab f n) i []) (getD (tab f n) j [])
+        ≡ false = distinct-at (tab f n) i j h k (rw (length-tab f n) l) in
         ap not (rw (at i (omega arith), at j l) at e)))
 
     back : all (λ j. all (λ i. not (same (f i) (f j))) (upTo j)) (upTo n) ≡ true → distinct (tab f n) ≡ true
@@ -237,13 +254,17 @@ distinct-tab f n = same-test (distinct (tab f n)) (all (λ j. all (λ i. not (sa
         distinct-from (tab f n)
         (λ i j k l. let l′ : j < n = rw (length-tab f n) at l in
         rw (at i (omega arith), at j l′)
-        (not-true (same (f i) (f j)) (all-below (λ i. not (same (f i) (f j))) j i (all-below (λ j. all (λ i. not (same (f i) (f j))) (upTo j)) n j h l′) k)))
+        (not-true (same (f i) (f j))
+        (all-below (λ i. not (same (f i) (f j))) j i
+        (all-below (λ j. all (λ i. not (same (f i) (f j))) (upTo j)) n j h l′) k)))
 
 -- the rule on a run of names: all are legal, and none stands twice
 pub namesRule-names : (ws : List ℕ) (at size count : ℕ)
-    → namesRule ws at size count ≡ all isPlainName (tab (λ j. nameAt ws (at + size * j)) count) && distinct (tab (λ j. nameAt ws (at + size * j)) count)
+    → namesRule ws at size count ≡ all isPlainName (tab (λ j. nameAt ws (at + size * j)) count) && distinct
+    (tab (λ j. nameAt ws (at + size * j)) count)
 unfolding namesRule
 namesRule-names ws at size count =
     rw (all-tab isPlainName (λ j. nameAt ws (at + size * j)) count, distinct-tab (λ j. nameAt ws (at + size * j)) count)
     (simp (sameName-same, plain-nameAt)
-    (all-and (λ j. nameRule ws (at + size * j)) (λ j. all (λ i. not (same (nameAt ws (at + size * i)) (nameAt ws (at + size * j)))) (upTo j)) (upTo count)))
+    (all-and (λ j. nameRule ws (at + size * j))
+    (λ j. all (λ i. not (same (nameAt ws (at + size * i)) (nameAt ws (at + size * j)))) (upTo j)) (upTo count)))

@@ -1,5 +1,5 @@
--- Node numbers in the stored block: a word and what it stands for are each other's, and the rule on the word is the rule on the node.
--- Cited by Gates and Outputs. Assumes nothing.
+-- Node numbers in the stored block: a word and what it stands for are each other's, and the rule on the word is the
+-- rule on the node. Cited by Gates and Outputs. Assumes nothing.
 --   nodeWord-operandOf, operandOf-nodeWord: a word and what it stands for are each other's
 --   isOperand-operandOf, isNode-operandOf: the rules on a word are those on the operand and the node
 --   nodeWord-small: it is a 16-bit word
@@ -74,7 +74,8 @@ operandOf-nodeWord b (constant false) h e = operandOf-zero (inputCount b) (omega
 operandOf-nodeWord b (constant true) h e = operandOf-one (inputCount b) (omega arith)
 
 -- the word of an operand is a 16-bit word
-pub nodeWord-small : (b : Block) (o : Operand) → inputCount b + gateCount b ≤ 65534 → isOperand b o ≡ true → nodeWord (inputCount b) o < 65536
+pub nodeWord-small : (b : Block) (o : Operand) → inputCount b + gateCount b ≤ 65534 → isOperand b o ≡ true
+    → nodeWord (inputCount b) o < 65536
 unfolding nodeWord isOperand isNode
 nodeWord-small b (input i) h e = let l : i < inputCount b = ltb-true i (inputCount b) e in omega arith
 nodeWord-small b (gate j) h e = let l : j < gateCount b = ltb-true j (gateCount b) e in omega arith
@@ -95,7 +96,8 @@ gate-number n m w l =
     (λ h. let k : w < n + m = ltb-true w (n + m) h in lt-ltb (w - n) m (omega arith))
 
 -- the rule on an operand's word is the rule on the operand
-pub isOperand-operandOf : (b : Block) (n m w : ℕ) → inputCount b ≡ n → gateCount b ≡ m → isOperand b (operandOf n w) ≡ operandRule (n + m) w
+pub isOperand-operandOf : (b : Block) (n m w : ℕ) → inputCount b ≡ n → gateCount b ≡ m
+    → isOperand b (operandOf n w) ≡ operandRule (n + m) w
 unfolding isOperand isNode operandRule nodeRule
 isOperand-operandOf b n m w en em = go (operandOf n w) (stands n w)
   where
@@ -106,7 +108,8 @@ isOperand-operandOf b n m w en em = go (operandOf n w) (stands n w)
     go (gate j) (a-gate l p q) = rw (em, ne-eqb w 65534 p, ne-eqb w 65535 q) (simp or-false (gate-number n m w l))
 
 -- the rule on an output's word is the rule on the node, where no node is a constant's number
-pub isNode-operandOf : (b : Block) (n m w : ℕ) → inputCount b ≡ n → gateCount b ≡ m → n + m ≤ 65534 → isNode b (operandOf n w) ≡ nodeRule (n + m) w
+pub isNode-operandOf : (b : Block) (n m w : ℕ) → inputCount b ≡ n → gateCount b ≡ m → n + m ≤ 65534
+    → isNode b (operandOf n w) ≡ nodeRule (n + m) w
 unfolding isNode nodeRule
 isNode-operandOf b n m w en em h = go (operandOf n w) (stands n w)
   where

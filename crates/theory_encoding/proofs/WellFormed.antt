@@ -1,5 +1,5 @@
--- A well-formed block, rule by rule: the rules' names, taken apart and put together, and a law for a block with another's interface (Render).
--- Cited by RoundTrip, Readers and by whoever shows a block well-formed. Assumes nothing.
+-- A well-formed block, rule by rule: the rules' names, taken apart and put together, and a law for a block with
+-- another's interface (Render). Cited by RoundTrip, Readers and by whoever shows a block well-formed. Assumes nothing.
 --   WellFormed: the rules of a well-formed block, each as a fact
 --   wellFormed-parts, wellFormed-from: the test and the facts
 --   few-nodes: no node has the number of a constant
@@ -15,7 +15,8 @@ use Rattle.prelude.specs.Lists.{all, distinct}
 use Rattle.prelude.proofs.Quantifiers.{all-from}
 use Rattle.netlist.specs.Limits.{maxInputs, maxNevers, maxGates, maxOutputs}
 use Rattle.netlist.specs.Assignments.{Assignment}
-use Rattle.netlist.specs.Netlist.{Name, constant, Gate, Output, Block, inputCount, gateCount, outputCount, neverCount, gateOf}
+use Rattle.netlist.specs.Netlist.{Name, constant, Gate, Output, Block, inputCount, gateCount, outputCount, neverCount}
+use Rattle.netlist.specs.Netlist.{gateOf}
 use Rattle.netlist.specs.StoredBlock.{neverFits, gateFits, isNode, isWellFormed}
 use Rattle.netlist.specs.Names.{isPlainName}
 use Rattle.theory_encoding.proofs.ListFacts.{and-parts, all-map}
@@ -52,7 +53,19 @@ wellFormed-from b w =
     let gates = le-leb (gateCount b) maxGates (w .fewGates) in
     let outputs = le-leb (outputCount b) maxOutputs (w .fewOutputs) in
     let nevers = le-leb (neverCount b) maxNevers (w .fewNevers) in
-    rw (inputs, gates, outputs, nevers, w .inputNames, w .inputsDistinct, w .neversFit, w .gatesFit, w .portNames, w .portsDistinct, w .nodesThere)
+    rw (
+      inputs,
+      gates,
+      outputs,
+      nevers,
+      w .inputNames,
+      w .inputsDistinct,
+      w .neversFit,
+      w .gatesFit,
+      w .portNames,
+      w .portsDistinct,
+      w .nodesThere,
+    )
 
 -- what "well-formed" says, rule by rule
 pub wellFormed-parts : (b : Block) → isWellFormed b ≡ true → WellFormed b
@@ -86,8 +99,8 @@ wellFormed-parts b h =
 pub few-nodes : (b : Block) → WellFormed b → inputCount b + gateCount b ≤ 65534
 few-nodes b w = omega (arith, w .fewInputs, w .fewGates)
 
--- A block with the inputs, the never lines and the ports of a well-formed one is well-formed, if it has no more gates than allowed, its gates
--- fit and its outputs show nodes that are there.
+-- A block with the inputs, the never lines and the ports of a well-formed one is well-formed, if it has no more gates
+-- than allowed, its gates fit and its outputs show nodes that are there.
 pub wellFormed-interface : (b c : Block) → isWellFormed b ≡ true
     → c .inputs ≡ b .inputs
     → c .nevers ≡ b .nevers
@@ -108,7 +121,8 @@ wellFormed-interface b c h inputs nevers ports few fit there =
       inputsDistinct = rw inputs (w .inputsDistinct);
       neversFit = rw (nevers, inputs) (w .neversFit);
       gatesFit = all-from (gateFits c) (c .gates) noGate fit;
-      portNames = sym (all-map isPlainName port-of (c .outputs)) ∙ ap (all isPlainName) ports ∙ all-map isPlainName port-of (b .outputs) ∙ w .portNames;
+      portNames = sym (all-map isPlainName port-of (c .outputs)) ∙ ap (all isPlainName) ports
+          ∙ all-map isPlainName port-of (b .outputs) ∙ w .portNames;
       portsDistinct = rw ports (w .portsDistinct);
       nodesThere = all-from (λ o. isNode c (o .node)) (c .outputs) noOutput (λ i l. there i noOutput l);
     })

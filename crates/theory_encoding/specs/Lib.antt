@@ -1,1 +1,2 @@
+-- The rules of a stored block, word by word.
 pub mod Rules

@@ -28,7 +28,8 @@ sameName ws at other = all (λ i. eqb (getD ws (at + i) 0) (getD ws (other + i) 
 -- `count` names from `at` on, `size` words apart: legal, and not twice
 unfoldable pub namesRule : List ℕ → ℕ → ℕ → ℕ → Bool
 namesRule ws at size count =
-    all (λ j. nameRule ws (at + size * j) && all (λ i. not (sameName ws (at + size * i) (at + size * j))) (upTo j)) (upTo count)
+    all (λ j. nameRule ws (at + size * j) && all (λ i. not (sameName ws (at + size * i) (at + size * j))) (upTo j))
+    (upTo count)
 
 -- the rule of the never line whose two masks are at `at`, in a block of n inputs
 unfoldable pub neverRule : List ℕ → ℕ → ℕ → Bool
@@ -45,13 +46,15 @@ operandRule nodes w = nodeRule nodes w || eqb w 65534 || eqb w 65535
 unfoldable pub gateRule : List ℕ → ℕ → ℕ → Bool
 gateRule ws nodes at =
     isKind (getD ws at 0 % 8) && arityFits (getD ws at 0 % 8) (getD ws at 0 / 8)
-    && all (λ i. cond (ltb i (getD ws at 0 / 8)) (operandRule nodes (getD ws (at + 1 + i) 0)) (eqb (getD ws (at + 1 + i) 0) 0)) (upTo operandWords)
+    && all (λ i. cond (ltb i (getD ws at 0 / 8)) (operandRule nodes (getD ws (at + 1 + i) 0))
+    (eqb (getD ws (at + 1 + i) 0) 0)) (upTo operandWords)
 
 -- the rule of the head: the length that the counts give, and the limits
 unfoldable pub headerRule : List ℕ → Bool
 headerRule ws =
     leb inputsAt (length ws)
-    && leb (getD ws 0 0) maxInputs && leb (getD ws 1 0) maxGates && leb (getD ws 2 0) maxOutputs && leb (getD ws 3 0) maxNevers
+    && leb (getD ws 0 0) maxInputs && leb (getD ws 1 0) maxGates && leb (getD ws 2 0) maxOutputs && leb (getD ws 3 0)
+    maxNevers
     && eqb (length ws) (outputsAt (getD ws 0 0) (getD ws 3 0) (getD ws 1 0) + outputSize * getD ws 2 0)
 
 unfoldable pub intact : List ℕ → Bool

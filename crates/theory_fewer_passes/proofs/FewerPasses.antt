@@ -1,4 +1,5 @@
--- No group needs more passes than it has gates, so the sum of g × passes is at most that of g × g; what Bring's blocks answer follows from `bring`.
+-- No group needs more passes than it has gates, so the sum of g × passes is at most that of g × g; what Bring's blocks
+-- answer follows from `bring`.
 --   fewer-copies      Render's answers on one block
 --   brought-answers   every answer on a block that is brought over
 -- Assumes nothing.
@@ -24,7 +25,8 @@ use Rattle.op_bring.proofs.AsBefore.{brought-back, verdict-before, lowest-befor
 use Rattle.theory_fewer_passes.specs.FewerPasses.{copiesBefore, FewerCopies, BroughtAnswers}
 
 -- where each element's number is at most the other, so is the sum
-sum-at-most : (f g : List ℕ → ℕ) (xs : List (List ℕ)) → ((i : ℕ) → i < length xs → f (getD xs i []) ≤ g (getD xs i [])) → sum (map f xs) ≤ sum (map g xs)
+sum-at-most : (f g : List ℕ → ℕ) (xs : List (List ℕ)) → ((i : ℕ) → i < length xs → f (getD xs i []) ≤ g (getD xs i []))
+    → sum (map f xs) ≤ sum (map g xs)
 sum-at-most f g [] h = omega arith
 sum-at-most f g (x ∷ xs) h =
     let r = sum-at-most f g xs (λ i l. h (suc i) (omega arith)) in
@@ -43,7 +45,7 @@ module _ (b : Block) where
   fewer-copies =
       record {
         fewer = copies-fewer;
-        swollenBefore = λ many. let l = copies-fewer in omega arith;
+        tooManyBefore = λ many. let l = copies-fewer in omega arith;
         answered = λ few. let l = copies-fewer in rw (le-ltb maxCopies (copyCount b) (omega arith)) refl;
       }
 

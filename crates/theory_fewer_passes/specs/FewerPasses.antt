@@ -1,6 +1,7 @@
--- Document 01 copies a group of g gates g times; since Paper 13 a group is copied as often as it needs. So a block has at most as many copies as it
--- had, and only an answer 8 of Render may have become another one. Bring's blocks are answered by today's rules: all else as before, and so is Render
--- but where it answered 8, and but for how many lines it writes.
+-- What Paper 13 changed. Before it, a loop of g gates was unrolled g times; since then it is unrolled as often as it
+-- needs, its unrolling depth. So a block has at most as many copies as it had, and of Render's answers only refusal 8,
+-- too many copies, may have become another one. A block that Bring migrates gets today's answers; besides Render's, all
+-- are what they were.
 --   copiesBefore    SPECIFICATION 6.1 as document 01 has it: the sum of g × g
 --   FewerCopies     Render's answers on one block, before Paper 13 and since
 --   BroughtAnswers  every answer on a block that Bring brings over
@@ -32,9 +33,10 @@ copiesBefore b = sum (map (λ group. length group * length group) (groups b))
 pub record FewerCopies (b : Block) : Type 0 where
   -- at most as many lines are written
   pub fewer : copyCount b ≤ copiesBefore b
-  -- what has too many copies today had too many before
-  pub swollenBefore : maxCopies < copyCount b → maxCopies < copiesBefore b
-  -- what had not is refused with 9 exactly where it was, with the same setting, and rendered else
+  -- a block that has too many copies today had too many before
+  pub tooManyBefore : maxCopies < copyCount b → maxCopies < copiesBefore b
+  -- a block that had not too many copies before is refused with 9 exactly where it was, with the same setting, and is
+  -- rendered else
   pub answered : copiesBefore b ≤ maxCopies
       → renderBlock b ≡ refuseIf (not (isSound b)) (NotSettled (lowestUnsettled b)) (counted (encode (rendering b)))
 
@@ -49,6 +51,7 @@ pub record BroughtAnswers (ws : List ℕ) : Type 0 where
       (least (λ s. not (isSettled (decode (brought ws)) s)) (settingCount (decode (brought ws))))
   -- an assignment of Cover is sound when every setting that agrees with it is settled
   pub soundIs : (a : Assignment) → isSoundUnder (decode (brought ws)) a
-      ≡ all (λ s. not (agrees (inputCount (decode (brought ws))) a s) || isSettled (decode (brought ws)) s) (upTo (settingCount (decode (brought ws))))
+      ≡ all (λ s. not (agrees (inputCount (decode (brought ws))) a s) || isSettled (decode (brought ws)) s)
+      (upTo (settingCount (decode (brought ws))))
   -- Render may need fewer passes
   pub renders : FewerCopies (decode (brought ws))

@@ -1,1 +1,2 @@
-// No code: what Paper 13, by which a group is copied only as often as it needs, changed of Render's answers (specs/FewerPasses.antt), proved in proofs/.
+// No code: what Paper 13, by which a group is copied only as often as it needs, changed of Render's answers
+// (specs/FewerPasses.antt), proved in proofs/.

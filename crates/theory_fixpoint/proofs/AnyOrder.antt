@@ -1,7 +1,7 @@
--- One gate at a time, in any order: from a state below the settled values every step stays below them, and where it comes to
--- rest it is settled. Cited for in-place evaluation and for the run of a rendering.
+-- One gate at a time, in any order: from a state below the settled values every step stays below them, and where it
+-- comes to rest it is settled. Cited for in-place evaluation and for the run of a rendering.
 --   length-run, run-append, run-elsewhere   a run of steps: its length, in two parts, and gates that are not stepped
---   step-mono-on, run-mono-on, run-mono     it grows with the state, on a set that its gates read, or everywhere
+--   step-mono-on, run-mono-on               it grows with the state, on a set that its gates read
 --   run-below-settled, any-order-below      it stays below the settled values
 --   any-order-settled                       at rest it is settled
 -- Assumes nothing.
@@ -51,11 +51,13 @@ module _ (b : Block) (x : List Value) where
   run-elsewhere [] v k h = refl
   run-elsewhere (j ∷ js) v k h =
       run-elsewhere js (stepAt b x j v) k (or-neither (eqb k j) (member k js) h .1)
-      ∙ getD-set-other v j k (evaluated x v (gateOf b j)) undefined (eqb-false k j (or-neither (eqb k j) (member k js) h .0))
+      ∙ getD-set-other v j k (evaluated x v (gateOf b j)) undefined
+      (eqb-false k j (or-neither (eqb k j) (member k js) h .0))
 
   module _ (S : ℕ → Type 0) where
     -- A step at a gate that reads only gates of a set keeps the order of two states on the set.
-    pub step-mono-on : (j : ℕ) → ((k : ℕ) → reads b j k ≡ true → S k) → (u w : List Value) → length u ≡ length w → BelowOn S u w
+    pub step-mono-on : (j : ℕ) → ((k : ℕ) → reads b j k ≡ true → S k) → (u w : List Value) → length u ≡ length w
+        → BelowOn S u w
         → BelowOn S (stepAt b x j u) (stepAt b x j w)
     unfolding stepAt
     step-mono-on j inside u w e h =
@@ -63,17 +65,14 @@ module _ (b : Block) (x : List Value) where
         (λ s. evaluated-mono x u w b j (λ k r. h k (inside k r)))
 
     -- So do steps along one list of such gates.
-    pub run-mono-on : (js : List ℕ) → ((j k : ℕ) → Listed js j → reads b j k ≡ true → S k) → (u w : List Value) → length u ≡ length w
+    pub run-mono-on : (js : List ℕ) → ((j k : ℕ) → Listed js j → reads b j k ≡ true → S k) → (u w : List Value)
+        → length u ≡ length w
         → BelowOn S u w → BelowOn S (run b x js u) (run b x js w)
     unfolding run
     run-mono-on [] inside u w e h = h
     run-mono-on (j ∷ js) inside u w e h =
         run-mono-on js (λ i k m. inside i k (member-rest i j js m)) (stepAt b x j u) (stepAt b x j w)
         (length-step j u ∙ e ∙ sym (length-step j w)) (step-mono-on j (λ k. inside j k (member-head j js)) u w e h)
-
-  -- Along one list of steps two states keep their order.
-  pub run-mono : (js : List ℕ) (u w : List Value) → length u ≡ length w → BelowAll u w → BelowAll (run b x js u) (run b x js w)
-  run-mono js u w e h k = run-mono-on (λ _. Unit) js (λ i j m r. tt) u w e (λ i s. h i) k tt
 
   -- The state in which every gate is undefined is below the settled values.
   pub start-below-settled : BelowAll (replicate (gateCount b) undefined) (settled b x)
@@ -84,10 +83,12 @@ module _ (b : Block) (x : List Value) where
   unfolding stepAt
   step-below-settled j v h k =
       set-below (λ _. Unit) v (settled b x) j (evaluated x v (gateOf b j)) (λ i s. h i)
-      (λ s. below-trans (evaluated-mono-all x v (settled b x) (gateOf b j) h) (below-of-eq (evaluated-settled b x j))) k tt
+      (λ s. below-trans (evaluated-mono-all x v (settled b x) (gateOf b j) h) (below-of-eq (evaluated-settled b x j))) k
+      tt
 
   -- So do any steps.
-  pub run-below-settled : (js : List ℕ) (v : List Value) → BelowAll v (settled b x) → BelowAll (run b x js v) (settled b x)
+  pub run-below-settled : (js : List ℕ) (v : List Value) → BelowAll v (settled b x)
+      → BelowAll (run b x js v) (settled b x)
   unfolding run
   run-below-settled [] v h = h
   run-below-settled (j ∷ js) v h = run-below-settled js (stepAt b x j v) (step-below-settled j v h)
@@ -103,7 +104,7 @@ module _ (b : Block) (x : List Value) where
   pub any-order-below : (js : List ℕ) → BelowAll (run b x js (replicate (gateCount b) undefined)) (settled b x)
   any-order-below js = run-below-settled js (replicate (gateCount b) undefined) start-below-settled
 
-  -- and where no gate's evaluation would change the end, it is the settled state.
+  -- Where no gate's evaluation would change the end of a run, the end is the settled state.
   pub any-order-settled : (js : List ℕ)
       → ((j : ℕ) → j < gateCount b
       → evaluated x (run b x js (replicate (gateCount b) undefined)) (gateOf b j)
@@ -111,4 +112,5 @@ module _ (b : Block) (x : List Value) where
       → run b x js (replicate (gateCount b) undefined) ≡ settled b x
   any-order-settled js fixed =
       fixed-settled (run b x js (replicate (gateCount b) undefined))
-      (length-run js (replicate (gateCount b) undefined) ∙ length-replicate (gateCount b) undefined) (any-order-below js) fixed
+      (length-run js (replicate (gateCount b) undefined) ∙ length-replicate (gateCount b) undefined)
+      (any-order-below js) fixed

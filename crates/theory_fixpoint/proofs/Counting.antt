@@ -1,5 +1,5 @@
--- How many gates of a list have a value 0 or 1: the count grows with the state, and where it does not, nothing on the list changed.
--- Cited for the fixed point within m rounds, and for the passes over a group.
+-- How many gates of a list have a value 0 or 1: the count grows with the state, and where it does not, nothing on the
+-- list changed. Cited for the fixed point within m rounds, and for the passes over a group.
 --   definedAmong-le, definedAmong-mono   at most the list's length; grows with the state
 --   definedAmong-same, same-by-count     no more defined, so nothing changed
 -- Assumes nothing.
@@ -57,7 +57,11 @@ module _ (v w : List Value) where
   unfolding definedAmong one
   definedAmong-mono [] h = omega arith
   definedAmong-mono (j ∷ js) h =
-      omega (arith, one-mono (getD v j undefined) (getD w j undefined) (head-below j js h), definedAmong-mono js (rest-below j js h))
+      omega (
+        arith,
+        one-mono (getD v j undefined) (getD w j undefined) (head-below j js h),
+        definedAmong-mono js (rest-below j js h),
+      )
 
   -- Where the count does not grow, nothing on the list changed.
   pub definedAmong-same : (js : List ℕ) → BelowOn (Listed js) v w → definedAmong js w ≤ definedAmong js v
@@ -65,14 +69,18 @@ module _ (v w : List Value) where
   unfolding definedAmong one
   definedAmong-same [] h l j s = absurd (false≢true s)
   definedAmong-same (i ∷ js) h l j s =
-      let a : one (getD v i undefined) ≤ one (getD w i undefined) = one-mono (getD v i undefined) (getD w i undefined) (head-below i js h) in
+      let a : one (getD v i undefined) ≤ one (getD w i undefined) =
+      one-mono (getD v i undefined) (getD w i undefined) (head-below i js h) in
       let m : definedAmong js v ≤ definedAmong js w = definedAmong-mono js (rest-below i js h) in
-      let rest : (j : ℕ) → Listed js j → getD v j undefined ≡ getD w j undefined = definedAmong-same js (rest-below i js h) (omega arith) in
-      let same : getD v i undefined ≡ getD w i undefined = one-same (getD v i undefined) (getD w i undefined) (head-below i js h) (omega arith) in
+      let rest : (j : ℕ) → Listed js j → getD v j undefined ≡ getD w j undefined =
+      definedAmong-same js (rest-below i js h) (omega arith) in
+      let same : getD v i undefined ≡ getD w i undefined =
+      one-same (getD v i undefined) (getD w i undefined) (head-below i js h) (omega arith) in
       ⊎-elim (λ e. rw e same) (rest j) (member-first j i js s)
 
   -- Where no gate more is defined, the whole state is the same.
-  pub same-by-count : (n : ℕ) → length v ≡ n → length w ≡ n → BelowAll v w → definedAmong (upTo n) w ≤ definedAmong (upTo n) v → v ≡ w
+  pub same-by-count : (n : ℕ) → length v ≡ n → length w ≡ n → BelowAll v w
+      → definedAmong (upTo n) w ≤ definedAmong (upTo n) v → v ≡ w
   same-by-count n e f h l =
       ext-getD undefined v w (e ∙ sym f)
       (λ j m. definedAmong-same (upTo n) (λ k s. h k) l j (below-any (eqb j) n j (rw e at m) (eq-eqb j j refl)))

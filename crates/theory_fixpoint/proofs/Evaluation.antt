@@ -1,23 +1,22 @@
--- A gate evaluated from a state: it grows with the gates that it reads, and depends on them alone. Cited by the laws on rounds, steps
--- and sweeps.
+-- A gate evaluated from a state: it grows with the gates that it reads, and depends on them alone. Cited by the laws on
+-- rounds, steps and sweeps.
 --   evaluated-mono*     grows with what the gate reads
 --   evaluated-agree     depends on that alone
---   evaluated-defined   0 or 1 where that is
 -- Assumes nothing.
-use Prim.Native.Nat.{ℕ, _<_}
+use Prim.Native.Nat.{ℕ}
 use mathlib.Core.Path.{_≡_, sym}
 use mathlib.Core.Bool.{true}
 use mathlib.Core.List.{List, [], _∷_, map}
-use lib.ListN.{length, getD, length-map}
-use Rattle.prelude.specs.Lists.{all, member, joined}
+use lib.ListN.{getD}
+use Rattle.prelude.specs.Lists.{member, joined}
 use Rattle.prelude.proofs.Lists.{member-head, member-rest}
-use Rattle.netlist.specs.Values.{Value, undefined, val, isDefined}
+use Rattle.netlist.specs.Values.{Value, undefined, val}
 use Rattle.netlist.specs.Netlist.{Operand, input, gate, constant, Gate, Block, gateOf}
 use Rattle.netlist.specs.Rounds.{operandValue, evaluated}
 use Rattle.netlist.specs.Groups.{gateOperand, readBy, reads}
 use Rattle.theory_fixpoint.specs.Order.{Below, BelowEach, none, more, BelowAll}
 use Rattle.theory_fixpoint.proofs.Values.{below-refl, below-of-eq, below-antisym}
-use Rattle.theory_fixpoint.proofs.Gates.{gateValue-mono, gateValue-defined}
+use Rattle.theory_fixpoint.proofs.Gates.{gateValue-mono}
 
 module _ (x u w : List Value) where
   operands-below : (os : List Operand)
@@ -33,13 +32,15 @@ module _ (x u w : List Value) where
 
   -- A gate's value grows with the values of the gates among its operands.
   pub evaluated-mono-of : (g : Gate)
-      → ((k : ℕ) → member k (joined (map gateOperand (g .operands))) ≡ true → Below (getD u k undefined) (getD w k undefined))
+      → ((k : ℕ) → member k (joined (map gateOperand (g .operands))) ≡ true
+      → Below (getD u k undefined) (getD w k undefined))
       → Below (evaluated x u g) (evaluated x w g)
   unfolding evaluated
   evaluated-mono-of g h = gateValue-mono (g .kind) (operands-below (g .operands) h)
 
   -- Gate j's value grows with the values of the gates that it reads.
-  pub evaluated-mono : (b : Block) (j : ℕ) → ((k : ℕ) → reads b j k ≡ true → Below (getD u k undefined) (getD w k undefined))
+  pub evaluated-mono : (b : Block) (j : ℕ)
+      → ((k : ℕ) → reads b j k ≡ true → Below (getD u k undefined) (getD w k undefined))
       → Below (evaluated x u (gateOf b j)) (evaluated x w (gateOf b j))
   unfolding reads readBy
   evaluated-mono b j h = evaluated-mono-of (gateOf b j) h
@@ -56,10 +57,3 @@ evaluated-agree x u w b j h =
     below-antisym (evaluated x u (gateOf b j)) (evaluated x w (gateOf b j))
     (evaluated-mono x u w b j (λ k r. below-of-eq (h k r)))
     (evaluated-mono x w u b j (λ k r. below-of-eq (sym (h k r))))
-
--- A gate whose operands are each 0 or 1, at least one of them, has a value 0 or 1.
-pub evaluated-defined : (x v : List Value) (g : Gate) → 0 < length (g .operands)
-    → all isDefined (map (operandValue x v) (g .operands)) ≡ true → isDefined (evaluated x v g) ≡ true
-unfolding evaluated
-evaluated-defined x v g h d =
-    gateValue-defined (g .kind) (map (operandValue x v) (g .operands)) (rw length-map h) d

@@ -1,5 +1,5 @@
--- One gate: its value grows with its operands' values, and is 0 or 1 where they all are. Everything else in this crate cites these laws
--- and never opens the rule of the kinds.
+-- One gate: its value grows with its operands' values, and is 0 or 1 where they all are. Everything else in this crate
+-- cites these laws and never opens the rule of the kinds.
 --   TwoValued                           a row whose controlling and forced values are 0 or 1
 --   gateValue-mono, gateValue-defined   the two laws
 -- Assumes nothing.
@@ -29,7 +29,9 @@ rowOf-two-valued : (k : ℕ) → TwoValued (rowOf k)
 unfolding rowOf rows row
 rowOf-two-valued k = go (k - 1)
   where
-    go : (n : ℕ) → TwoValued (getD rows n (record { fewest = 0; most = 0; controlling = 0; forced = 0; keyword = ascii "\0\0\0\0" }))
+    go : (n : ℕ)
+        → TwoValued
+        (getD rows n (record { fewest = 0; most = 0; controlling = 0; forced = 0; keyword = ascii "\0\0\0\0" }))
     go zero = record { controlling = omega arith; forced = omega arith }
     go (suc zero) = record { controlling = omega arith; forced = omega arith }
     go (suc (suc zero)) = record { controlling = omega arith; forced = omega arith }
@@ -45,7 +47,8 @@ controlling-stays c (val b) w h l e = rw (l b refl) e
 any-controlling-stays : (c : ℕ) {vs ws : List Value} → c < 2 → BelowEach vs ws
     → any (λ v. eqb (code v) c) vs ≡ true → any (λ v. eqb (code v) c) ws ≡ true
 any-controlling-stays c h none e = e
-any-controlling-stays c h (more {v} {w} {vs} {ws} l ls) e = go (or-cases (eqb (code v) c) (any (λ v. eqb (code v) c) vs) e) (any-controlling-stays c h ls)
+any-controlling-stays c h (more {v} {w} {vs} {ws} l ls) e =
+    go (or-cases (eqb (code v) c) (any (λ v. eqb (code v) c) vs) e) (any-controlling-stays c h ls)
   where
     go : (eqb (code v) c ≡ true) ⊎ (any (λ v. eqb (code v) c) vs ≡ true)
         → (any (λ v. eqb (code v) c) vs ≡ true → any (λ v. eqb (code v) c) ws ≡ true)
@@ -97,7 +100,8 @@ unfolding gateValue
 gateValue-mono k {vs} {ws} l = go (isNot k) (isXor k) (isXnor k)
   where
     by : Bool → Bool → Bool → List Value → Value
-    by t x y us = cond t (invert (getD us 0 undefined)) (cond x (parity us) (cond y (invert (parity us)) (ruled (rowOf k) us)))
+    by t x y us =
+        cond t (invert (getD us 0 undefined)) (cond x (parity us) (cond y (invert (parity us)) (ruled (rowOf k) us)))
 
     go : (t x y : Bool) → Below (by t x y vs) (by t x y ws)
     go true x y = invert-mono (getD vs 0 undefined) (getD ws 0 undefined) (first-below l)
@@ -129,13 +133,15 @@ unfolding parity
 parity-defined vs d = rw d (valueOf-defined (ones vs % 2) (omega arith))
 
 -- Operands that are each 0 or 1, at least one of them, give 0 or 1.
-pub gateValue-defined : (k : ℕ) (vs : List Value) → 0 < length vs → all isDefined vs ≡ true → isDefined (gateValue k vs) ≡ true
+pub gateValue-defined : (k : ℕ) (vs : List Value) → 0 < length vs → all isDefined vs ≡ true
+    → isDefined (gateValue k vs) ≡ true
 unfolding gateValue
 gateValue-defined k [] h d = absurd (omega arith)
 gateValue-defined k (v ∷ vs) h d = go (isNot k) (isXor k) (isXnor k)
   where
     go : (t x y : Bool)
-        → isDefined (cond t (invert v) (cond x (parity (v ∷ vs)) (cond y (invert (parity (v ∷ vs))) (ruled (rowOf k) (v ∷ vs))))) ≡ true
+        → isDefined (cond t (invert v)
+        (cond x (parity (v ∷ vs)) (cond y (invert (parity (v ∷ vs))) (ruled (rowOf k) (v ∷ vs))))) ≡ true
     go true x y = invert-defined v (and-left (isDefined v) (all isDefined vs) d)
     go false true y = parity-defined (v ∷ vs) d
     go false false true = invert-defined (parity (v ∷ vs)) (parity-defined (v ∷ vs) d)

@@ -1,44 +1,40 @@
--- Settling in place: steps from all undefined only add to the state, and a run over all gates that changes nothing shows it settled.
--- Cited by Verdict's code.
+-- Chaotic iteration from all undefined rises: a gate that is 0 or 1 keeps its value, so that evaluating gates in place
+-- only adds to the state.
 --   start-rising, step-rising, run-rising   every step only adds
---   run-grows, run-same-by-count            a run that adds nothing changes nothing
---   in-place-settled                        and then the state is settled
+--   run-grows                               so does a run of steps
 -- Assumes nothing.
-use Prim.Native.Nat.{ℕ, _≤_, _<_}
-use mathlib.Core.Path.{_≡_, refl, sym, ap, _∙_, subst}
+use Prim.Native.Nat.{ℕ, _<_}
+use mathlib.Core.Path.{_≡_, sym, ap, _∙_, subst}
 use mathlib.Core.Logic.{⊎-elim}
 use mathlib.Core.Bool.{false≢true}
 use mathlib.Core.List.{List, [], _∷_}
-use borrow.Author.Tests.{eq-eqb}
-use lib.Dec.{eqb}
 use lib.ListN.{length, getD, replicate}
 use lib.Seq.{getD-set-same}
-use Rattle.prelude.specs.Lists.{upTo}
-use Rattle.prelude.proofs.Quantifiers.{below-any}
 use Rattle.prelude.proofs.Lists.{member-first}
 use Rattle.netlist.specs.Values.{Value, undefined}
-use Rattle.netlist.specs.Netlist.{Block, gateCount, gateOf}
-use Rattle.netlist.specs.Rounds.{evaluated, settled}
-use Rattle.theory_fixpoint.specs.Order.{Below, BelowAll, Listed, definedAmong, Rising}
+use Rattle.netlist.specs.Netlist.{Block, gateOf}
+use Rattle.netlist.specs.Rounds.{evaluated}
+use Rattle.theory_fixpoint.specs.Order.{Below, BelowAll, Listed, Rising}
 use Rattle.netlist.specs.Steps.{stepAt, run}
 use Rattle.theory_fixpoint.proofs.Values.{below-of-eq, below-of-undefined, below-refl, below-trans}
 use Rattle.theory_fixpoint.proofs.Evaluation.{evaluated-mono-all}
 use Rattle.theory_fixpoint.proofs.ListFacts.{getD-replicate-default, AfterSet, new, old, after-set}
 use Rattle.theory_fixpoint.proofs.States.{states-antisym, below-set}
-use Rattle.theory_fixpoint.proofs.Counting.{same-by-count}
-use Rattle.theory_fixpoint.proofs.AnyOrder.{length-step, length-run, fixed-settled}
+use Rattle.theory_fixpoint.proofs.AnyOrder.{length-step}
 
 module _ (b : Block) (x : List Value) where
   -- All undefined is rising.
   pub start-rising : (n : ℕ) → Rising b x (replicate n undefined)
-  start-rising n j = below-of-undefined (evaluated x (replicate n undefined) (gateOf b j)) (getD-replicate-default n j undefined)
+  start-rising n j =
+      below-of-undefined (evaluated x (replicate n undefined) (gateOf b j)) (getD-replicate-default n j undefined)
 
   -- A step adds to a rising state,
   pub step-grows : (j : ℕ) (v : List Value) → Rising b x v → BelowAll v (stepAt b x j v)
   unfolding stepAt
-  step-grows j v h k = below-set (λ _. Unit) v v j (evaluated x v (gateOf b j)) (λ i s. below-refl (getD v i undefined)) (λ s. h j) k tt
+  step-grows j v h k =
+      below-set (λ _. Unit) v v j (evaluated x v (gateOf b j)) (λ i s. below-refl (getD v i undefined)) (λ s. h j) k tt
 
-  -- and leaves it rising.
+  -- A step leaves a rising state rising.
   pub step-rising : (j : ℕ) (v : List Value) → Rising b x v → Rising b x (stepAt b x j v)
   unfolding stepAt
   step-rising j v h k = go (after-set v j k (evaluated x v (gateOf b j)) undefined)
@@ -62,31 +58,20 @@ module _ (b : Block) (x : List Value) where
   run-rising [] v h = h
   run-rising (i ∷ js) v h = run-rising js (stepAt b x i v) (step-rising i v h)
 
-  -- Steps that define no gate more change nothing.
-  pub run-same-by-count : (js : List ℕ) (v : List Value) → Rising b x v
-      → definedAmong (upTo (length v)) (run b x js v) ≤ definedAmong (upTo (length v)) v → v ≡ run b x js v
-  run-same-by-count js v h l = same-by-count v (run b x js v) (length v) refl (length-run b x js v) (run-grows js v h) l
-
   -- Where steps change nothing, each gate among them has its value.
   pub run-fixed : (js : List ℕ) (v : List Value) → Rising b x v → BelowAll (run b x js v) v
       → (j : ℕ) → Listed js j → j < length v → evaluated x v (gateOf b j) ≡ getD v j undefined
   unfolding run stepAt
   run-fixed [] v h l j s m = absurd (false≢true s)
   run-fixed (i ∷ js) v h l j s m =
-      let back : BelowAll (stepAt b x i v) v = λ k. below-trans (run-grows js (stepAt b x i v) (step-rising i v h) k) (l k) in
+      let back : BelowAll (stepAt b x i v) v =
+      λ k. below-trans (run-grows js (stepAt b x i v) (step-rising i v h) k) (l k) in
       let e : stepAt b x i v ≡ v = states-antisym (stepAt b x i v) v (length-step b x i v) back (step-grows i v h) in
       let now : j ≡ i → evaluated x v (gateOf b j) ≡ getD v j undefined =
       λ q. sym (getD-set-same v j (evaluated x v (gateOf b j)) undefined m)
       ∙ rw q (ap (λ (u : List Value). getD u i undefined) e) in
       let later : Listed js j → evaluated x v (gateOf b j) ≡ getD v j undefined =
       λ t. subst (λ (u : List Value). evaluated x u (gateOf b j) ≡ getD u j undefined) e
-      (run-fixed js (stepAt b x i v) (step-rising i v h) (λ k. below-trans (l k) (step-grows i v h k)) j t (rw (length-step b x i v) m)) in
+      (run-fixed js (stepAt b x i v) (step-rising i v h) (λ k. below-trans (l k) (step-grows i v h k)) j t
+      (rw (length-step b x i v) m)) in
       ⊎-elim now later (member-first j i js s)
-
-  -- A rising state below the settled values that a run over all gates does not change is the settled one.
-  pub in-place-settled : (v : List Value) → length v ≡ gateCount b → BelowAll v (settled b x) → Rising b x v
-      → run b x (upTo (gateCount b)) v ≡ v → v ≡ settled b x
-  in-place-settled v e l h q =
-      fixed-settled b x v e l
-      (λ j m. run-fixed (upTo (gateCount b)) v h (λ k. below-of-eq (ap (λ (u : List Value). getD u k undefined) q)) j
-      (below-any (eqb j) (gateCount b) j m (eq-eqb j j refl)) (rw e m))

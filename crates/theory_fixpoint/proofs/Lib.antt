@@ -1,3 +1,4 @@
+-- Three-valued simulation as fixpoint iteration: laws of values, gates, rounds, steps and sweeps.
 pub mod Values
 pub mod Gates
 pub mod Evaluation

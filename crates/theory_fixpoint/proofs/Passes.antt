@@ -1,5 +1,5 @@
--- As many passes over a group of gates as it has gates put it above its settled values, from any start, where the gates that it reads
--- outside itself are so already. Cited for the number of passes that a group needs.
+-- As many passes over a group of gates as it has gates put it above its settled values, from any start, where the gates
+-- that it reads outside itself are so already. Cited for the number of passes that a group needs.
 --   passes-above-round     as many passes as a round defines gates of the group put it above that round
 --   passes-above-settled   as many as it has gates put it above the settled values
 -- Assumes nothing.
@@ -41,7 +41,8 @@ module _ (b : Block) (x : List Value) (before : ℕ → Type 0) (group : List �
   evaluated-above r v h j s =
       rw (getD-round b x (afterRounds b x r) j)
       (evaluated-mono x (afterRounds b x r) v b j
-      (λ k q. ⊎-elim (λ e. below-trans (afterRounds-below-settled b x r k) (h .settledBefore k e)) (h .roundIn k) (follows .inside j k s q)))
+      (λ k q. ⊎-elim (λ e. below-trans (afterRounds-below-settled b x r k) (h .settledBefore k e)) (h .roundIn k)
+      (follows .inside j k s q)))
 
   undefined-outside : (r k : ℕ) → gateCount b ≤ k → getD (afterRounds b x r) k undefined ≡ undefined
   undefined-outside r k l = List·getD-eq-default (afterRounds b x r) undefined {n = k} (rw (length-afterRounds b x r) l)
@@ -52,17 +53,20 @@ module _ (b : Block) (x : List Value) (before : ℕ → Type 0) (group : List �
       record {
         sized = length-step b x i v ∙ h .sized;
         settledBefore =
-            below-set before (settled b x) v i (evaluated x v (gateOf b i)) (h .settledBefore) (λ e. absurd (follows .apart i e s));
+            below-set before (settled b x) v i (evaluated x v (gateOf b i)) (h .settledBefore)
+            (λ e. absurd (follows .apart i e s));
         roundIn =
             below-set (Listed group) (afterRounds b x r) v i (evaluated x v (gateOf b i)) (h .roundIn)
             (λ _. below-trans (afterRounds-grow b x r i) (evaluated-above r v h i s));
       }
 
-  run-ready : (r : ℕ) (js : List ℕ) (v : List Value) → Ready r v → ((i : ℕ) → Listed js i → Listed group i) → Ready r (run b x js v)
+  run-ready : (r : ℕ) (js : List ℕ) (v : List Value) → Ready r v → ((i : ℕ) → Listed js i → Listed group i)
+      → Ready r (run b x js v)
   unfolding run
   run-ready r [] v h inGroup = h
   run-ready r (i ∷ js) v h inGroup =
-      run-ready r js (stepAt b x i v) (step-ready r v h i (inGroup i (member-head i js))) (λ k s. inGroup k (member-rest k i js s))
+      run-ready r js (stepAt b x i v) (step-ready r v h i (inGroup i (member-head i js)))
+      (λ k s. inGroup k (member-rest k i js s))
 
   -- a gate that is above the next round, or is still to be evaluated, ends above it
   run-above : (r : ℕ) (js : List ℕ) (v : List Value) → Ready r v → ((i : ℕ) → Listed js i → Listed group i)
@@ -72,7 +76,8 @@ module _ (b : Block) (x : List Value) (before : ℕ → Type 0) (group : List �
   run-above r [] v h inGroup k s (inl p) = p
   run-above r [] v h inGroup k s (inr m) = absurd (false≢true m)
   run-above r (i ∷ js) v h inGroup k s c =
-      run-above r js (stepAt b x i v) (step-ready r v h i (inGroup i (member-head i js))) (λ k s. inGroup k (member-rest k i js s)) k s
+      run-above r js (stepAt b x i v) (step-ready r v h i (inGroup i (member-head i js)))
+      (λ k s. inGroup k (member-rest k i js s)) k s
       (go (after-set v i k (evaluated x v (gateOf b i)) undefined) c)
     where
       go : AfterSet v i k (evaluated x v (gateOf b i)) undefined
@@ -81,7 +86,8 @@ module _ (b : Block) (x : List Value) (before : ℕ → Type 0) (group : List �
       go (new e l q) c = inl (below-trans (rw (← e) (evaluated-above r v h k s)) (below-of-eq (sym q)))
       go (old n q) (inl p) = inl (below-trans p (below-of-eq (sym q)))
       go (old n q) (inr m) =
-          ⊎-elim (λ e. inl (below-of-undefined _ (undefined-outside (suc r) k (omega (arith, n e, h .sized))))) (λ t. inr t)
+          ⊎-elim (λ e. inl (below-of-undefined _ (undefined-outside (suc r) k (omega (arith, n e, h .sized)))))
+          (λ t. inr t)
           (member-first k i js m)
 
   -- a pass over the group puts it above the next round
@@ -108,18 +114,22 @@ module _ (b : Block) (x : List Value) (before : ℕ → Type 0) (group : List �
         count n = definedAmong group (afterRounds b x n)
 
         go : (count r < count (suc r)) ⊎ (count (suc r) ≤ count r) → (p : ℕ) → count (suc r) ≤ p
-            → ((p : ℕ) → count r ≤ p → Ready r (run b x (repeated p group) v)) → Ready (suc r) (run b x (repeated p group) v)
+            → ((p : ℕ) → count r ≤ p → Ready r (run b x (repeated p group) v))
+            → Ready (suc r) (run b x (repeated p group) v)
         go (inl c) zero l h = absurd (omega arith)
-        go (inl c) (suc p) l h = rw (run-append b x (repeated p group) group v) (pass-above r (run b x (repeated p group) v) (h p (omega arith)))
+        go (inl c) (suc p) l h = rw (run-append b x (repeated p group) group v)
+            (pass-above r (run b x (repeated p group) v) (h p (omega arith)))
         go (inr c) p l h =
-            let grown : BelowOn (Listed group) (afterRounds b x r) (afterRounds b x (suc r)) = λ k s. afterRounds-grow b x r k in
+            let grown : BelowOn (Listed group) (afterRounds b x r) (afterRounds b x (suc r)) =
+            λ k s. afterRounds-grow b x r k in
             let ready : Ready r (run b x (repeated p group) v) =
             h p (omega (arith, definedAmong-mono (afterRounds b x r) (afterRounds b x (suc r)) group grown)) in
             record {
               sized = ready .sized;
               settledBefore = ready .settledBefore;
               roundIn =
-                  λ k s. below-trans (below-of-eq (sym (definedAmong-same (afterRounds b x r) (afterRounds b x (suc r)) group grown c k s)))
+                  λ k s. below-trans (below-of-eq
+                  (sym (definedAmong-same (afterRounds b x r) (afterRounds b x (suc r)) group grown c k s)))
                   (ready .roundIn k s);
             }
 
@@ -131,4 +141,5 @@ module _ (b : Block) (x : List Value) (before : ℕ → Type 0) (group : List �
     -- As many passes as the group has gates put it above its settled values.
     pub passes-above-settled : BelowOn (Listed group) (settled b x) (run b x (repeated (length group) group) v)
     unfolding settled
-    passes-above-settled = passes-above-round (rounds b x) (length group) (definedAmong-le group (afterRounds b x (rounds b x)))
+    passes-above-settled =
+        passes-above-round (rounds b x) (length group) (definedAmong-le group (afterRounds b x (rounds b x)))

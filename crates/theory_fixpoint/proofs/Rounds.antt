@@ -1,9 +1,9 @@
--- Rounds: the states grow, within m rounds a round changes nothing, and from then on none does. Cited by Settle's code and by the laws
--- on steps and sweeps.
+-- Rounds: the states grow, within m rounds a round changes nothing, and from then on none does. Cited by Settle's code
+-- and by the laws on steps and sweeps.
 --   getD-round, round-mono                   a round gate by gate; it grows with the state
 --   afterRounds-grow, stable-by-count, stable-all   states grow; no more defined means stable; m rounds are enough
 --   rounds-le, rounds-stable, rounds-least   how many rounds are needed
---   afterRounds-settled, afterRounds-all, settled-when-stable   from then on the state is settled
+--   afterRounds-settled                      from then on the state is settled
 --   round-settled, evaluated-settled         a round changes no settled value
 -- Assumes nothing.
 use Prim.Native.Nat.{ℕ, zero, suc, _+_, _-_, _≤_, _<_}
@@ -65,10 +65,6 @@ module _ (b : Block) (x : List Value) where
   grow-plus zero r j = rw zero-add (below-refl (getD (afterRounds b x r) j undefined))
   grow-plus (suc n) r j = rw suc-add (below-trans (grow-plus n r j) (afterRounds-grow (n + r) j))
 
-  -- Each round's state is below every later one.
-  pub afterRounds-mono : (r s : ℕ) → r ≤ s → BelowAll (afterRounds b x r) (afterRounds b x s)
-  afterRounds-mono r s l j = let e : s - r + r ≡ s = omega arith in rw e at (grow-plus (s - r) r j)
-
   -- `stable` says that a further round changes nothing.
   pub stable-eq : (r : ℕ) → isStable b x r ≡ true → afterRounds b x (suc r) ≡ afterRounds b x r
   unfolding isStable
@@ -96,11 +92,13 @@ module _ (b : Block) (x : List Value) where
 
   -- A round that defines no gate more changes nothing.
   pub stable-by-count : (r : ℕ)
-      → definedAmong (upTo (gateCount b)) (afterRounds b x (suc r)) ≤ definedAmong (upTo (gateCount b)) (afterRounds b x r)
+      → definedAmong (upTo (gateCount b)) (afterRounds b x (suc r))
+      ≤ definedAmong (upTo (gateCount b)) (afterRounds b x r)
       → isStable b x r ≡ true
   stable-by-count r h =
       eq-stable r
-      (sym (same-by-count (afterRounds b x r) (afterRounds b x (suc r)) (gateCount b) (length-afterRounds r) (length-afterRounds (suc r))
+      (sym (same-by-count (afterRounds b x r) (afterRounds b x (suc r)) (gateCount b) (length-afterRounds r)
+      (length-afterRounds (suc r))
       (afterRounds-grow r) h))
 
   defined-or-stable : (r : ℕ) → (r ≤ definedAmong (upTo (gateCount b)) (afterRounds b x r)) ⊎ (isStable b x r ≡ true)
@@ -113,7 +111,8 @@ module _ (b : Block) (x : List Value) where
       after : ℕ
       after = definedAmong (upTo (gateCount b)) (afterRounds b x (suc r))
 
-      go : (r ≤ before) ⊎ (isStable b x r ≡ true) → (before < after) ⊎ (after ≤ before) → (suc r ≤ after) ⊎ (isStable b x (suc r) ≡ true)
+      go : (r ≤ before) ⊎ (isStable b x r ≡ true) → (before < after) ⊎ (after ≤ before)
+          → (suc r ≤ after) ⊎ (isStable b x (suc r) ≡ true)
       go (inl h) (inl l) = inl (omega arith)
       go (inl h) (inr l) = inr (stable-next r (stable-by-count r l))
       go (inr h) l = inr (stable-next r h)
@@ -122,10 +121,15 @@ module _ (b : Block) (x : List Value) where
   pub stable-all : isStable b x (gateCount b) ≡ true
   stable-all = ⊎-elim full (λ h. h) (defined-or-stable (gateCount b))
     where
-      full : gateCount b ≤ definedAmong (upTo (gateCount b)) (afterRounds b x (gateCount b)) → isStable b x (gateCount b) ≡ true
+      full : gateCount b ≤ definedAmong (upTo (gateCount b)) (afterRounds b x (gateCount b))
+          → isStable b x (gateCount b) ≡ true
       full h =
           stable-by-count (gateCount b)
-          (omega (arith, definedAmong-le (upTo (gateCount b)) (afterRounds b x (suc (gateCount b))), length-tab (λ k. k) (gateCount b)))
+          (omega (
+            arith,
+            definedAmong-le (upTo (gateCount b)) (afterRounds b x (suc (gateCount b))),
+            length-tab (λ k. k) (gateCount b),
+          ))
 
   -- The rounds reported are at most m.
   pub rounds-le : rounds b x ≤ gateCount b
@@ -148,7 +152,8 @@ module _ (b : Block) (x : List Value) where
 
   -- Counting up to them: a round that changes something is one of them.
   pub rounds-more : (r : ℕ) → r ≤ rounds b x → isStable b x r ≡ false → suc r ≤ rounds b x
-  rounds-more r l h = ⊎-elim (λ m. m) (λ m. not-both {b = isStable b x r} (rw (le-antisymm l m) rounds-stable) h) (lt-or-le r (rounds b x))
+  rounds-more r l h = ⊎-elim (λ m. m) (λ m. not-both {b = isStable b x r} (rw (le-antisymm l m) rounds-stable) h)
+      (lt-or-le r (rounds b x))
 
   -- The first that changes nothing ends them.
   pub rounds-end : (r : ℕ) → r ≤ rounds b x → isStable b x r ≡ true → rounds b x ≡ r
@@ -159,19 +164,10 @@ module _ (b : Block) (x : List Value) where
   unfolding settled
   afterRounds-settled r l = stable-later (rounds b x) r l rounds-stable
 
-  -- in particular after m rounds
-  pub afterRounds-all : afterRounds b x (gateCount b) ≡ settled b x
-  afterRounds-all = afterRounds-settled (gateCount b) rounds-le
-
   -- A round changes no settled value.
   pub round-settled : round b x (settled b x) ≡ settled b x
   unfolding settled afterRounds
   round-settled = stable-eq (rounds b x) rounds-stable
-
-  -- A state from which a round changes nothing is settled.
-  pub settled-when-stable : (r : ℕ) → round b x (afterRounds b x r) ≡ afterRounds b x r → afterRounds b x r ≡ settled b x
-  unfolding afterRounds
-  settled-when-stable r e = afterRounds-settled r (rounds-least r (eq-stable r e))
 
   pub length-settled : length (settled b x) ≡ gateCount b
   unfolding settled

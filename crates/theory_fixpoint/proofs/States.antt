@@ -19,7 +19,8 @@ start-below n w j = below-of-undefined (getD w j undefined) (getD-replicate-defa
 
 -- Two states of one length that are below each other are one.
 pub states-antisym : (v w : List Value) → length v ≡ length w → BelowAll v w → BelowAll w v → v ≡ w
-states-antisym v w e h k = ext-getD undefined v w e (λ j l. below-antisym (getD v j undefined) (getD w j undefined) (h j) (k j))
+states-antisym v w e h k =
+    ext-getD undefined v w e (λ j l. below-antisym (getD v j undefined) (getD w j undefined) (h j) (k j))
 
 module _ (S : ℕ → Type 0) (v w : List Value) (i : ℕ) (a : Value) (below : BelowOn S v w) where
   -- A value stored in the lower state, below the upper state's, keeps the order.

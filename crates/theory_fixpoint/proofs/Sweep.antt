@@ -30,10 +30,12 @@ straight-unique b x u w h fu fw j l = below (suc j) j l (omega arith)
     below zero j l m = absurd (omega arith)
     below (suc n) j l m =
         sym (fu j l)
-        ∙ evaluated-agree x u w b j (λ k r. let q : k < j = straight-reads b h j k r in below n k (omega arith) (omega arith)) ∙ fw j l
+        ∙ evaluated-agree x u w b j (λ k r.
+        let q : k < j = straight-reads b h j k r in below n k (omega arith) (omega arith)) ∙ fw j l
 
 module _ (x : List Value) where
-  pub length-sweepFrom : (found : List Value) (gs : List Gate) → length (sweepFrom x found gs) ≡ length found + length gs
+  pub length-sweepFrom : (found : List Value) (gs : List Gate)
+      → length (sweepFrom x found gs) ≡ length found + length gs
   unfolding sweepFrom
   length-sweepFrom found [] = sym (add-zero (length found))
   length-sweepFrom found (g ∷ gs) =
@@ -74,7 +76,8 @@ module _ (b : Block) (x : List Value) where
   length-sweep = length-sweepFrom x [] (b .gates) ∙ zero-add (gateCount b)
 
   -- Each gate's value in a sweep is evaluated from those of the lower gates.
-  pub getD-sweep : (j : ℕ) → j < gateCount b → getD (sweep b x) j undefined ≡ evaluated x (take j (sweep b x)) (gateOf b j)
+  pub getD-sweep : (j : ℕ) → j < gateCount b
+      → getD (sweep b x) j undefined ≡ evaluated x (take j (sweep b x)) (gateOf b j)
   unfolding sweep
   getD-sweep j l = rw zero-add at (getD-sweepFrom x [] (b .gates) (record { kind = 0; operands = [] }) j l)
 

@@ -1,7 +1,7 @@
 -- Values, their codes and the information order. Every file of this crate cites it.
 --   valueOf-code, code-injective, code-le   values and their codes
 --   below-refl, -trans, -antisym            the order
---   below-defined, below-keeps-defined      what is above 0 or 1 is the same
+--   below-defined                           what is above 0 or 1 is equal to it
 -- Assumes nothing.
 use Prim.Native.Nat.{ℕ, _≤_}
 use mathlib.Core.Path.{_≡_, refl, ap, _∙_, sym}
@@ -18,7 +18,7 @@ valueOf-code undefined = refl
 valueOf-code (val false) = refl
 valueOf-code (val true) = refl
 
--- and so for a state
+-- the codes of a state name its values
 pub values-codes : (s : List Value) → map valueOf (map code s) ≡ s
 values-codes [] = refl
 values-codes (v ∷ s) = rw (valueOf-code v, values-codes s)
@@ -66,7 +66,3 @@ pub below-defined : (v w : Value) → Below v w → isDefined v ≡ true → v �
 unfolding isDefined
 below-defined undefined w h d = let z : _≡_ {A = ℕ} 0 1 = cc in absurd (omega arith)
 below-defined (val b) w h d = sym (h b refl)
-
--- what is above a value 0 or 1 is 0 or 1
-pub below-keeps-defined : (v w : Value) → Below v w → isDefined v ≡ true → isDefined w ≡ true
-below-keeps-defined v w h d = rw (← below-defined v w h d) d

@@ -1,5 +1,6 @@
--- The parser is right: a text is legal exactly where it parses, and where it does not, the place is that of the first bad byte. These are the
--- statements to cite; `parse-sound` and `parse-complete` are in Sound and Complete. Assumes nothing.
+-- The parser is right: a text is legal exactly where it parses, and where it does not, the place is that of the first
+-- bad byte. These are the statements to cite; `parse-sound` and `parse-complete` are in Sound and Complete.
+-- Assumes nothing.
 --   legal-parses, parsed-legal: a text is legal exactly when it parses
 --   parse-refused: where it does not, the place is that of the first bad byte
 --   first-bad-refused, and first-bad-one in FirstBad: there is only one such place
@@ -26,7 +27,11 @@ accepted-legal : (n : ℕ) (text : List ℕ) → accepted (textReader n text) �
 accepted-legal n text h = go (textReader n text) refl h
   where
     go : (p : Parsed Tree) → textReader n text ≡ p → accepted p ≡ true → Legal text
-    go (got t rest) e h = let f = textReader-sound n text .holds t rest e in record { tree = t; legal = f .legal; printed = f .printed }
+    go (got t rest) e h = let f = textReader-sound n text .holds t rest e in record {
+      tree = t;
+      legal = f .legal;
+      printed = f .printed;
+    }
     go (stuck m) e h = absurd (false≢true h)
 
 legal-parsed : (n : ℕ) (text : List ℕ) (l : Legal text) → length text ≤ n → textReader n text ≡ got (l .tree) []
@@ -47,7 +52,8 @@ parsed-legal text t rest e = let f = parse-sound text t rest e in record { tree 
 module _ (text : List ℕ) where
   refused-fails : (n left : ℕ) → length text ≤ n → parse text ≡ stuck left → Fails (textReader n) text left
   unfolding parse
-  refused-fails n left le e = textReader-good n .half .fails text left (textReader-bound n (length text) text le (omega arith) ∙ e)
+  refused-fails n left le e =
+      textReader-good n .half .fails text left (textReader-bound n (length text) text le (omega arith) ∙ e)
 
   pub refused-within : (left : ℕ) → parse text ≡ stuck left → left ≤ length text
   refused-within left e = fails-within _ text left (refused-fails (length text) left (omega arith) e)
@@ -55,10 +61,12 @@ module _ (text : List ℕ) where
   refused-begins : (left : ℕ) → parse text ≡ stuck left → Viable (take (length text - left) text)
   refused-begins left e =
       let g = textReader-good (length text) in
-      let b = fails-begins (textReader (length text)) (g .sample, g .accepts) text left (refused-fails (length text) left (omega arith) e) in
+      let b = fails-begins (textReader (length text)) (g .sample, g .accepts) text left
+      (refused-fails (length text) left (omega arith) e) in
       record { rest = b .0; legal = accepted-legal (length text) _ (b .1) }
 
-  refused-bad : (left : ℕ) → parse text ≡ stuck left → (length text - left ≡ length text) ⊎ (Viable (take (suc (length text - left)) text) → ⊥)
+  refused-bad : (left : ℕ) → parse text ≡ stuck left
+      → (length text - left ≡ length text) ⊎ (Viable (take (suc (length text - left)) text) → ⊥)
   refused-bad zero e = inl (omega arith)
   refused-bad (suc n) e = inr λ v.
       let beginning = take (suc (length text - suc n)) text ++ v .rest in

@@ -1,4 +1,5 @@
--- The result of reading a text does not depend on the bound on lines or pairs, once it is at least the length. Assumes nothing.
+-- The result of reading a text does not depend on the bound on lines or pairs, once it is at least the length.
+-- Assumes nothing.
 --   textReader-bound, pairsReader-bound: every bound that is at least the length gives one result
 use Prim.Native.Nat.{ℕ, zero, suc, _-_, _≤_}
 use mathlib.Core.Path.{_≡_, refl, sym, ap, _∙_}
@@ -11,9 +12,10 @@ use Rattle.prelude.specs.Lists.{ascii}
 use Rattle.netlist.specs.Limits.{maxDepth}
 use Rattle.netlist.specs.Names.{isLetter, isNameByte, isNameStart}
 use Rattle.netlist.specs.Syntax.{Terms, Pair, Tree}
-use Rattle.netlist.specs.Parse.{Parsed, Reader, got, stuck, stop, onTest, ifNext, expect, onParsed, bind, nameReader, exprReader, termReader, pairReader}
-use Rattle.netlist.specs.Parse.{spacedPair, pairsReader, neverPairs, inputLine, neverLine, gateLine, outputLine, atEnd, line, outputsReader, gatesReader}
-use Rattle.netlist.specs.Parse.{neversReader, textReader}
+use Rattle.netlist.specs.Parse.{Parsed, Reader, got, stuck, stop, onTest, ifNext, expect, onParsed, bind, nameReader}
+use Rattle.netlist.specs.Parse.{exprReader, termReader, pairReader, spacedPair, pairsReader, neverPairs, inputLine}
+use Rattle.netlist.specs.Parse.{neverLine, gateLine, outputLine, atEnd, line, outputsReader, gatesReader, neversReader}
+use Rattle.netlist.specs.Parse.{textReader}
 use Rattle.theory_grammar.proofs.Lengths.{pair-length, pairs-length}
 use Rattle.theory_grammar.proofs.Pairs.{pairReader-sound, neverPairs-sound}
 use Rattle.theory_grammar.proofs.SoundTerms.{letter-nameByte, nameStart-nameByte}
@@ -64,7 +66,8 @@ module _ {A : Type 0} (k : ℕ) where
   alike-expect (c ∷ cs) r q h = alike-ifNext (eqb c) _ _ stop stop (λ _. alike-expect cs r q h) alike-self
 
 module _ {A B : Type 0} (k : ℕ) where
-  alike-bind : (r : Reader A) (f g : A → Reader B) → Shrinks r → ((a : A) → Alike k (f a) (g a)) → Alike k (bind r f) (bind r g)
+  alike-bind : (r : Reader A) (f g : A → Reader B) → Shrinks r → ((a : A) → Alike k (f a) (g a))
+      → Alike k (bind r f) (bind r g)
   unfolding bind onParsed
   alike-bind r f g sh h = record { alike = λ s le. go s le (r s) refl }
     where
@@ -77,10 +80,14 @@ module _ {A B : Type 0} (k : ℕ) where
   alike-first r q f h = record { alike = λ s le. rw (h .alike s le) }
 
 nameReader-shrinks : (start : ℕ → Bool) → ((c : ℕ) → start c ≡ true → isNameByte c ≡ true) → Shrinks (nameReader start)
-nameReader-shrinks start within = record { shrinks = λ s x t e. let h = nameReader-shorter start within s x t e in omega arith }
+nameReader-shrinks start within = record {
+  shrinks = λ s x t e. let h = nameReader-shorter start within s x t e in omega arith;
+}
 
 exprReader-shrinks : {A : Type 0} (depth : ℕ) (make : ℕ → Terms → A) → Shrinks (exprReader (termReader depth) make)
-exprReader-shrinks depth make = record { shrinks = λ s a t e. let h = exprReader-shorter depth make s a t e in omega arith }
+exprReader-shrinks depth make = record {
+  shrinks = λ s a t e. let h = exprReader-shorter depth make s a t e in omega arith;
+}
 
 alike-zero : {A : Type 0} (r q : Reader A) → r [] ≡ q [] → Alike zero r q
 alike-zero r q e = record { alike = go }
@@ -93,12 +100,14 @@ alike-zero r q e = record { alike = go }
 
 pairReader-shrinks : Shrinks pairReader
 pairReader-shrinks = record {
-  shrinks = λ s p t e. let h = pairReader-sound s .holds p t e in omega (arith, pair-length p t, ap length (h .printed));
+  shrinks = λ s p t e. let h = pairReader-sound s .holds p t e in
+      omega (arith, pair-length p t, ap length (h .printed));
 }
 
 neverPairs-shrinks : Shrinks neverPairs
 neverPairs-shrinks = record {
-  shrinks = λ s ps t e. let h = neverPairs-sound s .holds ps t e in omega (arith, pairs-length ps t, ap length (h .printed));
+  shrinks = λ s ps t e. let h = neverPairs-sound s .holds ps t e in
+      omega (arith, pairs-length ps t, ap length (h .printed));
 }
 
 spacedPair-alike : (k : ℕ) (r q : Reader (List Pair)) → Alike k r q → Alike (suc k) (spacedPair r) (spacedPair q)
@@ -117,11 +126,14 @@ pairs-bound zero n m needed a b = alike-zero _ _ (empty n needed ∙ sym (empty 
 pairs-bound (suc k) zero m needed a b = absurd (omega arith)
 pairs-bound (suc k) (suc n) zero needed a b = absurd (omega arith)
 pairs-bound (suc k) (suc n) (suc m) zero a b =
-    alike-ifNext (suc k) _ _ _ _ _ (λ _. alike-self (suc k)) (spacedPair-alike k _ _ (pairs-bound k n m zero (omega arith) (omega arith)))
-pairs-bound (suc k) (suc n) (suc m) (suc needed) a b = spacedPair-alike k _ _ (pairs-bound k n m needed (omega arith) (omega arith))
+    alike-ifNext (suc k) _ _ _ _ _ (λ _. alike-self (suc k))
+    (spacedPair-alike k _ _ (pairs-bound k n m zero (omega arith) (omega arith)))
+pairs-bound (suc k) (suc n) (suc m) (suc needed) a b =
+    spacedPair-alike k _ _ (pairs-bound k n m needed (omega arith) (omega arith))
 
 -- Every bound that is at least the length gives one result.
-pub pairsReader-bound : (n m needed : ℕ) (s : List ℕ) → length s ≤ n → length s ≤ m → pairsReader n needed s ≡ pairsReader m needed s
+pub pairsReader-bound : (n m needed : ℕ) (s : List ℕ) → length s ≤ n → length s ≤ m
+    → pairsReader n needed s ≡ pairsReader m needed s
 pairsReader-bound n m needed s a b = pairs-bound (length s) n m needed a b .alike s (omega arith)
 
 -- ---- lines
@@ -131,7 +143,8 @@ module _ (k : ℕ) (r q : Reader Tree) (h : Alike k r q) (a b : Reader Tree) (e 
   unfolding inputLine
   inputLine-alike =
       alike-ifNext k _ _ _ _ _
-      (λ _. alike-expect k (ascii "n ") _ _ (alike-bind k (nameReader isLetter) _ _ (nameReader-shrinks isLetter letter-nameByte)
+      (λ _. alike-expect k (ascii "n ") _ _
+      (alike-bind k (nameReader isLetter) _ _ (nameReader-shrinks isLetter letter-nameByte)
       λ s. alike-expect k (ascii ")\n") _ _ (alike-first k r q _ h))) e
 
   neverLine-alike : Alike k (neverLine r a) (neverLine q b)
@@ -145,16 +158,20 @@ module _ (k : ℕ) (r q : Reader Tree) (h : Alike k r q) (a b : Reader Tree) (e 
   unfolding gateLine
   gateLine-alike =
       alike-ifNext k _ _ _ _ _
-      (λ _. alike-expect k (ascii "ate ") _ _ (alike-bind k (nameReader isNameStart) _ _ (nameReader-shrinks isNameStart nameStart-nameByte)
-      λ s. alike-expect k (ascii " (") _ _ (alike-bind k (exprReader (termReader (maxDepth - 1)) _) _ _ (exprReader-shrinks (maxDepth - 1) _)
+      (λ _. alike-expect k (ascii "ate ") _ _
+      (alike-bind k (nameReader isNameStart) _ _ (nameReader-shrinks isNameStart nameStart-nameByte)
+      λ s. alike-expect k (ascii " (") _ _
+      (alike-bind k (exprReader (termReader (maxDepth - 1)) _) _ _ (exprReader-shrinks (maxDepth - 1) _)
       λ g. alike-expect k (ascii ")\n") _ _ (alike-first k r q _ h)))) e
 
   outputLine-alike : Alike k (outputLine r a) (outputLine q b)
   unfolding outputLine
   outputLine-alike =
       alike-ifNext k _ _ _ _ _
-      (λ _. alike-expect k (ascii "ut ") _ _ (alike-bind k (nameReader isLetter) _ _ (nameReader-shrinks isLetter letter-nameByte)
-      λ p. alike-expect k (ascii " ") _ _ (alike-bind k (nameReader isNameStart) _ _ (nameReader-shrinks isNameStart nameStart-nameByte)
+      (λ _. alike-expect k (ascii "ut ") _ _
+      (alike-bind k (nameReader isLetter) _ _ (nameReader-shrinks isLetter letter-nameByte)
+      λ p. alike-expect k (ascii " ") _ _
+      (alike-bind k (nameReader isNameStart) _ _ (nameReader-shrinks isNameStart nameStart-nameByte)
       λ s. alike-expect k (ascii ")\n") _ _ (alike-first k r q _ h)))) e
 
 line-alike : (k : ℕ) (r q : Reader Tree) → Alike k r q → Alike (suc k) (line r) (line q)
@@ -162,16 +179,19 @@ unfolding line
 line-alike k r q h = alike-taken k _ _ _ _ (λ _. h)
 
 module _ (reader : ℕ → Reader Tree) (empty : (n : ℕ) → reader n [] ≡ atEnd [])
-    (step : (k n m : ℕ) → k ≤ n → k ≤ m → Alike k (reader n) (reader m) → Alike (suc k) (reader (suc n)) (reader (suc m))) where
+    (step : (k n m : ℕ) → k ≤ n → k ≤ m → Alike k (reader n) (reader m)
+    → Alike (suc k) (reader (suc n)) (reader (suc m))) where
   any-bound : (k n m : ℕ) → k ≤ n → k ≤ m → Alike k (reader n) (reader m)
   any-bound zero n m a b = alike-zero (reader n) (reader m) (empty n ∙ sym (empty m))
   any-bound (suc k) zero m a b = absurd (omega arith)
   any-bound (suc k) (suc n) zero a b = absurd (omega arith)
-  any-bound (suc k) (suc n) (suc m) a b = step k n m (omega arith) (omega arith) (any-bound k n m (omega arith) (omega arith))
+  any-bound (suc k) (suc n) (suc m) a b =
+      step k n m (omega arith) (omega arith) (any-bound k n m (omega arith) (omega arith))
 
 outputs-bound : (k n m : ℕ) → k ≤ n → k ≤ m → Alike k (outputsReader n) (outputsReader m)
 unfolding outputsReader line ifNext
-outputs-bound = any-bound outputsReader empty λ k n m a b h. line-alike k _ _ (outputLine-alike k _ _ h stop stop (alike-self k))
+outputs-bound =
+    any-bound outputsReader empty λ k n m a b h. line-alike k _ _ (outputLine-alike k _ _ h stop stop (alike-self k))
   where
     empty : (n : ℕ) → outputsReader n [] ≡ atEnd []
     empty zero = refl
@@ -189,7 +209,8 @@ gates-bound = any-bound gatesReader empty λ k n m a b h. line-alike k _ _
 nevers-bound : (k n m : ℕ) → k ≤ n → k ≤ m → Alike k (neversReader n) (neversReader m)
 unfolding neversReader line ifNext
 nevers-bound = any-bound neversReader empty λ k n m a b h. line-alike k _ _ (neverLine-alike k _ _ h _ _
-    (gateLine-alike k _ _ (gates-bound k n m a b) _ _ (outputLine-alike k _ _ (outputs-bound k n m a b) stop stop (alike-self k))))
+    (gateLine-alike k _ _ (gates-bound k n m a b) _ _
+    (outputLine-alike k _ _ (outputs-bound k n m a b) stop stop (alike-self k))))
   where
     empty : (n : ℕ) → neversReader n [] ≡ atEnd []
     empty zero = refl
@@ -199,7 +220,8 @@ text-bound : (k n m : ℕ) → k ≤ n → k ≤ m → Alike k (textReader n) (t
 unfolding textReader line ifNext
 text-bound = any-bound textReader empty λ k n m a b h. line-alike k _ _ (inputLine-alike k _ _ h _ _
     (neverLine-alike k _ _ (nevers-bound k n m a b) _ _
-    (gateLine-alike k _ _ (gates-bound k n m a b) _ _ (outputLine-alike k _ _ (outputs-bound k n m a b) stop stop (alike-self k)))))
+    (gateLine-alike k _ _ (gates-bound k n m a b) _ _
+    (outputLine-alike k _ _ (outputs-bound k n m a b) stop stop (alike-self k)))))
   where
     empty : (n : ℕ) → textReader n [] ≡ atEnd []
     empty zero = refl

@@ -1,5 +1,5 @@
--- A reader that takes its bound from the text is good, where every reader of a fixed bound is, since any bound that is large enough gives one result.
--- Cited for the pairs of a never line. Assumes nothing.
+-- A reader that takes its bound from the text is good, where every reader of a fixed bound is, since any bound that is
+-- large enough gives one result. Cited for the pairs of a never line. Assumes nothing.
 --   good-bounded: the law
 use Prim.Native.Nat.{ℕ, suc, _+_, _≤_}
 use mathlib.Core.Path.{_≡_, ap, _∙_}
@@ -21,7 +21,8 @@ module _ {T : Type 0} where
   fails-bounded before bounded r same more [] left f = f before (omega arith)
   fails-bounded before bounded r same more (c ∷ s) left f =
       go (f (suc (length s) + before) (omega arith))
-      (fails-bounded (suc before) (λ n w. bounded n (c ∷ w)) (λ w. r (c ∷ w)) (λ n w m. same n (c ∷ w) (omega arith)) (λ n w. more n (c ∷ w)) s left)
+      (fails-bounded (suc before) (λ n w. bounded n (c ∷ w)) (λ w. r (c ∷ w)) (λ n w m. same n (c ∷ w) (omega arith))
+      (λ n w. more n (c ∷ w)) s left)
     where
       -- the byte is the bad one: with a larger bound too
       bad : left ≡ suc (length s) → (w : List ℕ) → accepted (r (c ∷ w)) ≡ true → ⊥
@@ -34,7 +35,7 @@ module _ {T : Type 0} where
           at (inl g) = g .1 w (ap accepted (same n (c ∷ w) (omega arith)) ∙ h)
           at (inr g) = let m = fails-within (λ w. bounded n (c ∷ w)) s left (g .1) in omega arith
 
-      -- it is not: with a larger bound neither
+      -- the byte is not the bad one: with a larger bound neither
       behind : left ≤ length s → (n : ℕ) → length s + suc before ≤ n → Fails (λ w. bounded n (c ∷ w)) s left
       behind le n m = at (f n (omega arith))
         where
@@ -43,7 +44,8 @@ module _ {T : Type 0} where
           at (inr g) = g .1
 
       go : Fails (bounded (suc (length s) + before)) (c ∷ s) left
-          → (((n : ℕ) → length s + suc before ≤ n → Fails (λ w. bounded n (c ∷ w)) s left) → Fails (λ w. r (c ∷ w)) s left)
+          → (((n : ℕ) → length s + suc before ≤ n → Fails (λ w. bounded n (c ∷ w)) s left)
+          → Fails (λ w. r (c ∷ w)) s left)
           → Fails r (c ∷ s) left
       go (inl g) rec = inl (g .0, bad (g .0))
       go (inr g) rec =

@@ -1,4 +1,5 @@
--- The print of a legal name or expression is read back. Only here does it matter which byte may follow a name. Assumes nothing.
+-- The print of a legal name or expression is read back. Only here does it matter which byte may follow a name.
+-- Assumes nothing.
 use Prim.Native.Nat.{ℕ, zero, suc, _-_, _≤_}
 use mathlib.Core.Path.{_≡_, refl, _∙_}
 use mathlib.Core.Bool.{Bool, true, false, _&&_, and-eq-true-iff, false≢true}
@@ -12,16 +13,17 @@ use Rattle.netlist.specs.Limits.{maxName}
 use Rattle.netlist.specs.Kinds.{isKind, fewestOperands, mostOperands, arityFits, keyword, signatureOf}
 use Rattle.netlist.specs.Netlist.{Name}
 use Rattle.netlist.specs.Names.{isLetter, isDigit, isUnderscore, isNameByte, isNameStart, isLegalName, isNodeName}
-use Rattle.netlist.specs.Syntax.{Term, Terms, name, literal, apply, nil, cons, printTerm, printTerms, termCount, isLegalTerm, isLegalTerms}
-use Rattle.netlist.specs.Parse.{got, Reader, pure, onTest, ifNext, expect, nameBytes, nameAfter, nameReader, kindReader, spaced, termsReader, exprReader}
-use Rattle.netlist.specs.Parse.{leafOr, termReader}
+use Rattle.netlist.specs.Syntax.{Term, Terms, name, literal, apply, nil, cons, printTerm, printTerms, termCount}
+use Rattle.netlist.specs.Syntax.{isLegalTerm, isLegalTerms}
+use Rattle.netlist.specs.Parse.{got, Reader, pure, onTest, ifNext, expect, nameBytes, nameAfter, nameReader, kindReader}
+use Rattle.netlist.specs.Parse.{spaced, termsReader, exprReader, leafOr, termReader}
 use Rattle.theory_grammar.proofs.Equations.{ifNext-true, ifNext-false, expect-back, bind-got}
 use Rattle.theory_grammar.proofs.ListFacts.{and3}
 use Rattle.theory_encoding.proofs.Gates.{by-kind}
 
 -- ---- names
 
--- it begins with a byte that no name has
+-- the text begins with a byte that no name has
 abbrev pub Ends : List ℕ → Type 0
 Ends [] = ⊥
 Ends (x ∷ s) = isNameByte x ≡ false
@@ -47,7 +49,8 @@ pub record NameFacts (start : ℕ → Bool) (c : ℕ) (cs : Name) : Type 0 where
 pub name-facts : (start : ℕ → Bool) (c : ℕ) (cs : Name) → isLegalName start (c ∷ cs) ≡ true → NameFacts start c cs
 unfolding isLegalName
 name-facts start c cs h =
-    let a = and3 (leb 1 (suc (length cs)) && leb (suc (length cs)) maxName) (start c) (isNameByte c && all isNameByte cs) h in
+    let a = and3 (leb 1 (suc (length cs)) && leb (suc (length cs)) maxName) (start c)
+    (isNameByte c && all isNameByte cs) h in
     let b = and-eq-true-iff (leb 1 (suc (length cs))) (leb (suc (length cs)) maxName) .0 (a .0) in
     let d = and-eq-true-iff (isNameByte c) (all isNameByte cs) .0 (a .2) in
     record { passes = a .1; few = omega (arith, leb-true (suc (length cs)) maxName (b .1)); legal = d .1 }
@@ -60,7 +63,8 @@ nameAfter-back : (start : ℕ → Bool) (c : ℕ) (cs : Name) (rest : List ℕ) 
     → nameAfter c (cs ++ rest) ≡ got (c ∷ cs) rest
 unfolding nameAfter pure
 nameAfter-back start c cs rest p e =
-    bind-got (nameBytes (maxName - 1)) _ (cs ++ rest) cs rest (nameBytes-back (maxName - 1) cs rest (p .few) (p .legal) e)
+    bind-got (nameBytes (maxName - 1)) _ (cs ++ rest) cs rest
+    (nameBytes-back (maxName - 1) cs rest (p .few) (p .legal) e)
 
 pub nameReader-back : (start : ℕ → Bool) (x : Name) (rest : List ℕ) → isLegalName start x ≡ true → Ends rest
     → nameReader start (x ++ rest) ≡ got x rest
@@ -123,7 +127,8 @@ spaced-back : (term : Reader Term) (others : Reader Terms) (t : Term) (ts : Term
     → others (printTerms ts (ascii ")" ++ rest)) ≡ got ts rest
     → spaced term others (printTerms (cons t ts) (ascii ")" ++ rest)) ≡ got (cons t ts) rest
 unfolding spaced printTerms pure
-spaced-back term others t ts rest e f = expect-back (ascii " ") _ _ ∙ bind-got term _ _ t _ e ∙ bind-got others _ _ ts rest f
+spaced-back term others t ts rest e f =
+    expect-back (ascii " ") _ _ ∙ bind-got term _ _ t _ e ∙ bind-got others _ _ ts rest f
 
 mutual
   unfolding termReader printTerm isLegalTerm pure termsReader printTerms isLegalTerms termCount
@@ -137,9 +142,11 @@ mutual
   termReader-back (apply k ts) zero rest h e = absurd (false≢true h)
   termReader-back (apply k ts) (suc depth) rest h e =
       leafOr-bracket _ _ ∙ expect-back (ascii "(") _ _
-      ∙ exprReader-back depth apply k ts rest (λ most needed l enough fits. termsReader-back ts depth most needed rest l enough fits) h
+      ∙ exprReader-back depth apply k ts rest
+      (λ most needed l enough fits. termsReader-back ts depth most needed rest l enough fits) h
 
-  pub termsReader-back : (ts : Terms) (depth most needed : ℕ) (rest : List ℕ) → isLegalTerms ts depth ≡ true → needed ≤ termCount ts
+  pub termsReader-back : (ts : Terms) (depth most needed : ℕ) (rest : List ℕ) → isLegalTerms ts depth ≡ true
+      → needed ≤ termCount ts
       → termCount ts ≤ most
       → termsReader (termReader depth) most needed (printTerms ts (ascii ")" ++ rest)) ≡ got ts rest
   termsReader-back nil depth zero needed rest h enough fits = expect-back (ascii ")") _ _
@@ -150,13 +157,17 @@ mutual
       let f = and-eq-true-iff (isLegalTerm t depth) (isLegalTerms ts depth) .0 h in
       ifNext-false _ _ _ _ _ refl
       ∙ spaced-back (termReader depth) (termsReader (termReader depth) most zero) t ts rest
-      (termReader-back t depth _ (f .0) (terms-end ts rest)) (termsReader-back ts depth most zero rest (f .1) (omega arith) (omega arith))
+      (termReader-back t depth _ (f .0) (terms-end ts rest))
+      (termsReader-back ts depth most zero rest (f .1) (omega arith) (omega arith))
   termsReader-back (cons t ts) depth (suc most) (suc needed) rest h enough fits =
       let f = and-eq-true-iff (isLegalTerm t depth) (isLegalTerms ts depth) .0 h in
       spaced-back (termReader depth) (termsReader (termReader depth) most needed) t ts rest
-      (termReader-back t depth _ (f .0) (terms-end ts rest)) (termsReader-back ts depth most needed rest (f .1) (omega arith) (omega arith))
+      (termReader-back t depth _ (f .0) (terms-end ts rest))
+      (termsReader-back ts depth most needed rest (f .1) (omega arith) (omega arith))
 
 -- an EXPR behind its opening bracket
-pub expr-back : {A : Type 0} (depth : ℕ) (make : ℕ → Terms → A) (k : ℕ) (ts : Terms) (rest : List ℕ) → isLegalTerm (apply k ts) (suc depth) ≡ true
+pub expr-back : {A : Type 0} (depth : ℕ) (make : ℕ → Terms → A) (k : ℕ) (ts : Terms) (rest : List ℕ)
+    → isLegalTerm (apply k ts) (suc depth) ≡ true
     → exprReader (termReader depth) make (keyword k ++ printTerms ts (ascii ")" ++ rest)) ≡ got (make k ts) rest
-expr-back depth make k ts rest = exprReader-back depth make k ts rest (λ most needed. termsReader-back ts depth most needed rest)
+expr-back depth make k ts rest =
+    exprReader-back depth make k ts rest (λ most needed. termsReader-back ts depth most needed rest)

@@ -51,7 +51,8 @@ module _ {T : Type 0} (isLegalTree : T → Bool) (print : T → List ℕ) (reade
   refused-bad : (left : ℕ) → reader text ≡ stuck left
       → (length text - left ≡ length text) ⊎ (ViableOf isLegalTree print (take (suc (length text - left)) text) → ⊥)
   refused-bad zero e = inl (omega arith)
-  refused-bad (suc n) e = inr λ v. fails-bad reader text n (good .half .fails text (suc n) e) (v .rest) (complete _ (v .legal))
+  refused-bad (suc n) e =
+      inr λ v. fails-bad reader text n (good .half .fails text (suc n) e) (v .rest) (complete _ (v .legal))
 
   pub refused-first-bad : (left : ℕ) → reader text ≡ stuck left → FirstBadOf isLegalTree print text (length text - left)
   refused-first-bad left e =
@@ -68,7 +69,8 @@ module _ {T : Type 0} {isLegalTree : T → Bool} {print : T → List ℕ} where
   viable-shorter : (a b : List ℕ) → ViableOf isLegalTree print (a ++ b) → ViableOf isLegalTree print a
   viable-shorter a b v = record { rest = b ++ v .rest; legal = rw append-assoc at (v .legal) }
 
-  viable-take : (text : List ℕ) (m n : ℕ) → m ≤ n → ViableOf isLegalTree print (take n text) → ViableOf isLegalTree print (take m text)
+  viable-take : (text : List ℕ) (m n : ℕ) → m ≤ n → ViableOf isLegalTree print (take n text)
+      → ViableOf isLegalTree print (take m text)
   viable-take text m n le v =
       viable-shorter (take m text) (drop m (take n text))
       (rw (← take-take m n text le, take-append-drop m (take n text)) v)
@@ -77,12 +79,14 @@ module _ {T : Type 0} {isLegalTree : T → Bool} {print : T → List ℕ} where
     first-bad-within : (d : ℕ) → FirstBadOf isLegalTree print text d → d ≤ length text
     first-bad-within d f = go (lt-or-le (length text) d) (f .bad)
       where
-        go : (length text < d) ⊎ (d ≤ length text) → (d ≡ length text) ⊎ (ViableOf isLegalTree print (take (suc d) text) → ⊥)
+        go : (length text < d) ⊎ (d ≤ length text)
+            → (d ≡ length text) ⊎ (ViableOf isLegalTree print (take (suc d) text) → ⊥)
             → d ≤ length text
         go (inr le) b = le
         go (inl l) (inl e) = omega arith
         go (inl l) (inr no-more) =
-            let e : take (suc d) text ≡ take d text = take-all (suc d) text (omega arith) ∙ sym (take-all d text (omega arith)) in
+            let e : take (suc d) text ≡ take d text =
+            take-all (suc d) text (omega arith) ∙ sym (take-all d text (omega arith)) in
             absurd (no-more (rw e (f .begins)))
 
     not-earlier : (d e : ℕ) → FirstBadOf isLegalTree print text d → FirstBadOf isLegalTree print text e → d < e → ⊥
@@ -110,6 +114,7 @@ module _ {T : Type 0} (legalTree : T → Bool) (print : T → List ℕ) (reader 
       go : (p : Parsed T) → reader text ≡ p → p ≡ stuck (length text - d)
       go (got t rest) e = absurd (f .illegal (sound text (ap accepted e)))
       go (stuck left) e =
-          let h = first-bad-one text d (length text - left) f (refused-first-bad legalTree print reader good sound complete text left e) in
+          let h = first-bad-one text d (length text - left) f
+          (refused-first-bad legalTree print reader good sound complete text left e) in
           let g = fails-within reader text left (good .half .fails text left e) in
           ap stuck (let q : left ≡ length text - d = omega arith in q)

@@ -1,6 +1,6 @@
--- Prints are longer than what follows them: by what expressions and lines add. Cited for the bound on lines and for the laws that a
--- reader's rest is shorter. Assumes nothing.
---   term-length, terms-length, input-length, pair-length, never-length, gate-length, output-length: what each print adds
+-- Prints are longer than what follows them: by what expressions and lines add. Cited for the bound on lines and for the
+-- laws that a reader's rest is shorter. Assumes nothing.
+--   term-length, terms-length, input-length, pair-length, never-length, gate-length, output-length: bytes of a print
 --   pairs-length: pairs have as many bytes as there are of them, and a bracket more
 --   lineCount-length: no text has more lines than bytes
 use Prim.Native.Nat.{ℕ, _+_, _≤_, _<_}
@@ -11,8 +11,9 @@ use lib.ListN.{length, length-append}
 use Rattle.prelude.specs.Lists.{ascii}
 use Rattle.netlist.specs.Netlist.{Name}
 use Rattle.netlist.specs.Kinds.{keyword}
-use Rattle.netlist.specs.Syntax.{Term, Terms, name, literal, apply, nil, cons, GateLine, OutputLine, Pair, Tree, printTerm, printTerms, printInput, pairText}
-use Rattle.netlist.specs.Syntax.{printPair, printNever, printGate, printOutput, printLines, print}
+use Rattle.netlist.specs.Syntax.{Term, Terms, name, literal, apply, nil, cons, GateLine, OutputLine, Pair, Tree}
+use Rattle.netlist.specs.Syntax.{printTerm, printTerms, printInput, pairText, printPair, printNever, printGate}
+use Rattle.netlist.specs.Syntax.{printOutput, printLines, print}
 
 mutual
   unfolding printTerm printTerms
@@ -26,7 +27,8 @@ mutual
 
   pub terms-length : (ts : Terms) (rest : List ℕ) → length rest ≤ length (printTerms ts rest)
   terms-length nil rest = omega arith
-  terms-length (cons t ts) rest = let h = terms-length ts rest in let g = term-length t (printTerms ts rest) in omega arith
+  terms-length (cons t ts) rest =
+      let h = terms-length ts rest in let g = term-length t (printTerms ts rest) in omega arith
 
 pub input-length : (x : Name) (rest : List ℕ) → length rest < length (printInput x rest)
 unfolding printInput
@@ -38,13 +40,15 @@ pair-length p rest = simp length-append (omega arith)
 
 pub gate-length : (g : GateLine) (rest : List ℕ) → length rest < length (printGate g rest)
 unfolding printGate
-gate-length g rest = let h = term-length (apply (g .kind) (g .terms)) (ascii ")\n" ++ rest) in simp length-append (omega arith)
+gate-length g rest = let h = term-length (apply (g .kind) (g .terms)) (ascii ")\n" ++ rest) in
+    simp length-append (omega arith)
 
 pub output-length : (o : OutputLine) (rest : List ℕ) → length rest < length (printOutput o rest)
 unfolding printOutput
 output-length o rest = simp length-append (omega arith)
 
-lines-length : {A : Type 0} (line : A → List ℕ → List ℕ) → ((x : A) (rest : List ℕ) → length rest < length (line x rest))
+lines-length : {A : Type 0} (line : A → List ℕ → List ℕ)
+    → ((x : A) (rest : List ℕ) → length rest < length (line x rest))
     → (xs : List A) (rest : List ℕ)
     → length xs + length rest ≤ length (printLines line xs rest)
 unfolding printLines
@@ -54,7 +58,8 @@ lines-length line longer (x ∷ xs) rest =
     let g = longer x (printLines line xs rest) in
     omega arith
 
-pub pairs-length : (ps : List Pair) (rest : List ℕ) → length ps + length rest < length (printLines printPair ps (ascii ")" ++ rest))
+pub pairs-length : (ps : List Pair) (rest : List ℕ)
+    → length ps + length rest < length (printLines printPair ps (ascii ")" ++ rest))
 pairs-length ps rest = omega (arith, lines-length printPair pair-length ps (ascii ")" ++ rest))
 
 pub never-length : (ps : List Pair) (rest : List ℕ) → length rest < length (printNever ps rest)

@@ -28,4 +28,9 @@ limits-within t h =
     let e = and-parts (i && l && g) o (not-false (i && l && g && o) h) in
     let d = and-parts (i && l) g (e .0) in
     let c = and-parts i l (d .0) in
-    record { inputs = leb-true _ _ (c .0); nevers = leb-true _ _ (c .1); gates = leb-true _ _ (d .1); outputs = leb-true _ _ (e .1) }
+    record {
+      inputs = leb-true _ _ (c .0);
+      nevers = leb-true _ _ (c .1);
+      gates = leb-true _ _ (d .1);
+      outputs = leb-true _ _ (e .1);
+    }

@@ -33,7 +33,8 @@ unfolding maskOf
 mask-of-bits test [] m l h = omega arith
 mask-of-bits test (v ∷ vs) m l h =
     let e : 2 ^ suc (length vs) ≡ 2 ^ length vs * 2 = pow-suc 2 (length vs) in
-    let rest = mask-of-bits test vs (m / 2) (omega arith) (λ i k. h (suc i) (omega arith) ∙ ap (λ x. eqb x 1) (bit-rest m i)) in
+    let rest = mask-of-bits test vs (m / 2) (omega arith)
+    (λ i k. h (suc i) (omega arith) ∙ ap (λ x. eqb x 1) (bit-rest m i)) in
     rw rest (low (m % 2) (omega arith) refl (h 0 (omega arith) ∙ ap (λ x. eqb x 1) (bit-first m)))
   where
     low : (r : ℕ) → r < 2 → m % 2 ≡ r → test v ≡ eqb (m % 2) 1 → cond (test v) 1 0 + 2 * (m / 2) ≡ m
@@ -41,7 +42,8 @@ mask-of-bits test (v ∷ vs) m l h =
     low (suc zero) k e t = let f : test v ≡ true = t ∙ ap (λ x. eqb x 1) e in rw f (omega arith)
     low (suc (suc r)) k e t = absurd (omega arith)
 
-pub mask-bit : (test : Value → Bool) (vs : List Value) (i : ℕ) → i < length vs → bit (maskOf test vs) i ≡ cond (test (getD vs i undefined)) 1 0
+pub mask-bit : (test : Value → Bool) (vs : List Value) (i : ℕ) → i < length vs
+    → bit (maskOf test vs) i ≡ cond (test (getD vs i undefined)) 1 0
 unfolding maskOf
 mask-bit test [] i l = absurd (omega arith)
 mask-bit test (v ∷ vs) zero l = bit-first _ ∙ low (test v)
@@ -55,7 +57,8 @@ mask-bit test (v ∷ vs) (suc i) l = bit-rest _ i ∙ ap (λ m. bit m i) (high (
     high true = omega arith
     high false = omega arith
 
-pub mask-some : (test : Value → Bool) (vs : List Value) (i : ℕ) → i < length vs → test (getD vs i undefined) ≡ true → 0 < maskOf test vs
+pub mask-some : (test : Value → Bool) (vs : List Value) (i : ℕ) → i < length vs → test (getD vs i undefined) ≡ true
+    → 0 < maskOf test vs
 unfolding maskOf
 mask-some test [] i l e = absurd (omega arith)
 mask-some test (v ∷ vs) zero l e = rw e (omega arith)

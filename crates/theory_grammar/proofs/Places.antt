@@ -1,6 +1,7 @@
--- Where the lines of a printed tree stand: a print is its own bytes and then what follows, and lengths add up. Cited for places of names.
--- Assumes nothing.
---   printInput-split, printPair-split, printNever-split, printGate-split, printOutput-split, lines-split: a print is its own bytes and then what follows
+-- Where the lines of a printed tree stand: a print is its own bytes and then what follows, and lengths add up. Cited
+-- for places of names. Assumes nothing.
+--   printInput-split, printPair-split, printNever-split, printGate-split, printOutput-split, lines-split:
+--     a print is its own bytes and then what follows
 --   term-measure, lines-measure, print-measure: lengths add up
 --   nevers-at, gates-at, outputs-at, lines-drop: where the lines stand
 use Prim.Native.Nat.{ℕ, _+_}
@@ -11,8 +12,8 @@ use lib.ListN.{length, drop, length-append}
 use lib.Seq.{drop-at, drop-drop}
 use Rattle.prelude.specs.Lists.{ascii}
 use Rattle.netlist.specs.Netlist.{Name}
-use Rattle.netlist.specs.Syntax.{Term, apply, GateLine, OutputLine, Pair, Tree, printTerm, printInput, pairText, printPair, printNever, printGate, printOutput}
-use Rattle.netlist.specs.Syntax.{printLines, print}
+use Rattle.netlist.specs.Syntax.{Term, apply, GateLine, OutputLine, Pair, Tree, printTerm, printInput, pairText}
+use Rattle.netlist.specs.Syntax.{printPair, printNever, printGate, printOutput, printLines, print}
 use Rattle.netlist.specs.Reading.{linesLength, neverLinesAt, gateLinesAt, outputLinesAt}
 use Rattle.theory_grammar.proofs.Shorter.{printTerm-append}
 
@@ -35,7 +36,8 @@ pub printGate-split : (g : GateLine) (rest : List ℕ) → printGate g rest ≡ 
 unfolding printGate
 printGate-split g rest = rw (printTerm-append (apply (g .kind) (g .terms)) (ascii ")\n") rest) (simp append-assoc)
 
-module _ {A : Type 0} (line : A → List ℕ → List ℕ) (split : (x : A) (rest : List ℕ) → line x rest ≡ line x [] ++ rest) where
+module _ {A : Type 0} (line : A → List ℕ → List ℕ)
+    (split : (x : A) (rest : List ℕ) → line x rest ≡ line x [] ++ rest) where
   pub lines-split : (xs : List A) (rest : List ℕ) → printLines line xs rest ≡ printLines line xs [] ++ rest
   unfolding printLines
   lines-split [] rest = refl
@@ -44,7 +46,8 @@ module _ {A : Type 0} (line : A → List ℕ → List ℕ) (split : (x : A) (res
       ∙ sym (append-assoc (line x []) (printLines line xs []) rest)
       ∙ ap (λ s. s ++ rest) (sym (split x (printLines line xs [])))
 
-  pub lines-measure : (xs : List A) (rest : List ℕ) → length (printLines line xs rest) ≡ linesLength line xs + length rest
+  pub lines-measure : (xs : List A) (rest : List ℕ)
+      → length (printLines line xs rest) ≡ linesLength line xs + length rest
   unfolding printLines linesLength
   lines-measure [] rest = omega arith
   lines-measure (x ∷ xs) rest =
@@ -61,15 +64,20 @@ module _ {A : Type 0} (line : A → List ℕ → List ℕ) (split : (x : A) (res
 pub printNever-split : (ps : List Pair) (rest : List ℕ) → printNever ps rest ≡ printNever ps [] ++ rest
 unfolding printNever
 printNever-split ps rest =
-    rw (lines-split printPair printPair-split ps (ascii ")\n" ++ rest), lines-split printPair printPair-split ps (ascii ")\n")) (simp append-assoc)
+    rw (
+      lines-split printPair printPair-split ps (ascii ")\n" ++ rest),
+      lines-split printPair printPair-split ps (ascii ")\n"),
+    ) (simp append-assoc)
 
 -- The lines of a printed tree, sort by sort, and its end stand where the definitions say.
 module _ (t : Tree) where
-  pub nevers-at : drop (neverLinesAt t) (print t) ≡ printLines printNever (t .nevers) (printLines printGate (t .gates) (printLines printOutput (t .outputs) []))
+  pub nevers-at : drop (neverLinesAt t) (print t)
+      ≡ printLines printNever (t .nevers) (printLines printGate (t .gates) (printLines printOutput (t .outputs) []))
   unfolding print neverLinesAt
   nevers-at = lines-drop printInput printInput-split (t .inputs) _
 
-  pub gates-at : drop (gateLinesAt t) (print t) ≡ printLines printGate (t .gates) (printLines printOutput (t .outputs) [])
+  pub gates-at : drop (gateLinesAt t) (print t)
+      ≡ printLines printGate (t .gates) (printLines printOutput (t .outputs) [])
   unfolding gateLinesAt
   gates-at = sym (drop-drop (linesLength printNever (t .nevers)) (neverLinesAt t) (print t))
       ∙ rw nevers-at (lines-drop printNever printNever-split (t .nevers) _)

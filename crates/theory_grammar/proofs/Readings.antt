@@ -1,5 +1,5 @@
--- Rules for what a reader answers, one for each way to make a reader: `Gives P r s` says that whatever r reads from s has the property P of
--- value and rest. Cited by the proof that what is parsed is printed back. Assumes nothing.
+-- Rules for what a reader answers, one for each way to make a reader: `Gives P r s` says that whatever r reads from s
+-- has the property P of value and rest. Cited by the proof that what is parsed is printed back. Assumes nothing.
 --   Gives: what a reader reads has a property
 --   gives-pure, gives-stop, gives-ifNext, gives-is, gives-expect, gives-bind: one law for each way to make a reader
 use Prim.Native.Nat.{ℕ}
@@ -42,7 +42,7 @@ module _ {A : Type 0} {P : A → List ℕ → Type 0} where
       go true q = hit c t refl q
       go false q = miss
 
-  -- the same for one byte
+  -- a choice by whether the next byte is c
   pub gives-is : (c : ℕ) (first : ℕ → Reader A) (second : Reader A) (s : List ℕ)
       → ((t : List ℕ) → c ∷ t ≡ s → Gives P (first c t))
       → Gives P (second s)

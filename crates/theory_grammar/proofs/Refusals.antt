@@ -1,5 +1,6 @@
--- Where a reader refuses: `Fails r s n` says that n bytes are left from the first byte on that no accepted text has there. A reader is half good
--- if its refusals are such failures, and good if besides it accepts something. One lemma for each way to make a reader. Assumes nothing.
+-- Where a reader refuses: `Fails r s n` says that n bytes are left from the first byte on that no accepted text has
+-- there. A reader is half good if its refusals are such failures, and good if besides it accepts something. One lemma
+-- for each way to make a reader. Assumes nothing.
 --   Fails: n bytes are left from the first one on that no accepted text has there
 --   HalfGood, Good: a reader whose refusals are such failures; which besides accepts something
 --   GoodBefore, HalfGoodBefore: the same of a reader with another behind it
@@ -13,7 +14,8 @@ use native.Mathlib.Omega.{arith}
 use lib.ListN.{length}
 use lib.Dec.{eqb}
 use borrow.Author.Tests.{eq-eqb}
-use Rattle.netlist.specs.Parse.{Parsed, got, stuck, Reader, pure, stop, onTest, ifNext, expect, nothingBehind, onParsed, bind}
+use Rattle.netlist.specs.Parse.{Parsed, got, stuck, Reader, pure, stop, onTest, ifNext, expect, nothingBehind, onParsed}
+use Rattle.netlist.specs.Parse.{bind}
 
 abbrev pub accepted : {A : Type 0} → Parsed A → Bool
 accepted (got a s) = true
@@ -47,7 +49,8 @@ half-stop {T} = record { fails = go }
     go [] n e = cc
     go (c ∷ s) n e = inl (cc, λ w h. false≢true h)
 
-module _ {T : Type 0} (test : ℕ → Bool) (first : ℕ → Reader T) (second : Reader T) (hit : (c : ℕ) → test c ≡ true → Good (first c))
+module _ {T : Type 0} (test : ℕ → Bool) (first : ℕ → Reader T) (second : Reader T)
+    (hit : (c : ℕ) → test c ≡ true → Good (first c))
     (miss : HalfGood second) where
   pub half-ifNext : HalfGood (ifNext test first second)
   unfolding ifNext onTest
@@ -69,7 +72,8 @@ module _ {T : Type 0} (test : ℕ → Bool) (first : ℕ → Reader T) (second :
 pub good-expect : {T : Type 0} (cs : List ℕ) (next : Reader T) → Good next → Good (expect cs next)
 unfolding expect
 good-expect [] next g = g
-good-expect (c ∷ cs) next g = good-ifNext (eqb c) (λ _. expect cs next) stop (λ d q. good-expect cs next g) half-stop c (eq-eqb c c refl)
+good-expect (c ∷ cs) next g =
+    good-ifNext (eqb c) (λ _. expect cs next) stop (λ d q. good-expect cs next g) half-stop c (eq-eqb c c refl)
 
 -- ---- a reader before any good one
 
@@ -98,22 +102,26 @@ module _ {A : Type 0} where
         behind true c s = refl
         behind false c s = refl
 
-        go : (s : List ℕ) → onParsed next (ifNext test first second s) ≡ ifNext test (λ c. bind (first c) next) (bind second next) s
+        go : (s : List ℕ) → onParsed next (ifNext test first second s)
+            ≡ ifNext test (λ c. bind (first c) next) (bind second next) s
         go [] = refl
         go (c ∷ s) = behind (test c) c s
 
-  module _ (test : ℕ → Bool) (first : ℕ → Reader A) (second : Reader A) (hit : (c : ℕ) → test c ≡ true → GoodBefore (first c))
+  module _ (test : ℕ → Bool) (first : ℕ → Reader A) (second : Reader A)
+      (hit : (c : ℕ) → test c ≡ true → GoodBefore (first c))
       (miss : HalfGoodBefore second) where
     pub halfBefore-ifNext : HalfGoodBefore (ifNext test first second)
     halfBefore-ifNext = record {
       half =
-          λ next g. rw (bind-ifNext test first second next) (half-ifNext test _ _ (λ c q. hit c q .good next g) (miss .half next g));
+          λ next g. rw (bind-ifNext test first second next)
+          (half-ifNext test _ _ (λ c q. hit c q .good next g) (miss .half next g));
     }
 
     pub before-ifNext : (c : ℕ) → test c ≡ true → GoodBefore (ifNext test first second)
     before-ifNext c q = record {
       good =
-          λ next g. rw (bind-ifNext test first second next) (good-ifNext test _ _ (λ d p. hit d p .good next g) (miss .half next g) c q);
+          λ next g. rw (bind-ifNext test first second next)
+          (good-ifNext test _ _ (λ d p. hit d p .good next g) (miss .half next g) c q);
     }
 
   pub before-half : {r : Reader A} → GoodBefore r → HalfGoodBefore r
@@ -122,10 +130,12 @@ module _ {A : Type 0} where
   pub before-expect : (cs : List ℕ) (r : Reader A) → GoodBefore r → GoodBefore (expect cs r)
   unfolding expect
   before-expect [] r b = b
-  before-expect (c ∷ cs) r b = before-ifNext (eqb c) (λ _. expect cs r) stop (λ d q. before-expect cs r b) before-stop c (eq-eqb c c refl)
+  before-expect (c ∷ cs) r b =
+      before-ifNext (eqb c) (λ _. expect cs r) stop (λ d q. before-expect cs r b) before-stop c (eq-eqb c c refl)
 
 module _ {A B : Type 0} where
-  bind-bind : {T : Type 0} (r : Reader A) (f : A → Reader B) (next : B → Reader T) → bind (bind r f) next ≡ bind r (λ a. bind (f a) next)
+  bind-bind : {T : Type 0} (r : Reader A) (f : A → Reader B) (next : B → Reader T)
+      → bind (bind r f) next ≡ bind r (λ a. bind (f a) next)
   unfolding bind onParsed
   bind-bind r f next = fun-ext λ s. go (r s)
     where
@@ -133,16 +143,21 @@ module _ {A B : Type 0} where
       go (got a s) = refl
       go (stuck n) = refl
 
-  pub before-bind : (r : Reader A) (f : A → Reader B) → GoodBefore r → ((a : A) → GoodBefore (f a)) → GoodBefore (bind r f)
+  pub before-bind : (r : Reader A) (f : A → Reader B) → GoodBefore r → ((a : A) → GoodBefore (f a))
+      → GoodBefore (bind r f)
   before-bind r f b c = record { good = λ next g. rw (bind-bind r f next) (b .good _ λ a. c a .good next g) }
 
 -- ---- a good reader, and then a value made of what it read
 
-same-fails : {T U : Type 0} (r : Reader T) (q : Reader U) → ((w : List ℕ) → accepted (r w) ≡ accepted (q w)) → (s : List ℕ) (n : ℕ) → Fails r s n → Fails q s n
+same-fails : {T U : Type 0} (r : Reader T) (q : Reader U) → ((w : List ℕ) → accepted (r w) ≡ accepted (q w))
+    → (s : List ℕ) (n : ℕ) → Fails r s n → Fails q s n
 same-fails r q same [] n f = f
 same-fails r q same (c ∷ s) n (inl f) = inl (f .0, λ w h. f .1 w (same (c ∷ w) ∙ h))
 same-fails r q same (c ∷ s) n (inr f) =
-    inr ((f .0 .0, sym (same (c ∷ f .0 .0)) ∙ f .0 .1), same-fails (λ w. r (c ∷ w)) (λ w. q (c ∷ w)) (λ w. same (c ∷ w)) s n (f .1))
+    inr (
+      (f .0 .0, sym (same (c ∷ f .0 .0)) ∙ f .0 .1),
+      same-fails (λ w. r (c ∷ w)) (λ w. q (c ∷ w)) (λ w. same (c ∷ w)) s n (f .1),
+    )
 
 pub good-made : {T U : Type 0} (r : Reader T) (make : T → U) → Good r → Good (bind r (λ t. pure (make t)))
 unfolding bind onParsed pure

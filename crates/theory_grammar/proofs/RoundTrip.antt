@@ -1,7 +1,7 @@
 -- What Write prints, Read gives back: the words of the block. Assumes nothing.
 --   parse-written: a written text parses to the tree it was printed from
 --   reading-written: reading it gives the block's words
---   reading-written-words: the same from words that are not torn
+--   reading-written-words: the same from words that are not malformed
 use Prim.Native.Nat.{ℕ}
 use mathlib.Core.Path.{_≡_, ap, _∙_}
 use mathlib.Core.Bool.{true, false, and-eq-true-iff}
@@ -42,7 +42,7 @@ reading-written b h =
       blockOf-flatTree b h,
     )
 
--- Round trip on words: what Write makes of words that are not torn, Read takes back to those words.
+-- Round trip on words: what Write makes of words that are not malformed, Read takes back to those words.
 pub reading-written-words : (ws : List ℕ) → isMalformed ws ≡ false → readText (writtenText (decode ws)) ≡ counted ws
 unfolding isMalformed
 reading-written-words ws h =

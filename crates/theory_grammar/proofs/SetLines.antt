@@ -1,7 +1,8 @@
 -- The reader of set lines is their grammar. Assumes nothing.
 --   setLine-sound, setLine-complete: what is read is a legal line's pairs, and the print of legal pairs is read back
 --   setLine-legal, legal-setLine: a line is legal exactly when it is read
---   setLine-refused: where it is not read, the place is that of the first bad byte; by setLine-bad the reader is refused at no other
+--   setLine-refused: where it is not read, the place is that of the first bad byte
+--   setLine-bad: it is refused at no other place
 use Prim.Native.Nat.{ℕ, _-_}
 use mathlib.Core.Path.{_≡_, refl, ap, _∙_}
 use mathlib.Core.Bool.{true, and-eq-true-iff, false≢true}
@@ -43,11 +44,13 @@ module _ (n : ℕ) where
     where
       end : (t : List ℕ) (ps : List Pair) (u : List ℕ) → ascii "(set" ++ t ≡ line → PairsRead n 0 t ps u
           → (v : List ℕ) → ascii "\n" ++ v ≡ u → Gives (SetLineRead n line) (nothingBehind ps v)
-      end t ps u e f [] g = gives-got ps [] (record { ended = refl; legal = rw (le-leb (length ps) n (f .few)) (f .legal); printed = cc })
+      end t ps u e f [] g =
+          gives-got ps [] (record { ended = refl; legal = rw (le-leb (length ps) n (f .few)) (f .legal); printed = cc })
       end t ps u e f (c ∷ v) g = gives-stuck _
 
   -- Soundness.
-  pub setLine-sound : (line : List ℕ) (ps : List Pair) (rest : List ℕ) → setLineReader n line ≡ got ps rest → SetLineRead n line ps rest
+  pub setLine-sound : (line : List ℕ) (ps : List Pair) (rest : List ℕ) → setLineReader n line ≡ got ps rest
+      → SetLineRead n line ps rest
   setLine-sound line ps rest e = setLineReader-gives line .holds ps rest e
 
   -- Completeness: the print of a legal tree is read, and gives that tree back.
@@ -56,12 +59,18 @@ module _ (n : ℕ) where
   setLine-complete ps h =
       let f = and-eq-true-iff (leb (length ps) n) (all isLegalPair ps) .0 h in
       expect-back (ascii "(set") _ _
-      ∙ bind-got (pairsReader n 0) _ _ ps _ (pairsReader-back ps n 0 (ascii "\n") (f .1) (omega arith) (leb-true (length ps) n (f .0)))
+      ∙ bind-got (pairsReader n 0) _ _ ps _
+      (pairsReader-back ps n 0 (ascii "\n") (f .1) (omega arith) (leb-true (length ps) n (f .0)))
       ∙ expect-back (ascii "\n") _ _
 
   -- A line that is read is legal, and a legal line is read.
-  pub setLine-legal : (line : List ℕ) (ps : List Pair) (rest : List ℕ) → setLineReader n line ≡ got ps rest → LegalLine n line
-  setLine-legal line ps rest e = let f = setLine-sound line ps rest e in record { tree = ps; legal = f .legal; printed = f .printed }
+  pub setLine-legal : (line : List ℕ) (ps : List Pair) (rest : List ℕ) → setLineReader n line ≡ got ps rest
+      → LegalLine n line
+  setLine-legal line ps rest e = let f = setLine-sound line ps rest e in record {
+    tree = ps;
+    legal = f .legal;
+    printed = f .printed;
+  }
 
   pub legal-setLine : (line : List ℕ) (l : LegalLine n line) → setLineReader n line ≡ got (l .tree) []
   legal-setLine line l = rw (l .printed) at (setLine-complete (l .tree) (l .legal))
@@ -74,11 +83,14 @@ module _ (n : ℕ) where
       go (stuck m) e h = absurd (false≢true h)
 
   -- A line that is not read is refused at its first bad byte.
-  pub setLine-refused : (line : List ℕ) (left : ℕ) → setLineReader n line ≡ stuck left → FirstBadInLine n line (length line - left)
-  setLine-refused = refused-first-bad (isLegalSetLine n) printSetLine (setLineReader n) (setLineReader-good n) accepted-setLine
+  pub setLine-refused : (line : List ℕ) (left : ℕ) → setLineReader n line ≡ stuck left
+      → FirstBadInLine n line (length line - left)
+  setLine-refused =
+      refused-first-bad (isLegalSetLine n) printSetLine (setLineReader n) (setLineReader-good n) accepted-setLine
       (λ line l. ap accepted (legal-setLine line l))
 
   -- A line with a first bad byte is refused there, so there is one such place.
   pub setLine-bad : (line : List ℕ) (d : ℕ) → FirstBadInLine n line d → setLineReader n line ≡ stuck (length line - d)
-  setLine-bad = first-bad-refused-at (isLegalSetLine n) printSetLine (setLineReader n) (setLineReader-good n) accepted-setLine
+  setLine-bad =
+      first-bad-refused-at (isLegalSetLine n) printSetLine (setLineReader n) (setLineReader-good n) accepted-setLine
       (λ line l. ap accepted (legal-setLine line l))

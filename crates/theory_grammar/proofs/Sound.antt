@@ -1,4 +1,5 @@
--- What is read is legal and printed back, for lines and the whole text: printed before the rest, it is the text. Assumes nothing.
+-- What is read is legal and printed back, for lines and the whole text: printed before the rest, it is the text.
+-- Assumes nothing.
 --   TreeRead: what is read of a text: all of it, a legal tree, printed back
 --   parse-sound: the main law, of every text
 use Prim.Native.Nat.{ℕ, zero, suc, _-_}
@@ -10,15 +11,18 @@ use Rattle.prelude.specs.Lists.{ascii}
 use Rattle.netlist.specs.Limits.{maxDepth}
 use Rattle.netlist.specs.Netlist.{Name}
 use Rattle.netlist.specs.Names.{isLetter, isNameStart, isPlainName, isNodeName}
-use Rattle.netlist.specs.Syntax.{GateLine, OutputLine, Pair, Tree, printTerm, printInput, printNever, printGate, printOutput, printLines, print}
-use Rattle.netlist.specs.Syntax.{isLegalGate, isLegalOutput, isLegalTree}
-use Rattle.netlist.specs.Parse.{Reader, got, nameReader, exprReader, termReader, neverPairs, addInput, addNever, addGate, addOutput, inputLine, neverLine}
-use Rattle.netlist.specs.Parse.{gateLine, outputLine, atEnd, line, outputsReader, gatesReader, neversReader, textReader, parse}
-use Rattle.theory_grammar.proofs.Readings.{Gives, gives-got, gives-stuck, gives-pure, gives-stop, gives-is, gives-expect, gives-bind}
+use Rattle.netlist.specs.Syntax.{GateLine, OutputLine, Pair, Tree, printTerm, printInput, printNever, printGate}
+use Rattle.netlist.specs.Syntax.{printOutput, printLines, print, isLegalGate, isLegalOutput, isLegalTree}
+use Rattle.netlist.specs.Parse.{Reader, got, nameReader, exprReader, termReader, neverPairs, addInput, addNever}
+use Rattle.netlist.specs.Parse.{addGate, addOutput, inputLine, neverLine, gateLine, outputLine, atEnd, line}
+use Rattle.netlist.specs.Parse.{outputsReader, gatesReader, neversReader, textReader, parse}
+use Rattle.theory_grammar.proofs.Readings.{Gives, gives-got, gives-stuck, gives-pure, gives-stop, gives-is}
+use Rattle.theory_grammar.proofs.Readings.{gives-expect, gives-bind}
 use Rattle.theory_grammar.proofs.Pairs.{neverPairs-sound}
-use Rattle.theory_grammar.proofs.SoundTerms.{nameReader-sound, letter-nameByte, nameStart-nameByte, exprReader-sound, termReader-sound, ExprRead}
+use Rattle.theory_grammar.proofs.SoundTerms.{nameReader-sound, letter-nameByte, nameStart-nameByte}
+use Rattle.theory_grammar.proofs.SoundTerms.{exprReader-sound, termReader-sound, ExprRead}
 
--- which lines a tree lacks
+-- trees that lack some sorts of lines
 abbrev pub NoInputs : Tree → Type 0
 NoInputs t = t .inputs ≡ []
 
@@ -48,11 +52,14 @@ module _ (Lacks : Tree → Type 0) where
       → Gives (TreeRead Lacks (ascii "(" ++ s)) (inputLine others otherwise s)
   unfolding inputLine addInput print printLines printInput isLegalTree isPlainName
   inputLine-sound others otherwise s weaken rec =
-      gives-is _ _ _ s λ t e. gives-expect (ascii "n ") _ t λ u f. gives-bind (nameReader isLetter) _ u (nameReader-sound isLetter letter-nameByte u)
+      gives-is _ _ _ s λ t e. gives-expect (ascii "n ") _ t λ u f. gives-bind (nameReader isLetter) _ u
+      (nameReader-sound isLetter letter-nameByte u)
       λ x v g. gives-expect (ascii ")\n") _ v λ w h. gives-bind others _ w (rec w)
-      λ y z p. gives-pure (addInput x y) z (record { ended = p .ended; legal = rw (g .legal) (p .legal); printed = cc; lacks = weaken x y })
+      λ y z p. gives-pure (addInput x y) z
+      (record { ended = p .ended; legal = rw (g .legal) (p .legal); printed = cc; lacks = weaken x y })
 
-  neverLine-sound : (others otherwise : Reader Tree) (s : List ℕ) → ((ps : List Pair) (t : Tree) → NoInputs t → Lacks (addNever ps t))
+  neverLine-sound : (others otherwise : Reader Tree) (s : List ℕ)
+      → ((ps : List Pair) (t : Tree) → NoInputs t → Lacks (addNever ps t))
       → ((t : List ℕ) → Gives (TreeRead NoInputs t) (others t))
       → Gives (TreeRead Lacks (ascii "(" ++ s)) (otherwise s)
       → Gives (TreeRead Lacks (ascii "(" ++ s)) (neverLine others otherwise s)
@@ -70,7 +77,8 @@ module _ (Lacks : Tree → Type 0) where
         lacks = weaken ps y (p .lacks);
       })
 
-  gateLine-sound : (others otherwise : Reader Tree) (s : List ℕ) → ((g : GateLine) (t : Tree) → NoNevers t → Lacks (addGate g t))
+  gateLine-sound : (others otherwise : Reader Tree) (s : List ℕ)
+      → ((g : GateLine) (t : Tree) → NoNevers t → Lacks (addGate g t))
       → ((t : List ℕ) → Gives (TreeRead NoNevers t) (others t))
       → Gives (TreeRead Lacks (ascii "(" ++ s)) (otherwise s)
       → Gives (TreeRead Lacks (ascii "(" ++ s)) (gateLine others otherwise s)
@@ -78,19 +86,22 @@ module _ (Lacks : Tree → Type 0) where
   gateLine-sound others otherwise s weaken rec =
       gives-is _ _ _ s λ t e. gives-expect (ascii "ate ") _ t λ u f. gives-bind (nameReader isNameStart) _ u
       (nameReader-sound isNameStart nameStart-nameByte u)
-      λ x v g. gives-expect (ascii " (") _ v λ w h. gives-bind {P = GateRead x w} (exprReader (termReader (maxDepth - 1)) _) _ w
+      λ x v g. gives-expect (ascii " (") _ v λ w h. gives-bind {P = GateRead x w}
+      (exprReader (termReader (maxDepth - 1)) _) _ w
       (exprReader-sound (termReader (maxDepth - 1)) (maxDepth - 1) (termReader-sound (maxDepth - 1)) _ w
       λ k ts rest m. record { named = refl; expr = m })
       λ y z p. gives-expect (ascii ")\n") _ z λ a i. gives-bind others _ a (rec a)
       λ b c j. gives-pure (addGate y b) c (record {
         ended = j .ended;
         legal = rw (p .named, g .legal, p .expr .legal) (j .legal);
-        printed = let r : print b ≡ printLines printGate (b .gates) (printLines printOutput (b .outputs) []) = rw (j .lacks .0, j .lacks .1) in
+        printed = let r : print b ≡ printLines printGate (b .gates)
+            (printLines printOutput (b .outputs) []) = rw (j .lacks .0, j .lacks .1) in
             rw (j .lacks .0, j .lacks .1, p .named) (cc);
         lacks = weaken y b (j .lacks);
       })
 
-  outputLine-sound : (others otherwise : Reader Tree) (s : List ℕ) → ((o : OutputLine) (t : Tree) → OnlyOutputs t → Lacks (addOutput o t))
+  outputLine-sound : (others otherwise : Reader Tree) (s : List ℕ)
+      → ((o : OutputLine) (t : Tree) → OnlyOutputs t → Lacks (addOutput o t))
       → ((t : List ℕ) → Gives (TreeRead OnlyOutputs t) (others t))
       → Gives (TreeRead Lacks (ascii "(" ++ s)) (otherwise s)
       → Gives (TreeRead Lacks (ascii "(" ++ s)) (outputLine others otherwise s)
@@ -98,22 +109,26 @@ module _ (Lacks : Tree → Type 0) where
   outputLine-sound others otherwise s weaken rec =
       gives-is _ _ _ s λ t e. gives-expect (ascii "ut ") _ t λ u f. gives-bind (nameReader isLetter) _ u
       (nameReader-sound isLetter letter-nameByte u)
-      λ x v g. gives-expect (ascii " ") _ v λ w h. gives-bind (nameReader isNameStart) _ w (nameReader-sound isNameStart nameStart-nameByte w)
+      λ x v g. gives-expect (ascii " ") _ v λ w h. gives-bind (nameReader isNameStart) _ w
+      (nameReader-sound isNameStart nameStart-nameByte w)
       λ y z p. gives-expect (ascii ")\n") _ z λ a i. gives-bind others _ a (rec a)
       λ b c j. gives-pure (addOutput (record { port = x; shown = y }) b) c (record {
         ended = j .ended;
         legal = rw (g .legal, p .legal) (j .legal);
-        printed = let r : print b ≡ printLines printOutput (b .outputs) [] = rw (j .lacks .0, j .lacks .1, j .lacks .2) in
+        printed =
+            let r : print b ≡ printLines printOutput (b .outputs) [] = rw (j .lacks .0, j .lacks .1, j .lacks .2) in
             rw (j .lacks .0, j .lacks .1, j .lacks .2) (cc);
         lacks = weaken (record { port = x; shown = y }) b (j .lacks);
       })
 
-  atEnd-sound : (s : List ℕ) → Lacks (record { inputs = []; nevers = []; gates = []; outputs = [] }) → Gives (TreeRead Lacks s) (atEnd s)
+  atEnd-sound : (s : List ℕ) → Lacks (record { inputs = []; nevers = []; gates = []; outputs = [] })
+      → Gives (TreeRead Lacks s) (atEnd s)
   unfolding atEnd print printLines isLegalTree
   atEnd-sound [] l = gives-got _ [] (record { ended = refl; legal = refl; printed = refl; lacks = l })
   atEnd-sound (c ∷ s) l = gives-stuck _
 
-  line-sound : (behind : Reader Tree) (s : List ℕ) → Lacks (record { inputs = []; nevers = []; gates = []; outputs = [] })
+  line-sound : (behind : Reader Tree) (s : List ℕ)
+      → Lacks (record { inputs = []; nevers = []; gates = []; outputs = [] })
       → ((t : List ℕ) → Gives (TreeRead Lacks (ascii "(" ++ t)) (behind t))
       → Gives (TreeRead Lacks s) (line behind s)
   unfolding line
@@ -155,6 +170,8 @@ textReader-sound (suc n) s =
     (outputLine-sound AnyTree _ _ t (λ o x l. tt) (outputsReader-sound n) (gives-stop t))))
 
 -- Soundness: a text that parses is the print of a legal tree, and nothing is left of it.
-pub parse-sound : (text : List ℕ) (t : Tree) (rest : List ℕ) → parse text ≡ got t rest → (rest ≡ []) × (isLegalTree t ≡ true) × (print t ≡ text)
+pub parse-sound : (text : List ℕ) (t : Tree) (rest : List ℕ) → parse text ≡ got t rest
+    → (rest ≡ []) × (isLegalTree t ≡ true) × (print t ≡ text)
 unfolding parse
-parse-sound text t rest e = let h = textReader-sound (length text) text .holds t rest e in (h .ended, h .legal, h .printed)
+parse-sound text t rest e =
+    let h = textReader-sound (length text) text .holds t rest e in (h .ended, h .legal, h .printed)

@@ -1,4 +1,5 @@
--- What is read is legal and printed back, for names and expressions: printed before the rest, it is the text. Assumes nothing.
+-- What is read is legal and printed back, for names and expressions: printed before the rest, it is the text.
+-- Assumes nothing.
 use Prim.Native.Nat.{ℕ, zero, suc, _-_, _≤_}
 use mathlib.Core.Path.{_≡_, refl, _∙_}
 use mathlib.Core.Bool.{Bool, true, false, _||_}
@@ -11,10 +12,13 @@ use Rattle.netlist.specs.Limits.{maxName}
 use Rattle.netlist.specs.Kinds.{isKind, fewestOperands, mostOperands, arityFits, keyword, signatureOf}
 use Rattle.netlist.specs.Netlist.{Name}
 use Rattle.netlist.specs.Names.{isLetter, isDigit, isUnderscore, isNameByte, isNameStart, isLegalName, isNodeName}
-use Rattle.netlist.specs.Syntax.{Term, Terms, name, literal, apply, nil, cons, printTerm, printTerms, termCount, isLegalTerm, isLegalTerms}
-use Rattle.netlist.specs.Parse.{Reader, stop, nameBytes, nameAfter, nameReader, kindReader, spaced, termsReader, exprReader, leafOr, termReader}
+use Rattle.netlist.specs.Syntax.{Term, Terms, name, literal, apply, nil, cons, printTerm, printTerms, termCount}
+use Rattle.netlist.specs.Syntax.{isLegalTerm, isLegalTerms}
+use Rattle.netlist.specs.Parse.{Reader, stop, nameBytes, nameAfter, nameReader, kindReader, spaced, termsReader}
+use Rattle.netlist.specs.Parse.{exprReader, leafOr, termReader}
 use Rattle.theory_encoding.proofs.Gates.{by-kind}
-use Rattle.theory_grammar.proofs.Readings.{Gives, gives-pure, gives-stop, gives-ifNext, gives-is, gives-expect, gives-bind}
+use Rattle.theory_grammar.proofs.Readings.{Gives, gives-pure, gives-stop, gives-ifNext, gives-is, gives-expect}
+use Rattle.theory_grammar.proofs.Readings.{gives-bind}
 
 -- ---- names
 
@@ -36,10 +40,12 @@ pub record NameRead (start : ℕ → Bool) (s : List ℕ) (x : Name) (rest : Lis
   pub printed : x ++ rest ≡ s
   pub legal : isLegalName start x ≡ true
 
-legal-name : (start : ℕ → Bool) (c : ℕ) (cs : Name) → start c ≡ true → isNameByte c ≡ true → length cs ≤ maxName - 1 → all isNameByte cs ≡ true
+legal-name : (start : ℕ → Bool) (c : ℕ) (cs : Name) → start c ≡ true → isNameByte c ≡ true → length cs ≤ maxName - 1
+    → all isNameByte cs ≡ true
     → isLegalName start (c ∷ cs) ≡ true
 unfolding isLegalName
-legal-name start c cs p q few h = rw (le-leb 1 (suc (length cs)) (omega arith), le-leb (suc (length cs)) 8 (omega arith), p, q) h
+legal-name start c cs p q few h =
+    rw (le-leb 1 (suc (length cs)) (omega arith), le-leb (suc (length cs)) 8 (omega arith), p, q) h
 
 -- the byte in front passed the test `start`
 pub nameAfter-sound : (start : ℕ → Bool) (c : ℕ) (s : List ℕ) → start c ≡ true → isNameByte c ≡ true
@@ -77,17 +83,21 @@ pub record KindRead (s : List ℕ) (k : ℕ) (rest : List ℕ) : Type 0 where
 pub kindReader-sound : (s : List ℕ) → Gives (KindRead s) (kindReader s)
 unfolding kindReader keyword isKind signatureOf
 kindReader-sound s =
-    gives-is _ _ _ s (λ t e. gives-expect (ascii "nd") _ t λ u f. gives-pure 1 u (record { printed = cc; legal = refl }))
-    (gives-is _ _ _ s (λ t e. gives-expect (ascii "r") _ t λ u f. gives-pure 2 u (record { printed = cc; legal = refl }))
+    gives-is _ _ _ s
+    (λ t e. gives-expect (ascii "nd") _ t λ u f. gives-pure 1 u (record { printed = cc; legal = refl }))
+    (gives-is _ _ _ s
+    (λ t e. gives-expect (ascii "r") _ t λ u f. gives-pure 2 u (record { printed = cc; legal = refl }))
     (gives-is _ _ _ s (λ t e.
-    gives-is _ _ _ t (λ u f. gives-expect (ascii "nd") _ u λ v g. gives-pure 3 v (record { printed = cc; legal = refl }))
+    gives-is _ _ _ t
+    (λ u f. gives-expect (ascii "nd") _ u λ v g. gives-pure 3 v (record { printed = cc; legal = refl }))
     (gives-is _ _ _ t (λ u f.
     gives-is _ _ _ u (λ v g. gives-pure 0 v (record { printed = cc; legal = refl }))
     (gives-is _ _ _ u (λ v g. gives-pure 4 v (record { printed = cc; legal = refl })) (gives-stop u)))
     (gives-stop t)))
     (gives-is _ _ _ s (λ t e.
     gives-is _ _ _ t (λ u f. gives-expect (ascii "r") _ u λ v g. gives-pure 5 v (record { printed = cc; legal = refl }))
-    (gives-is _ _ _ t (λ u f. gives-expect (ascii "or") _ u λ v g. gives-pure 6 v (record { printed = cc; legal = refl }))
+    (gives-is _ _ _ t
+    (λ u f. gives-expect (ascii "or") _ u λ v g. gives-pure 6 v (record { printed = cc; legal = refl }))
     (gives-stop t)))
     (gives-stop s))))
 
@@ -109,7 +119,8 @@ pub record ExprRead (depth : ℕ) (s : List ℕ) (k : ℕ) (ts : Terms) (rest : 
 pub fewest-most : (k : ℕ) → isKind k ≡ true → fewestOperands k ≤ mostOperands k
 unfolding fewestOperands mostOperands signatureOf
 fewest-most =
-    by-kind (λ k. fewestOperands k ≤ mostOperands k) (omega arith) (omega arith) (omega arith) (omega arith) (omega arith) (omega arith) (omega arith)
+    by-kind (λ k. fewestOperands k ≤ mostOperands k) (omega arith) (omega arith) (omega arith) (omega arith)
+    (omega arith) (omega arith) (omega arith)
 
 module _ (term : Reader Term) (depth : ℕ) (reads : (s : List ℕ) → Gives (TermRead depth s) (term s)) where
   spaced-sound : (others : Reader Terms) (most before needed : ℕ) → needed ≤ suc before → (s : List ℕ)
@@ -119,32 +130,47 @@ module _ (term : Reader Term) (depth : ℕ) (reads : (s : List ℕ) → Gives (T
   spaced-sound others most before needed le s rec =
       gives-expect (ascii " ") _ s λ t e. gives-bind term _ t (reads t) λ x u h. gives-bind others _ u (rec u)
       λ xs v g. gives-pure (cons x xs) v
-      (record { printed = rw (g .printed, h .printed) e; legal = rw (h .legal) (g .legal); enough = omega arith; fits = omega arith })
+      (record {
+        printed = rw (g .printed, h .printed) e;
+        legal = rw (h .legal) (g .legal);
+        enough = omega arith;
+        fits = omega arith;
+      })
 
   pub termsReader-sound : (most needed : ℕ) → needed ≤ most → (s : List ℕ)
       → Gives (TermsRead depth most needed s) (termsReader term most needed s)
   unfolding termsReader printTerms isLegalTerms termCount
   termsReader-sound zero needed le s =
-      gives-expect (ascii ")") _ s λ t e. gives-pure nil t (record { printed = e; legal = refl; enough = le; fits = omega arith })
+      gives-expect (ascii ")") _ s λ t e. gives-pure nil t
+      (record { printed = e; legal = refl; enough = le; fits = omega arith })
   termsReader-sound (suc most) zero le s =
-      gives-is _ _ _ s (λ t e. gives-pure nil t (record { printed = e; legal = refl; enough = omega arith; fits = omega arith }))
-      (spaced-sound (termsReader term most zero) most zero zero (omega arith) s (termsReader-sound most zero (omega arith)))
+      gives-is _ _ _ s
+      (λ t e. gives-pure nil t (record { printed = e; legal = refl; enough = omega arith; fits = omega arith }))
+      (spaced-sound (termsReader term most zero) most zero zero (omega arith) s
+      (termsReader-sound most zero (omega arith)))
   termsReader-sound (suc most) (suc needed) le s =
-      spaced-sound (termsReader term most needed) most needed (suc needed) (omega arith) s (termsReader-sound most needed (omega arith))
+      spaced-sound (termsReader term most needed) most needed (suc needed) (omega arith) s
+      (termsReader-sound most needed (omega arith))
 
   pub exprReader-sound : {A : Type 0} {P : A → List ℕ → Type 0} (make : ℕ → Terms → A) (s : List ℕ)
       → ((k : ℕ) (ts : Terms) (rest : List ℕ) → ExprRead depth s k ts rest → P (make k ts) rest)
       → Gives P (exprReader term make s)
   unfolding exprReader isLegalTerm arityFits
   exprReader-sound make s post =
-      gives-bind kindReader _ s (kindReader-sound s) λ k t e. gives-bind (termsReader term (mostOperands k) (fewestOperands k)) _ t
+      gives-bind kindReader _ s (kindReader-sound s) λ k t e. gives-bind
+      (termsReader term (mostOperands k) (fewestOperands k)) _ t
       (termsReader-sound (mostOperands k) (fewestOperands k) (fewest-most k (e .legal)) t)
       λ ts u h. gives-pure (make k ts) u (post k ts u (record {
         printed = cc;
-        legal = rw (e .legal, le-leb (fewestOperands k) (termCount ts) (h .enough), le-leb (termCount ts) (mostOperands k) (h .fits)) (h .legal);
+        legal = rw (
+          e .legal,
+          le-leb (fewestOperands k) (termCount ts) (h .enough),
+          le-leb (termCount ts) (mostOperands k) (h .fits),
+        ) (h .legal);
       }))
 
-leafOr-sound : (depth : ℕ) (inner : Reader Term) (s : List ℕ) → Gives (TermRead depth s) (inner s) → Gives (TermRead depth s) (leafOr inner s)
+leafOr-sound : (depth : ℕ) (inner : Reader Term) (s : List ℕ) → Gives (TermRead depth s) (inner s)
+    → Gives (TermRead depth s) (leafOr inner s)
 unfolding leafOr printTerm isLegalTerm isNodeName
 leafOr-sound depth inner s h =
     gives-ifNext isNameStart _ _ s

@@ -17,8 +17,9 @@ use Rattle.netlist.specs.Netlist.{Name, Operand, input, gate, constant, Output,
 use Rattle.netlist.specs.StoredBlock.{isNode, isOperand, neverFits, isWellFormed}
 use Rattle.netlist.specs.Names.{isPlainName}
 use Rattle.netlist.specs.Syntax.{OutputLine}
-use Rattle.netlist.specs.Reading.{gatesIn, gatesInside, lineGates, Binding, inputBindings, gateBindings, bindings, lookup, termNode, termsNodes, termGates}
-use Rattle.netlist.specs.Reading.{termsGates, linesGates, assignmentOf, blockOf}
+use Rattle.netlist.specs.Reading.{gatesIn, gatesInside, lineGates, Binding, inputBindings, gateBindings, bindings}
+use Rattle.netlist.specs.Reading.{lookup, termNode, termsNodes, termGates, termsGates, linesGates, assignmentOf}
+use Rattle.netlist.specs.Reading.{blockOf}
 use Rattle.netlist.specs.Writing.{gateName, nodeNameOf, termOf, termsOf, flatLine, pairsOf, flatTree}
 use Rattle.theory_grammar.proofs.ListFacts.{ne-same, distinct-apart, distinct-parts, tab-map}
 use Rattle.theory_encoding.proofs.WellFormed.{WellFormed, wellFormed-parts}
@@ -67,13 +68,16 @@ lookup-input (x ∷ xs) k others (suc i) d l =
     rw (ne-same (getD xs i []) x (λ q. distinct-apart (x ∷ xs) d 0 (suc i) (omega arith) l (sym q)))
     (lookup-input xs (suc k) others i (distinct-parts x xs d .1) (omega arith) ∙ ap input e)
 
-lookup-past : (xs : List Name) (k : ℕ) (others : List Binding) (s : Name) → ((i : ℕ) → i < length xs → s ≡ getD xs i [] → ⊥)
+lookup-past : (xs : List Name) (k : ℕ) (others : List Binding) (s : Name)
+    → ((i : ℕ) → i < length xs → s ≡ getD xs i [] → ⊥)
     → lookup (inputBindings xs k ++ others) s ≡ lookup others s
 unfolding lookup inputBindings
 lookup-past [] k others s h = refl
-lookup-past (x ∷ xs) k others s h = rw (ne-same s x (h 0 (omega arith))) (lookup-past xs (suc k) others s (λ i l. h (suc i) (omega arith)))
+lookup-past (x ∷ xs) k others s h =
+    rw (ne-same s x (h 0 (omega arith))) (lookup-past xs (suc k) others s (λ i l. h (suc i) (omega arith)))
 
-lookup-gate : (b : Block) (js : List ℕ) (first i : ℕ) → i < length js → ((k : ℕ) → k < i → gateName (getD js i 0) ≡ gateName (getD js k 0) → ⊥)
+lookup-gate : (b : Block) (js : List ℕ) (first i : ℕ) → i < length js
+    → ((k : ℕ) → k < i → gateName (getD js i 0) ≡ gateName (getD js k 0) → ⊥)
     → lookup (gateBindings (map (flatLine b) js) first) (gateName (getD js i 0)) ≡ gate (first + i)
 unfolding lookup gateBindings flatLine
 lookup-gate b [] first i l h = absurd (omega arith)
@@ -83,24 +87,28 @@ lookup-gate b (j ∷ js) first (suc i) l h =
     rw (ne-same (gateName (getD js i 0)) (gateName j) (h 0 (omega arith)), flat-lineGates b j)
     (lookup-gate b js (first + 1) i (omega arith) (λ k m. h (suc k) (omega arith)) ∙ ap gate e)
 
-lookup-written : (b : Block) (m : ℕ) → m ≤ maxGates → (j : ℕ) → j < m → lookup (gateBindings (tab (flatLine b) m) 0) (gateName j) ≡ gate j
+lookup-written : (b : Block) (m : ℕ) → m ≤ maxGates → (j : ℕ) → j < m
+    → lookup (gateBindings (tab (flatLine b) m) 0) (gateName j) ≡ gate j
 lookup-written b m few j l =
     let below : (k : ℕ) → k < m → getD (upTo m) k 0 ≡ k = λ k q. getD-tab (λ k. k) m k 0 q in
     let e : 0 + j ≡ j = omega arith in
     let h = lookup-gate b (upTo m) 0 j (rw (length-tab (λ k. k) m) l)
-    (λ k q. rw (below j l, below k (omega arith)) λ p. let z = gateName-injective j k (omega arith) (omega arith) p in omega arith) in
+    (λ k q. rw (below j l, below k (omega arith)) λ p.
+    let z = gateName-injective j k (omega arith) (omega arith) p in omega arith) in
     rw (tab-map (flatLine b) m) ((rw (below j l) at h) ∙ ap gate e)
 
 module _ (b : Block) (w : WellFormed b) where
   found-input : (i : ℕ) → i < inputCount b → lookup (bindings (flatTree b)) (getD (b .inputs) i []) ≡ input i
   unfolding bindings flatTree
-  found-input i l = lookup-input (b .inputs) 0 _ i (w .inputsDistinct) l ∙ ap input (let e : 0 + i ≡ i = omega arith in e)
+  found-input i l = lookup-input (b .inputs) 0 _ i (w .inputsDistinct) l
+      ∙ ap input (let e : 0 + i ≡ i = omega arith in e)
 
   found-gate : (j : ℕ) → j < gateCount b → lookup (bindings (flatTree b)) (gateName j) ≡ gate j
   unfolding bindings flatTree
   found-gate j l =
       lookup-past (b .inputs) 0 _ (gateName j)
-      (λ i m q. gateName-no-input j (getD (b .inputs) i []) (all-at isPlainName (b .inputs) i [] (w .inputNames) m) (sym q))
+      (λ i m q. gateName-no-input j (getD (b .inputs) i []) (all-at isPlainName (b .inputs) i [] (w .inputNames) m)
+      (sym q))
       ∙ lookup-written b (gateCount b) (w .fewGates) j l
 
   found : (o : Operand) → isNode b o ≡ true → lookup (bindings (flatTree b)) (nodeNameOf b o) ≡ o
@@ -109,20 +117,23 @@ module _ (b : Block) (w : WellFormed b) where
   found (gate j) h = found-gate j (ltb-true j (gateCount b) h)
   found (constant c) h = absurd (false≢true h)
 
-  found-term : (o : Operand) (first : ℕ) → isOperand b o ≡ true → termNode (termOf b o) (bindings (flatTree b)) first ≡ o
+  found-term : (o : Operand) (first : ℕ) → isOperand b o ≡ true
+      → termNode (termOf b o) (bindings (flatTree b)) first ≡ o
   unfolding termNode termOf isOperand
   found-term (input i) first h = found (input i) h
   found-term (gate j) first h = found (gate j) h
   found-term (constant c) first h = refl
 
-  found-terms : (os : List Operand) (first : ℕ) → all (isOperand b) os ≡ true → termsNodes (termsOf b os) (bindings (flatTree b)) first ≡ os
+  found-terms : (os : List Operand) (first : ℕ) → all (isOperand b) os ≡ true
+      → termsNodes (termsOf b os) (bindings (flatTree b)) first ≡ os
   unfolding termsNodes termsOf
   found-terms [] first h = refl
   found-terms (o ∷ os) first h =
       let f = and-eq-true-iff (isOperand b o) (all (isOperand b) os) .0 h in
       ap₂ _∷_ (found-term o first (f .0)) (found-terms os _ (f .1))
 
-  lines-gates : (js : List ℕ) (first : ℕ) → linesGates (map (flatLine b) js) (bindings (flatTree b)) first ≡ map (gateOf b) js
+  lines-gates : (js : List ℕ) (first : ℕ)
+      → linesGates (map (flatLine b) js) (bindings (flatTree b)) first ≡ map (gateOf b) js
   unfolding linesGates flatLine termGates
   lines-gates [] first = refl
   lines-gates (j ∷ js) first =
@@ -141,7 +152,8 @@ module _ (b : Block) (w : WellFormed b) where
       let f = and-eq-true-iff (isNode b (o .node)) (all (λ o. isNode b (o .node)) os) .0 h in
       rw (found (o .node) (f .0), outputs-shown os (f .1))
 
-  written-nevers : (ns : List Assignment) → all (neverFits b) ns ≡ true → map (assignmentOf (b .inputs)) (map (pairsOf b) ns) ≡ ns
+  written-nevers : (ns : List Assignment) → all (neverFits b) ns ≡ true
+      → map (assignmentOf (b .inputs)) (map (pairsOf b) ns) ≡ ns
   written-nevers [] h = refl
   written-nevers (a ∷ ns) h =
       let f = and-eq-true-iff (neverFits b a) (all (neverFits b) ns) .0 h in

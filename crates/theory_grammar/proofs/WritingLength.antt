@@ -1,5 +1,5 @@
--- A written text has at most 58,098 bytes: 14 for each of 12 inputs, 164 for each of 8 never lines, 51 and the name for each of 1,024 gates, 24
--- for each of 16 outputs. Assumes nothing.
+-- A written text has at most 58,098 bytes: 14 for each of 12 inputs, 164 for each of 8 never lines, 51 and the name for
+-- each of 1,024 gates, 24 for each of 16 outputs. Assumes nothing.
 use Prim.Native.Nat.{ℕ, zero, suc, _+_, _-_, _*_, _≤_}
 use mathlib.Core.Path.{_≡_, refl}
 use mathlib.Core.Bool.{Bool, true, false, _&&_, and-eq-true-iff}
@@ -20,9 +20,10 @@ use Rattle.netlist.specs.Kinds.{isKind, keyword, signatureOf}
 use Rattle.netlist.specs.Netlist.{Name, Operand, input, gate, constant, Output, Block, gateCount, gateOf}
 use Rattle.netlist.specs.StoredBlock.{isNode, isOperand, isWellFormed}
 use Rattle.netlist.specs.Names.{isNameByte, isLegalName, isPlainName, isNodeName}
-use Rattle.netlist.specs.Syntax.{Pair, valueText, pairText, printTerm, printTerms, printInput, printPair, printNever, printGate, printOutput, printLines}
-use Rattle.netlist.specs.Syntax.{print}
-use Rattle.netlist.specs.Writing.{digits, decimal, gateName, nodeNameOf, termOf, termsOf, flatLine, pairsOf, flatTree, writtenText}
+use Rattle.netlist.specs.Syntax.{Pair, valueText, pairText, printTerm, printTerms, printInput, printPair, printNever}
+use Rattle.netlist.specs.Syntax.{printGate, printOutput, printLines, print}
+use Rattle.netlist.specs.Writing.{digits, decimal, gateName, nodeNameOf, termOf, termsOf, flatLine, pairsOf, flatTree}
+use Rattle.netlist.specs.Writing.{writtenText}
 use Rattle.theory_grammar.proofs.ListFacts.{and3, tab-map}
 use Rattle.theory_encoding.proofs.Gates.{by-kind}
 use Rattle.theory_encoding.proofs.WellFormed.{WellFormed, wellFormed-parts}
@@ -50,7 +51,9 @@ unfolding names-length
 names-more m zero = let e : m ≡ m + 0 = omega arith in rw (← e) (omega arith)
 names-more m (suc more) =
     let e : suc (m + more) ≡ m + suc more = omega arith in
-    rw (← e) (omega (arith, names-more m more, sum-map-append (λ j. length (gateName j)) (upTo (m + more)) ((m + more) ∷ [])))
+    rw (← e)
+    (omega
+    (arith, names-more m more, sum-map-append (λ j. length (gateName j)) (upTo (m + more)) ((m + more) ∷ [])))
 
 names-few : (m : ℕ) → m ≤ maxGates → names-length m ≤ 4010
 names-few m le =
@@ -62,7 +65,8 @@ names-few m le =
 keyword-short : (k : ℕ) → isKind k ≡ true → length (keyword k) ≤ 4
 unfolding keyword signatureOf
 keyword-short =
-    by-kind (λ k. length (keyword k) ≤ 4) (omega arith) (omega arith) (omega arith) (omega arith) (omega arith) (omega arith) (omega arith)
+    by-kind (λ k. length (keyword k) ≤ 4) (omega arith) (omega arith) (omega arith) (omega arith) (omega arith)
+    (omega arith) (omega arith)
 
 inputs-length : (xs : List Name) (rest : List ℕ) → all isPlainName xs ≡ true
     → length (printLines printInput xs rest) ≤ 14 * length xs + length rest
@@ -94,7 +98,8 @@ module _ (b : Block) (w : WellFormed b) where
   unfolding printNever isPlainName
   never-short a rest =
       let h = pairs-all b a (λ p. leb (length (p .name)) maxName)
-      (λ j l. le-leb _ maxName (name-short _ (getD (b .inputs) j []) (all-at isPlainName (b .inputs) j [] (w .inputNames) l))) in
+      (λ j l. le-leb _ maxName
+      (name-short _ (getD (b .inputs) j []) (all-at isPlainName (b .inputs) j [] (w .inputNames) l))) in
       omega (arith, pairs-short (pairsOf b a) (ascii ")\n" ++ rest) h, pairs-few b a, w .fewInputs)
 
   nevers-length : (ns : List Assignment) (rest : List ℕ)
@@ -110,7 +115,8 @@ module _ (b : Block) (w : WellFormed b) where
   unfolding isNodeName
   node-short o h = name-short _ (nodeNameOf b o) (node-legal b w o h)
 
-  term-short : (o : Operand) (rest : List ℕ) → isOperand b o ≡ true → length (printTerm (termOf b o) rest) ≤ 8 + length rest
+  term-short : (o : Operand) (rest : List ℕ) → isOperand b o ≡ true
+      → length (printTerm (termOf b o) rest) ≤ 8 + length rest
   unfolding termOf printTerm isOperand
   term-short (input i) rest h = let s = node-short (input i) h in simp length-append (omega arith)
   term-short (gate j) rest h = let s = node-short (gate j) h in simp length-append (omega arith)
@@ -127,9 +133,11 @@ module _ (b : Block) (w : WellFormed b) where
       let r = terms-short os rest (f .1) in
       omega arith
 
-  outputs-length : (os : List Output) (rest : List ℕ) → all (λ o. isPlainName (o .port)) os ≡ true → all (λ o. isNode b (o .node)) os ≡ true
+  outputs-length : (os : List Output) (rest : List ℕ) → all (λ o. isPlainName (o .port)) os ≡ true
+      → all (λ o. isNode b (o .node)) os ≡ true
       → length (printLines printOutput
-      (map (λ (o : Output). record { port = o .port; shown = nodeNameOf b (o .node) }) os) rest) ≤ 24 * length os + length rest
+      (map (λ (o : Output). record { port = o .port; shown = nodeNameOf b (o .node) }) os) rest) ≤ 24 * length os
+      + length rest
   unfolding printLines printOutput isPlainName
   outputs-length [] rest p n = omega arith
   outputs-length (o ∷ os) rest p n =
@@ -152,7 +160,8 @@ module _ (b : Block) (w : WellFormed b) where
       simp length-append (omega arith)
 
   gates-length : (js : List ℕ) (rest : List ℕ)
-      → length (printLines printGate (map (flatLine b) js) rest) ≤ 51 * length js + sum (map (λ j. length (gateName j)) js) + length rest
+      → length (printLines printGate (map (flatLine b) js) rest) ≤ 51 * length js
+      + sum (map (λ j. length (gateName j)) js) + length rest
   unfolding printLines
   gates-length [] rest = omega arith
   gates-length (j ∷ js) rest =
@@ -160,7 +169,8 @@ module _ (b : Block) (w : WellFormed b) where
       let r = gates-length js rest in
       omega arith
 
-  tab-length : (m : ℕ) → m ≤ maxGates → (rest : List ℕ) → length (printLines printGate (tab (flatLine b) m) rest) ≤ 51 * m + 4010 + length rest
+  tab-length : (m : ℕ) → m ≤ maxGates → (rest : List ℕ)
+      → length (printLines printGate (tab (flatLine b) m) rest) ≤ 51 * m + 4010 + length rest
   unfolding names-length
   tab-length m few rest =
       let n = names-few m few in
@@ -174,7 +184,8 @@ unfolding writtenText print flatTree
 written-length b h =
     let w = wellFormed-parts b h in
     let o = outputs-length b w (b .outputs) [] (w .portNames) (w .nodesThere) in
-    let shown = printLines printOutput (map (λ (o : Output). record { port = o .port; shown = nodeNameOf b (o .node) }) (b .outputs)) [] in
+    let shown = printLines printOutput
+    (map (λ (o : Output). record { port = o .port; shown = nodeNameOf b (o .node) }) (b .outputs)) [] in
     let g = tab-length b w (gateCount b) (w .fewGates) shown in
     let gates = printLines printGate (tab (flatLine b) (gateCount b)) shown in
     let l = nevers-length b w (b .nevers) gates in

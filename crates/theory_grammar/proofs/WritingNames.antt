@@ -1,5 +1,5 @@
--- The names of written gates, `_0` to `_1023`: legal, unlike each other, and unlike every input's name. Computed over all of them.
--- Assumes nothing.
+-- The names of written gates, `_0` to `_1023`: legal, unlike each other, and unlike every input's name. Computed over
+-- all of them. Assumes nothing.
 --   gateName-legal: each is legal
 --   gateName-injective, gateName-no-input: no two are the same, and none is an input's
 use Prim.Native.Nat.{ℕ, _+_, _-_, _*_, _<_}
@@ -13,7 +13,8 @@ use Rattle.prelude.proofs.Quantifiers.{all-below}
 use Rattle.theory_grammar.proofs.CompleteTerms.{name-facts}
 use Rattle.netlist.specs.Limits.{maxGates}
 use Rattle.netlist.specs.Netlist.{Name}
-use Rattle.netlist.specs.Names.{isLetter, isDigit, isUnderscore, isNameByte, isNameStart, isLegalName, isPlainName, isNodeName}
+use Rattle.netlist.specs.Names.{isLetter, isDigit, isUnderscore, isNameByte, isNameStart, isLegalName, isPlainName}
+use Rattle.netlist.specs.Names.{isNodeName}
 use Rattle.netlist.specs.Writing.{digits, decimal, gateName}
 
 -- the number that decimal digits stand for, behind a number already read
@@ -40,8 +41,10 @@ gateName-legal j h = all-below (λ j. isNodeName (gateName j)) maxGates j names-
 -- Two written gates have two names.
 pub gateName-injective : (i j : ℕ) → i < maxGates → j < maxGates → gateName i ≡ gateName j → i ≡ j
 gateName-injective i j h g e =
-    let a = eqb-true (numberOf (gateName i)) i (all-below (λ j. eqb (numberOf (gateName j)) j) maxGates i names-read h) in
-    let b = eqb-true (numberOf (gateName j)) j (all-below (λ j. eqb (numberOf (gateName j)) j) maxGates j names-read g) in
+    let a =
+    eqb-true (numberOf (gateName i)) i (all-below (λ j. eqb (numberOf (gateName j)) j) maxGates i names-read h) in
+    let b =
+    eqb-true (numberOf (gateName j)) j (all-below (λ j. eqb (numberOf (gateName j)) j) maxGates j names-read g) in
     let c : numberOf (gateName i) ≡ numberOf (gateName j) = ap numberOf e in
     cc
 

@@ -1,4 +1,5 @@
--- The never lines that Write prints: a pair for each input that an assignment fixes. Cited by the laws of the written tree. Assumes nothing.
+-- The never lines that Write prints: a pair for each input that an assignment fixes. Cited by the laws of the written
+-- tree. Assumes nothing.
 --   assignmentOf-pairsOf: the assignment of a written line is the one it was written for
 --   pairs-some: it has a pair
 --   pairs-all: what holds of the pair of every input holds of all its pairs
@@ -57,8 +58,10 @@ module _ (b : Block) (a : Assignment) (names : distinct (b .inputs) ≡ true) (i
     where
       go : (t : Bool) → fixes a j ≡ t → j < inputCount b
           → givenValue (map (pairAt b a) (keep (fixes a) js)) (getD (b .inputs) i []) ≡ undefined
-          → givenValue (map (pairAt b a) (cond t (j ∷ keep (fixes a) js) (keep (fixes a) js))) (getD (b .inputs) i []) ≡ undefined
-      go true e l rec = rw (names-differ (b .inputs) names i j there l (λ q. let h : fixes a i ≡ true = rw q e in false≢true (sym free ∙ h))) rec
+          → givenValue (map (pairAt b a) (cond t (j ∷ keep (fixes a) js) (keep (fixes a) js))) (getD (b .inputs) i [])
+          ≡ undefined
+      go true e l rec = rw (names-differ (b .inputs) names i j there l
+          (λ q. let h : fixes a i ≡ true = rw q e in false≢true (sym free ∙ h))) rec
       go false e l rec = rec
 
   -- a fixed one is given its value
@@ -68,10 +71,12 @@ module _ (b : Block) (a : Assignment) (names : distinct (b .inputs) ≡ true) (i
   given-value [] below m fixed = absurd (false≢true m)
   given-value (j ∷ js) below m fixed =
       let f = and-eq-true-iff (ltb j (inputCount b)) (all (λ j. ltb j (inputCount b)) js) .0 below in
-      go (eq-or-ne i j) (member-first i j js m) (fixes a j) refl (ltb-true j (inputCount b) (f .0)) (λ k. given-value js (f .1) k fixed)
+      go (eq-or-ne i j) (member-first i j js m) (fixes a j) refl (ltb-true j (inputCount b) (f .0))
+      (λ k. given-value js (f .1) k fixed)
     where
       go : (i ≡ j) ⊎ (i ≡ j → ⊥) → (i ≡ j) ⊎ (member i js ≡ true) → (t : Bool) → fixes a j ≡ t → j < inputCount b
-          → (member i js ≡ true → givenValue (map (pairAt b a) (keep (fixes a) js)) (getD (b .inputs) i []) ≡ val (eqb (bit (a .ones) i) 1))
+          → (member i js ≡ true → givenValue (map (pairAt b a) (keep (fixes a) js)) (getD (b .inputs) i [])
+          ≡ val (eqb (bit (a .ones) i) 1))
           → givenValue (map (pairAt b a) (cond t (j ∷ keep (fixes a) js) (keep (fixes a) js))) (getD (b .inputs) i [])
           ≡ val (eqb (bit (a .ones) i) 1)
       go (inl e) q true t l rec = rw (← e, same-refl (getD (b .inputs) i []))
@@ -88,10 +93,12 @@ module _ (b : Block) (a : Assignment) (names : distinct (b .inputs) ≡ true) (i
       below = below-all (λ j. ltb j (inputCount b)) (inputCount b) (λ j l. lt-ltb j (inputCount b) l)
 
       is-there : member i (upTo (inputCount b)) ≡ true
-      is-there = member-from i (upTo (inputCount b)) i (rw (length-tab (λ k. k) (inputCount b)) there) (getD-tab (λ k. k) (inputCount b) i 0 there)
+      is-there = member-from i (upTo (inputCount b)) i (rw (length-tab (λ k. k) (inputCount b)) there)
+          (getD-tab (λ k. k) (inputCount b) i 0 there)
 
       go : (t : Bool) → fixes a i ≡ t
-          → givenValue (map (pairAt b a) (keep (fixes a) (upTo (inputCount b)))) (getD (b .inputs) i []) ≡ cond t (val (eqb (bit (a .ones) i) 1)) undefined
+          → givenValue (map (pairAt b a) (keep (fixes a) (upTo (inputCount b)))) (getD (b .inputs) i [])
+          ≡ cond t (val (eqb (bit (a .ones) i) 1)) undefined
       go true e = given-value (upTo (inputCount b)) below is-there e
       go false e = given-none (upTo (inputCount b)) below e
 
@@ -106,7 +113,8 @@ pub never-facts : (b : Block) (a : Assignment) → neverFits b a ≡ true → Ne
 unfolding neverFits areMasks
 never-facts b a h =
     let f = and-eq-true-iff (ltb 0 (a .fixed)) (areMasks (inputCount b) (a .fixed) (a .ones)) .0 h in
-    let g = and3 (ltb (a .fixed) (2 ^ inputCount b)) (ltb (a .ones) (2 ^ inputCount b)) (isWithin (inputCount b) (a .fixed) (a .ones)) (f .1) in
+    let g = and3 (ltb (a .fixed) (2 ^ inputCount b)) (ltb (a .ones) (2 ^ inputCount b))
+    (isWithin (inputCount b) (a .fixed) (a .ones)) (f .1) in
     record {
       some = ltb-true 0 (a .fixed) (f .0);
       fixedFew = ltb-true (a .fixed) (2 ^ inputCount b) (g .0);
@@ -123,7 +131,8 @@ module _ (b : Block) (a : Assignment) (names : distinct (b .inputs) ≡ true) (f
   many = length-map (b .inputs) (givenValue (pairsOf b a))
 
   -- the value of input i, from the assignment
-  value-at : (i : ℕ) → i < length values → getD values i undefined ≡ cond (fixes a i) (val (eqb (bit (a .ones) i) 1)) undefined
+  value-at : (i : ℕ) → i < length values
+      → getD values i undefined ≡ cond (fixes a i) (val (eqb (bit (a .ones) i) 1)) undefined
   unfolding values
   value-at i l =
       let m : i < inputCount b = rw many at l in
@@ -183,7 +192,8 @@ module _ (b : Block) (a : Assignment) (names : distinct (b .inputs) ≡ true) (f
 
 module _ (b : Block) (a : Assignment) where
   kept-all : (test : Pair → Bool) → ((j : ℕ) → j < inputCount b → test (pairAt b a j) ≡ true)
-      → (js : List ℕ) → all (λ j. ltb j (inputCount b)) js ≡ true → all test (map (pairAt b a) (keep (fixes a) js)) ≡ true
+      → (js : List ℕ) → all (λ j. ltb j (inputCount b)) js ≡ true
+      → all test (map (pairAt b a) (keep (fixes a) js)) ≡ true
   kept-all test h [] below = refl
   kept-all test h (j ∷ js) below =
       let f = and-eq-true-iff (ltb j (inputCount b)) (all (λ j. ltb j (inputCount b)) js) .0 below in
@@ -194,9 +204,11 @@ module _ (b : Block) (a : Assignment) where
       go true e rec = rw e rec
       go false e rec = rec
 
-  pub pairs-all : (test : Pair → Bool) → ((j : ℕ) → j < inputCount b → test (pairAt b a j) ≡ true) → all test (pairsOf b a) ≡ true
+  pub pairs-all : (test : Pair → Bool) → ((j : ℕ) → j < inputCount b → test (pairAt b a j) ≡ true)
+      → all test (pairsOf b a) ≡ true
   unfolding pairsOf
-  pairs-all test h = kept-all test h (upTo (inputCount b)) (below-all (λ j. ltb j (inputCount b)) (inputCount b) (λ j l. lt-ltb j (inputCount b) l))
+  pairs-all test h = kept-all test h (upTo (inputCount b))
+      (below-all (λ j. ltb j (inputCount b)) (inputCount b) (λ j l. lt-ltb j (inputCount b) l))
 
   pub pairs-few : length (pairsOf b a) ≤ inputCount b
   unfolding pairsOf
@@ -206,7 +218,8 @@ module _ (b : Block) (a : Assignment) where
 
 -- ---- no name stands twice
 
-not-kept : (f : ℕ → Name) (p : ℕ → Bool) (x : Name) (js : List ℕ) → memberList x (map f js) ≡ false → memberList x (map f (keep p js)) ≡ false
+not-kept : (f : ℕ → Name) (p : ℕ → Bool) (x : Name) (js : List ℕ) → memberList x (map f js) ≡ false
+    → memberList x (map f (keep p js)) ≡ false
 not-kept f p x [] h = refl
 not-kept f p x (j ∷ js) h =
     let g = or-neither (same x (f j)) (memberList x (map f js)) h in
@@ -217,7 +230,8 @@ not-kept f p x (j ∷ js) h =
     go true e rec = rw e rec
     go false e rec = rec
 
-distinct-kept : (f : ℕ → Name) (p : ℕ → Bool) (js : List ℕ) → distinct (map f js) ≡ true → distinct (map f (keep p js)) ≡ true
+distinct-kept : (f : ℕ → Name) (p : ℕ → Bool) (js : List ℕ) → distinct (map f js) ≡ true
+    → distinct (map f (keep p js)) ≡ true
 distinct-kept f p [] h = refl
 distinct-kept f p (j ∷ js) h =
     let g = distinct-parts (f j) (map f js) h in
@@ -229,10 +243,12 @@ distinct-kept f p (j ∷ js) h =
     go false e rec = rec
 
 -- No name stands twice in a written never line.
-pub pairs-distinct : (b : Block) (a : Assignment) → distinct (b .inputs) ≡ true → distinct (map (λ (p : Pair). p .name) (pairsOf b a)) ≡ true
+pub pairs-distinct : (b : Block) (a : Assignment) → distinct (b .inputs) ≡ true
+    → distinct (map (λ (p : Pair). p .name) (pairsOf b a)) ≡ true
 unfolding pairsOf
 pairs-distinct b a names =
     let name : ℕ → Name = λ i. getD (b .inputs) i [] in
-    let e : map name (upTo (inputCount b)) ≡ b .inputs = sym (tab-map name (inputCount b)) ∙ tab-getD [] (b .inputs) (inputCount b) refl in
+    let e : map name (upTo (inputCount b)) ≡ b .inputs =
+    sym (tab-map name (inputCount b)) ∙ tab-getD [] (b .inputs) (inputCount b) refl in
     ap distinct (map-map (λ (p : Pair). p .name) (pairAt b a) (keep (fixes a) (upTo (inputCount b))))
     ∙ distinct-kept name (fixes a) (upTo (inputCount b)) (ap distinct e ∙ names)

@@ -16,15 +16,20 @@ use Rattle.prelude.proofs.Quantifiers.{all-at, all-append}
 use Rattle.prelude.proofs.Tab.{getD-tab, length-tab, map-tab}
 use Rattle.netlist.specs.Limits.{maxInputs, maxNevers, maxGates, maxOutputs}
 use Rattle.netlist.specs.Assignments.{Assignment}
-use Rattle.netlist.specs.Netlist.{Name, Operand, input, gate, constant, Output, Block, inputCount, gateCount, outputCount, neverCount, gateOf}
+use Rattle.netlist.specs.Netlist.{Name, Operand, input, gate, constant, Output, Block, inputCount, gateCount}
+use Rattle.netlist.specs.Netlist.{outputCount, neverCount, gateOf}
 use Rattle.netlist.specs.StoredBlock.{isNode, isOperand, isWellFormed}
 use Rattle.netlist.specs.Names.{isPlainName}
-use Rattle.netlist.specs.Syntax.{name, GateLine, OutputLine, Pair, printInput, printPair, printNever, printGate, printOutput}
-use Rattle.netlist.specs.Reading.{lineGates, isOverLimit, Mention, mentions, inputMention, gateMention, portMention, shownMention, termMentions}
-use Rattle.netlist.specs.Reading.{termsMentions, operandMentions, declaredNodes, declaredPorts, usedNames, firstRepeat, orElse, firstDuplicate}
-use Rattle.netlist.specs.Reading.{firstOutside, firstUndeclared, neverLinesAt, pairMention, neverMentions, excludedNames, lesser, firstRepeatIn}
+use Rattle.netlist.specs.Syntax.{name, GateLine, OutputLine, Pair, printInput, printPair, printNever, printGate}
+use Rattle.netlist.specs.Syntax.{printOutput}
+use Rattle.netlist.specs.Reading.{lineGates, isOverLimit, Mention, mentions, inputMention, gateMention, portMention}
+use Rattle.netlist.specs.Reading.{shownMention, termMentions, termsMentions, operandMentions, declaredNodes}
+use Rattle.netlist.specs.Reading.{declaredPorts, usedNames, firstRepeat, orElse, firstDuplicate, firstOutside}
+use Rattle.netlist.specs.Reading.{firstUndeclared, neverLinesAt, pairMention, neverMentions, excludedNames, lesser}
+use Rattle.netlist.specs.Reading.{firstRepeatIn}
 use Rattle.netlist.specs.Writing.{gateName, nodeNameOf, termOf, termsOf, flatLine, pairsOf, flatTree}
-use Rattle.theory_grammar.proofs.ListFacts.{ne-same, memberList-from, distinct-apart, tab-map, Apart, apart-append}
+use Rattle.theory_grammar.proofs.ListFacts.{ne-same, memberList-from, distinct-apart, tab-map, Apart}
+use Rattle.theory_grammar.proofs.ListFacts.{apart-append}
 use Rattle.theory_encoding.proofs.WellFormed.{WellFormed, wellFormed-parts}
 use Rattle.theory_grammar.proofs.WellFormed.{gate-facts}
 use Rattle.theory_grammar.proofs.WritingNevers.{pairs-all, pairs-distinct}
@@ -51,7 +56,8 @@ flatTree-within b h =
       lines-sum b (upTo (gateCount b)),
       e,
       le-leb (gateCount b) maxGates (w .fewGates),
-      length-map {B = OutputLine} (b .outputs) (λ (o : Output). record { port = o .port; shown = nodeNameOf b (o .node) }),
+      length-map {B = OutputLine} (b .outputs)
+          (λ (o : Output). record { port = o .port; shown = nodeNameOf b (o .node) }),
       le-leb (outputCount b) maxOutputs (w .fewOutputs),
     )
 
@@ -66,16 +72,19 @@ pub mention-names : {A : Type 0} (printed : A → List ℕ → List ℕ) (inLine
 unfolding mentions
 mention-names printed inLine named h [] at = refl
 mention-names printed inLine named h (x ∷ xs) at =
-    map-append nameOf (inLine x at) _ ∙ rw (h x at, mention-names printed inLine named h xs (at + length (printed x [])))
+    map-append nameOf (inLine x at) _
+    ∙ rw (h x at, mention-names printed inLine named h xs (at + length (printed x [])))
 
 no-repeat : (ds : List Mention) (before : List Name) → Apart (map nameOf ds)
-    → ((j : ℕ) → j < length (map nameOf ds) → memberList (getD (map nameOf ds) j []) before ≡ false) → firstRepeat before ds ≡ none
+    → ((j : ℕ) → j < length (map nameOf ds) → memberList (getD (map nameOf ds) j []) before ≡ false)
+    → firstRepeat before ds ≡ none
 unfolding firstRepeat
 no-repeat [] before apart fresh = refl
 no-repeat (d ∷ ds) before apart fresh =
     rw (fresh 0 (omega arith))
     (no-repeat ds (d .name ∷ before) (λ i j l g. apart (suc i) (suc j) (omega arith) (omega arith))
-    (λ j l. rw (ne-same (getD (map nameOf ds) j []) (d .name) (λ q. apart 0 (suc j) (omega arith) (omega arith) (sym q)))
+    (λ j l.
+    rw (ne-same (getD (map nameOf ds) j []) (d .name) (λ q. apart 0 (suc j) (omega arith) (omega arith) (sym q)))
     (fresh (suc j) (omega arith))))
 
 -- the names that a written text declares
@@ -115,13 +124,15 @@ written-ports b =
     mention-names printOutput portMention (λ o. o .port) (λ o at. refl) _ _ ∙ map-map _ _ (b .outputs)
 
 -- no name stands twice in a written never line
-never-apart : (b : Block) (a : Assignment) → distinct (b .inputs) ≡ true → (at : ℕ) → Apart (map nameOf (neverMentions (pairsOf b a) at))
+never-apart : (b : Block) (a : Assignment) → distinct (b .inputs) ≡ true → (at : ℕ)
+    → Apart (map nameOf (neverMentions (pairsOf b a) at))
 unfolding neverMentions pairMention
 never-apart b a names at =
     rw (mention-names printPair pairMention (λ p. p .name) (λ p at. refl) (pairsOf b a) (at + 6))
     (distinct-apart (map (λ (p : Pair). p .name) (pairsOf b a)) (pairs-distinct b a names))
 
-nevers-unrepeated : (b : Block) → distinct (b .inputs) ≡ true → (ns : List Assignment) (at : ℕ) → firstRepeatIn (map (pairsOf b) ns) at ≡ none
+nevers-unrepeated : (b : Block) → distinct (b .inputs) ≡ true → (ns : List Assignment) (at : ℕ)
+    → firstRepeatIn (map (pairsOf b) ns) at ≡ none
 unfolding firstRepeatIn orElse
 nevers-unrepeated b names [] at = refl
 nevers-unrepeated b names (a ∷ ns) at =
@@ -144,7 +155,8 @@ flatTree-unrepeated b h =
 
 -- ---- undeclared names
 
-none-outside : (declared : List Name) (us : List Mention) → all (λ u. memberList (u .name) declared) us ≡ true → firstOutside declared us ≡ none
+none-outside : (declared : List Name) (us : List Mention) → all (λ u. memberList (u .name) declared) us ≡ true
+    → firstOutside declared us ≡ none
 unfolding firstOutside
 none-outside declared [] h = refl
 none-outside declared (u ∷ us) h =
@@ -156,7 +168,8 @@ module _ (b : Block) (w : WellFormed b) where
   unfolding nodeNameOf isNode writtenNames
   node-declared (input i) h =
       let l = ltb-true i (inputCount b) h in
-      memberList-from _ (b .inputs ++ tab gateName (gateCount b)) i (omega (arith, length-append (b .inputs) (tab gateName (gateCount b))))
+      memberList-from _ (b .inputs ++ tab gateName (gateCount b)) i
+      (omega (arith, length-append (b .inputs) (tab gateName (gateCount b))))
       (sym (List·getD-append (b .inputs) (tab gateName (gateCount b)) [] i l))
   node-declared (gate j) h =
       let l = ltb-true j (gateCount b) h in
@@ -174,14 +187,17 @@ module _ (b : Block) (w : WellFormed b) where
   term-declared (gate j) at h = rw (node-declared (gate j) h)
   term-declared (constant c) at h = refl
 
-  terms-declared : (os : List Operand) (at : ℕ) → all (isOperand b) os ≡ true → all declared (termsMentions (termsOf b os) at) ≡ true
+  terms-declared : (os : List Operand) (at : ℕ) → all (isOperand b) os ≡ true
+      → all declared (termsMentions (termsOf b os) at) ≡ true
   unfolding termsOf termsMentions
   terms-declared [] at h = refl
   terms-declared (o ∷ os) at h =
       let f = and-eq-true-iff (isOperand b o) (all (isOperand b) os) .0 h in
-      all-append declared (termMentions (termOf b o) (at + 1)) _ ∙ rw (term-declared o (at + 1) (f .0)) (terms-declared os _ (f .1))
+      all-append declared (termMentions (termOf b o) (at + 1)) _
+      ∙ rw (term-declared o (at + 1) (f .0)) (terms-declared os _ (f .1))
 
-  lines-declared : (js : List ℕ) (at : ℕ) → all declared (mentions printGate operandMentions (map (flatLine b) js) at) ≡ true
+  lines-declared : (js : List ℕ) (at : ℕ)
+      → all declared (mentions printGate operandMentions (map (flatLine b) js) at) ≡ true
   unfolding mentions operandMentions flatLine termMentions
   lines-declared [] at = refl
   lines-declared (j ∷ js) at =
@@ -215,10 +231,12 @@ module _ (b : Block) (w : WellFormed b) where
   unfolding mentions pairMention
   pairs-excluded [] at h = refl
   pairs-excluded (p ∷ ps) at h =
-      let f = and-eq-true-iff (memberList (p .name) (b .inputs)) (all (λ p. memberList (p .name) (b .inputs)) ps) .0 h in
+      let f =
+      and-eq-true-iff (memberList (p .name) (b .inputs)) (all (λ p. memberList (p .name) (b .inputs)) ps) .0 h in
       rw (f .0) (pairs-excluded ps _ (f .1))
 
-  nevers-excluded : (ns : List Assignment) (at : ℕ) → all excluded (mentions printNever neverMentions (map (pairsOf b) ns) at) ≡ true
+  nevers-excluded : (ns : List Assignment) (at : ℕ)
+      → all excluded (mentions printNever neverMentions (map (pairsOf b) ns) at) ≡ true
   unfolding mentions neverMentions
   nevers-excluded [] at = refl
   nevers-excluded (a ∷ ns) at =

@@ -17,7 +17,8 @@ use Rattle.netlist.specs.Netlist.{Name, Operand, input, gate, constant, Output,
 use Rattle.netlist.specs.StoredBlock.{isNode, isOperand, neverFits}
 use Rattle.netlist.specs.Names.{isLetter, isNameByte, isNameStart, isLegalName, isPlainName, isNodeName}
 use Rattle.netlist.specs.StoredBlock.{gateFits, isWellFormed}
-use Rattle.netlist.specs.Syntax.{termCount, isLegalTerm, isLegalTerms, isLegalPair, isLegalNever, isLegalGate, isLegalOutput, isLegalTree}
+use Rattle.netlist.specs.Syntax.{termCount, isLegalTerm, isLegalTerms, isLegalPair, isLegalNever, isLegalGate}
+use Rattle.netlist.specs.Syntax.{isLegalOutput, isLegalTree}
 use Rattle.netlist.specs.Writing.{nodeNameOf, termOf, termsOf, flatLine, pairsOf, flatTree}
 use Rattle.theory_grammar.proofs.ListFacts.{and3}
 use Rattle.theory_encoding.proofs.WellFormed.{WellFormed, wellFormed-parts}
@@ -33,7 +34,8 @@ plain-node x h =
 module _ (b : Block) (w : WellFormed b) where
   pub node-legal : (o : Operand) → isNode b o ≡ true → isNodeName (nodeNameOf b o) ≡ true
   unfolding nodeNameOf isNode
-  node-legal (input i) h = plain-node _ (all-at isPlainName (b .inputs) i [] (w .inputNames) (ltb-true i (inputCount b) h))
+  node-legal (input i) h =
+      plain-node _ (all-at isPlainName (b .inputs) i [] (w .inputNames) (ltb-true i (inputCount b) h))
   node-legal (gate j) h = let g = ltb-true j (gateCount b) h in gateName-legal j (omega (arith, w .fewGates))
   node-legal (constant c) h = absurd (false≢true h)
 
@@ -60,10 +62,13 @@ module _ (b : Block) (w : WellFormed b) where
   line-legal j h =
       let g = gateOf b j in
       let a = all-at (gateFits b) (b .gates) j (record { kind = 0; operands = [] }) (w .gatesFit) h in
-      let f = and3 (isKind (g .kind)) (arityFits (g .kind) (length (g .operands))) (all (isOperand b) (g .operands)) a in
-      rw (gateName-legal j (omega (arith, w .fewGates)), f .0, terms-count (g .operands), f .1) (terms-legal (maxDepth - 1) (g .operands) (f .2))
+      let f =
+      and3 (isKind (g .kind)) (arityFits (g .kind) (length (g .operands))) (all (isOperand b) (g .operands)) a in
+      rw (gateName-legal j (omega (arith, w .fewGates)), f .0, terms-count (g .operands), f .1)
+      (terms-legal (maxDepth - 1) (g .operands) (f .2))
 
-  outputs-legal : (os : List Output) → all (λ o. isPlainName (o .port)) os ≡ true → all (λ o. isNode b (o .node)) os ≡ true
+  outputs-legal : (os : List Output) → all (λ o. isPlainName (o .port)) os ≡ true
+      → all (λ o. isNode b (o .node)) os ≡ true
       → all isLegalOutput (map (λ (o : Output). record { port = o .port; shown = nodeNameOf b (o .node) }) os) ≡ true
   unfolding isLegalOutput
   outputs-legal [] p n = refl
@@ -89,5 +94,9 @@ pub flatTree-legal : (b : Block) → isWellFormed b ≡ true → isLegalTree (fl
 unfolding isLegalTree flatTree
 flatTree-legal b h =
     let w = wellFormed-parts b h in
-    rw (w .inputNames, nevers-legal b w (b .nevers) (w .neversFit), all-tab-from isLegalGate (flatLine b) (gateCount b) (line-legal b w))
+    rw (
+      w .inputNames,
+      nevers-legal b w (b .nevers) (w .neversFit),
+      all-tab-from isLegalGate (flatLine b) (gateCount b) (line-legal b w),
+    )
     (outputs-legal b w (b .outputs) (w .portNames) (w .nodesThere))

@@ -1,1 +1,2 @@
-// Pure theory: the parser's adequacy over the definitions of crates/netlist. Nothing here runs.
+// No code: the parser of netlist texts is right. What it accepts is the grammar, it refuses at the first byte that no
+// legal text has there, and what is written is read back.

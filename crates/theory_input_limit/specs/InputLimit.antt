@@ -1,8 +1,8 @@
--- Paper 8 raised the limit of inputs from 10 to 12. Here the limit is a parameter: with 12 the definitions are those of
--- `netlist`, with 10 those of the program just before. The words and the texts themselves never ask for the limit, so
--- only malformed blocks and refusal 3 do.
+-- What Paper 8 changed when it raised the limit of inputs from 10 to 12. Here the limit is a parameter: with 12 the
+-- definitions are those of `netlist`, with 10 those of the program just before. Encoding, decoding and parsing do not
+-- depend on the limit; only the test for malformed words and refusal 3 do.
 --   isWellFormedUpTo, isMalformedUpTo   SPECIFICATION 2.4, with the limit of inputs as a parameter
---   isOverLimitUpTo, readUpTo           SPECIFICATION 7.3, likewise
+--   isOverLimitUpTo, readUpTo           SPECIFICATION 7.3, with the limit of inputs as a parameter
 --   LimitKept                           the theorem of proofs/InputLimit.antt: what stayed, and what is refused by the
 --                                       earlier program
 use Prim.Native.Nat.{ℕ, _-_, _≤_, _<_}
@@ -12,7 +12,8 @@ use mathlib.Core.List.{List, map}
 use lib.ListN.{length, getD}
 use lib.Dec.{leb, ltb}
 use Rattle.prelude.specs.Lists.{same, all, distinct, sum}
-use Rattle.netlist.specs.declared.Refusal.the-variants.{TextTooLong, SyntaxError, OverLimit, DuplicateDeclaration, UndeclaredName}
+use Rattle.netlist.specs.declared.Refusal.the-variants.{TextTooLong, SyntaxError, OverLimit, DuplicateDeclaration}
+use Rattle.netlist.specs.declared.Refusal.the-variants.{UndeclaredName}
 use Rattle.netlist.specs.Limits.{maxText, maxInputs, maxNevers, maxGates, maxOutputs}
 use Rattle.netlist.specs.Names.{isPlainName}
 use Rattle.netlist.specs.Netlist.{Output, Block, inputCount, gateCount, outputCount, neverCount}
@@ -27,7 +28,8 @@ use Rattle.netlist.specs.Operations.{counted, read}
 
 unfoldable pub isWellFormedUpTo : ℕ → Block → Bool
 isWellFormedUpTo limit b =
-    leb (inputCount b) limit && leb (gateCount b) maxGates && leb (outputCount b) maxOutputs && leb (neverCount b) maxNevers
+    leb (inputCount b) limit && leb (gateCount b) maxGates && leb (outputCount b) maxOutputs && leb (neverCount b)
+    maxNevers
     && all isPlainName (b .inputs) && distinct (b .inputs)
     && all (neverFits b) (b .nevers)
     && all (gateFits b) (b .gates)
@@ -69,9 +71,10 @@ pub record LimitKept (limit : ℕ) : Type 0 where
   -- a block of up to so many inputs keeps its words: it is whole now exactly if it was
   pub blocksKept : (ws : List ℕ) → getD ws 0 0 ≤ limit → isMalformedUpTo limit ws ≡ isMalformed ws
   -- a block with more inputs was malformed to the earlier program
-  pub blocksTorn : (ws : List ℕ) → limit < getD ws 0 0 → isMalformedUpTo limit ws ≡ true
+  pub blocksMalformed : (ws : List ℕ) → limit < getD ws 0 0 → isMalformedUpTo limit ws ≡ true
   -- a text of up to so many inputs keeps every answer of Read
-  pub textsKept : (text : List ℕ) → inputsOf (parse text) ≤ limit → (room : ℕ) → readUpTo limit text room ≡ read text room
-  -- a text with more inputs, of the grammar and not overlong, was refused with 3 by the earlier program
-  pub textsCrowded : (text : List ℕ) → limit < inputsOf (parse text) → length text ≤ maxText → (room : ℕ)
+  pub textsKept : (text : List ℕ) → inputsOf (parse text) ≤ limit → (room : ℕ)
+      → readUpTo limit text room ≡ read text room
+  -- a text with more inputs, of the grammar and not too long, was refused with 3 by the earlier program
+  pub textsOverLimit : (text : List ℕ) → limit < inputsOf (parse text) → length text ≤ maxText → (room : ℕ)
       → readUpTo limit text room ≡ refused OverLimit

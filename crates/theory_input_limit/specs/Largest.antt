@@ -21,4 +21,9 @@ unfoldable pub longOutput : ℕ → Output
 longOutput i = record { port = longName i; node = input 0 }
 
 unfoldable pub largest : Block
-largest = record { inputs = tab longName 12; nevers = replicate 8 longNever; gates = replicate 1024 longGate; outputs = tab longOutput 16 }
+largest = record {
+  inputs = tab longName 12;
+  nevers = replicate 8 longNever;
+  gates = replicate 1024 longGate;
+  outputs = tab longOutput 16;
+}

@@ -1,4 +1,5 @@
--- The groups of the gathered block are those of the block, renumbered, in the same order; so gathering again changes nothing.
+-- The groups of the gathered block are those of the block, renumbered, in the same order; so gathering again changes
+-- nothing.
 --   ascending-map, ascending-same   ascending lists: mapped, and two with the same members
 --   gathered-groups                 the groups of the gathered block
 --   gathered-order-again            its list is 0, 1, 2, ..
@@ -25,7 +26,8 @@ use Rattle.netlist.specs.Groups.{reads, sameGroup, groupOf, isReady, mayBeNext,
 use Rattle.netlist.specs.Gather.{numberAt, placeIn, gatheredOrder, gathered}
 use Rattle.theory_reach.specs.Orders.{Ascending}
 use Rattle.theory_reach.specs.Numbering.{nextGate, Built, none, next}
-use Rattle.theory_reach.proofs.SameGroup.{sameGroup-sym, sameGroup-trans, groupOf-member, groupOf-same, groupOf-below, groupOf-self, groupOf-ascending}
+use Rattle.theory_reach.proofs.SameGroup.{sameGroup-sym, sameGroup-trans, groupOf-member, groupOf-same, groupOf-below}
+use Rattle.theory_reach.proofs.SameGroup.{groupOf-self, groupOf-ascending}
 use Rattle.theory_reach.proofs.Next.{ready-reads, ready-intro, mayBeNext-intro, mayBeNext-left, mayBeNext-ready}
 use Rattle.theory_reach.proofs.Order.{nextGate-passes}
 use Rattle.theory_reach.proofs.Build.{built-rest, built-groups, groups-built}
@@ -33,7 +35,8 @@ use Rattle.theory_reach.proofs.Inside.{wellFormed-inside}
 use Rattle.theory_encoding.proofs.ListFacts.{getD-map}
 use Rattle.theory_permutation.specs.Renumbering.{Renumbers}
 use Rattle.theory_permutation.proofs.Groups.{member-map, map-member, reads-old}
-use Rattle.theory_permutation.proofs.Gathered.{by-group, gathered-count, gathered-wellFormed, gathered-sameGroup, ordered-gathered}
+use Rattle.theory_permutation.proofs.Gathered.{by-group, gathered-count, gathered-wellFormed, gathered-sameGroup}
+use Rattle.theory_permutation.proofs.Gathered.{ordered-gathered}
 use Rattle.theory_permutation.proofs.Together.{gathered-ascending}
 
 -- ---- ascending lists
@@ -66,8 +69,10 @@ ascending-same (x ∷ xs) (y ∷ ys) a b h = ap₂ _∷_ heads (ascending-same x
     rest : (z : ℕ) → member z xs ≡ member z ys
     rest z =
         same-test (member z xs) (member z ys)
-        (λ m. ⊎-elim (λ e. let l = a .0 z m in absurd (omega (arith, heads))) (λ k. k) (member-first z y ys (sym (h z) ∙ member-rest z x xs m)))
-        (λ m. ⊎-elim (λ e. let l = b .0 z m in absurd (omega (arith, heads))) (λ k. k) (member-first z x xs (h z ∙ member-rest z y ys m)))
+        (λ m. ⊎-elim (λ e. let l = a .0 z m in absurd (omega (arith, heads))) (λ k. k)
+        (member-first z y ys (sym (h z) ∙ member-rest z x xs m)))
+        (λ m. ⊎-elim (λ e. let l = b .0 z m in absurd (omega (arith, heads))) (λ k. k)
+        (member-first z x xs (h z ∙ member-rest z y ys m)))
 
 joined-map : (f : ℕ → ℕ) (xs : List (List ℕ)) → joined (map (map f) xs) ≡ map f (joined xs)
 joined-map f [] = refl
@@ -134,7 +139,8 @@ module _ (b : Block) (fits : isWellFormed b ≡ true) where
     unfolding numberAt
     at-early i l =
         let long : i < length (joined gs ++ groupOf b j) = rw (length-append (joined gs) (groupOf b j)) (omega arith) in
-        rw split (List·getD-append (joined gs ++ groupOf b j) later 0 i long ∙ List·getD-append (joined gs) (groupOf b j) 0 i l)
+        rw split (List·getD-append (joined gs ++ groupOf b j) later 0 i long
+        ∙ List·getD-append (joined gs) (groupOf b j) 0 i l)
 
     early : (i : ℕ) → i < k → member (numberAt order i) (joined gs) ≡ true
     early i l = member-from (numberAt order i) (joined gs) i l (sym (at-early i l))
@@ -148,26 +154,32 @@ module _ (b : Block) (fits : isWellFormed b ≡ true) where
     first : member (numberAt order k) (groupOf b j) ≡ true
     unfolding numberAt
     first =
-        let at : getD (gatheredOrder b) k 0 ≡ getD (groupOf b j) 0 0 = rw (split, append-assoc (joined gs) (groupOf b j) later)
-        ((rw add-zero at (getD-append-add (joined gs) (groupOf b j ++ later) 0 0)) ∙ List·getD-append (groupOf b j) later 0 0 some) in
+        let at : getD (gatheredOrder b) k 0 ≡ getD (groupOf b j) 0 0 =
+        rw (split, append-assoc (joined gs) (groupOf b j) later)
+        ((rw add-zero at (getD-append-add (joined gs) (groupOf b j ++ later) 0 0))
+        ∙ List·getD-append (groupOf b j) later 0 0 some) in
         rw at (member-from (getD (groupOf b j) 0 0) (groupOf b j) 0 some refl)
 
     -- the group of place k in the gathered block
-    group-old : (u : ℕ) → u < gateCount b → sameGroup (gathered b) k u ≡ true → member (numberAt order u) (groupOf b j) ≡ true
+    group-old : (u : ℕ) → u < gateCount b → sameGroup (gathered b) k u ≡ true
+        → member (numberAt order u) (groupOf b j) ≡ true
     group-old u l s =
         groupOf-member b j (numberAt order u)
         (sameGroup-trans b j (numberAt order k) (numberAt order u) (groupOf-same b j (numberAt order k) first)
         (sym (gathered-sameGroup b fits k u inside l) ∙ s))
 
-    group-new : (u : ℕ) → u < gateCount b → member (numberAt order u) (groupOf b j) ≡ true → sameGroup (gathered b) k u ≡ true
+    group-new : (u : ℕ) → u < gateCount b → member (numberAt order u) (groupOf b j) ≡ true
+        → sameGroup (gathered b) k u ≡ true
     group-new u l m =
         gathered-sameGroup b fits k u inside l
-        ∙ sameGroup-trans b (numberAt order k) j (numberAt order u) (sameGroup-sym b j (numberAt order k) (groupOf-same b j (numberAt order k) first))
+        ∙ sameGroup-trans b (numberAt order k) j (numberAt order u)
+        (sameGroup-sym b j (numberAt order k) (groupOf-same b j (numberAt order k) first))
         (groupOf-same b j (numberAt order u) m)
 
     -- it is the next one
     done-early : (u : ℕ) → u < gateCount b → member (numberAt order u) (joined gs) ≡ true → member u done ≡ true
-    done-early u l m = rw (joined-map place gs) (rw (r .newOfOld u l) at (map-member place (numberAt order u) (joined gs) m))
+    done-early u l m =
+        rw (joined-map place gs) (rw (r .newOfOld u l) at (map-member place (numberAt order u) (joined gs) m))
 
     not-done : member k done ≡ true → ⊥
     not-done m =
@@ -182,14 +194,17 @@ module _ (b : Block) (fits : isWellFormed b ≡ true) where
         let il : i < gateCount b = below i (groupOf-below (gathered b) k i m) in
         let ul : u < gateCount b = below u (wellFormed-inside (gathered b) (gathered-wellFormed b fits) i u rd) in
         ⊎-elim (λ g. inl (groupOf-member (gathered b) k u (group-new u ul g))) (λ g. inr (done-early u ul g))
-        (ready-reads b (joined gs) (groupOf b j) (mayBeNext-ready b (joined gs) j (nextGate-passes b (joined gs) h)) (numberAt order i) (numberAt order u)
+        (ready-reads b (joined gs) (groupOf b j) (mayBeNext-ready b (joined gs) j (nextGate-passes b (joined gs) h))
+        (numberAt order i) (numberAt order u)
         (group-old i il (groupOf-same (gathered b) k i m)) (old-reads i u rd)))
 
     next-is : nextGate (gathered b) done ≡ k
     next-is =
-        least-is (mayBeNext (gathered b) done) (gateCount (gathered b)) k (rw (gathered-count b fits) (omega (arith, inside)))
+        least-is (mayBeNext (gathered b) done) (gateCount (gathered b)) k
+        (rw (gathered-count b fits) (omega (arith, inside)))
         (λ i l.
-        not-true-false _ (λ p. not-both (done-early i (omega (arith, inside)) (early i l)) (mayBeNext-left (gathered b) done i p)))
+        not-true-false _
+        (λ p. not-both (done-early i (omega (arith, inside)) (early i l)) (mayBeNext-left (gathered b) done i p)))
         (λ _. mayBeNext-intro (gathered b) done k (not-true-false _ not-done) ready)
 
     -- places ascend as the group's gates do
@@ -210,7 +225,8 @@ module _ (b : Block) (fits : isWellFormed b ≡ true) where
 
         wrong : place y ≤ place x → ⊥
         wrong c =
-            ⊎-elim (λ e. let z : y ≡ x = sym (r .oldOfNew y yl) ∙ ap (numberAt order) e ∙ r .oldOfNew x xl in omega arith)
+            ⊎-elim (λ e. let z : y ≡ x = sym (r .oldOfNew y yl) ∙ ap (numberAt order) e ∙ r .oldOfNew x xl in
+            omega arith)
             (λ ne.
             let z : y < x = rw (r .oldOfNew y yl, r .oldOfNew x xl) at
             (gathered-ascending b fits (place y) (place x) (omega arith) (r .newBelow x xl) same) in
@@ -223,7 +239,8 @@ module _ (b : Block) (fits : isWellFormed b ≡ true) where
         (ascending-map place (groupOf b j) (groupOf-ascending b j) rises)
         (λ z. same-test (member z (groupOf (gathered b) k)) (member z (map place (groupOf b j)))
         (λ m. let zl : z < gateCount b = below z (groupOf-below (gathered b) k z m) in
-        rw (r .newOfOld z zl) at (map-member place (numberAt order z) (groupOf b j) (group-old z zl (groupOf-same (gathered b) k z m))))
+        rw (r .newOfOld z zl) at (map-member place (numberAt order z) (groupOf b j)
+        (group-old z zl (groupOf-same (gathered b) k z m))))
         (λ m. let (y, n, e) = member-map place z (groupOf b j) m in
         let yl : y < gateCount b = groupOf-below b j y n in
         groupOf-member (gathered b) k z
@@ -232,7 +249,8 @@ module _ (b : Block) (fits : isWellFormed b ≡ true) where
   built-gathered : {gs : List (List ℕ)} → Built b gs → Built (gathered b) (map (map place) gs)
   built-gathered none = none
   built-gathered (next {gs} w h) =
-      let is : groupOf (gathered b) (nextGate (gathered b) (joined (map (map place) gs))) ≡ map place (groupOf b (nextGate b (joined gs))) =
+      let is : groupOf (gathered b) (nextGate (gathered b) (joined (map (map place) gs)))
+      ≡ map place (groupOf b (nextGate b (joined gs))) =
       ap (groupOf (gathered b)) (next-is gs w h) ∙ group-is gs w h in
       rw (map-append (map place) gs (groupOf b (nextGate b (joined gs)) ∷ []))
       (rw is at (next (built-gathered w) (rw (next-is gs w h, gathered-count b fits) (inside gs w h))))
@@ -242,17 +260,20 @@ module _ (b : Block) (fits : isWellFormed b ≡ true) where
   places-all t l =
       rw (joined-map place (groups b))
       (rw (r .newOfOld t (below t l)) at
-      (map-member place (numberAt order t) (joined (groups b)) (member-from (numberAt order t) (joined (groups b)) t (rw (r .lengthIs) (below t l)) refl)))
+      (map-member place (numberAt order t) (joined (groups b))
+      (member-from (numberAt order t) (joined (groups b)) t (rw (r .lengthIs) (below t l)) refl)))
 
-  -- the same groups in the same order, renumbered
+  -- the groups of the gathered block are the block's groups in their order, renumbered
   pub gathered-groups : groups (gathered b) ≡ map (map (placeIn (gatheredOrder b))) (groups b)
   gathered-groups =
-      sym (built-groups (gathered b) (built-gathered (rw (take-length (groups b)) at (groups-built b (length (groups b))))) places-all)
+      sym (built-groups (gathered b)
+      (built-gathered (rw (take-length (groups b)) at (groups-built b (length (groups b))))) places-all)
 
   places-in-order : map place order ≡ upTo (gateCount b)
   unfolding numberAt
   places-in-order =
-      ext-getD 0 (map place order) (upTo (gateCount b)) (length-map order place ∙ r .lengthIs ∙ sym (length-tab (λ k. k) (gateCount b)))
+      ext-getD 0 (map place order) (upTo (gateCount b))
+      (length-map order place ∙ r .lengthIs ∙ sym (length-tab (λ k. k) (gateCount b)))
       (λ t l. let l′ : t < length order = rw (length-map order place) at l in
       let l″ : t < gateCount b = rw (← r .lengthIs) l′ in
       getD-map place order t 0 0 l′ ∙ r .newOfOld t l″ ∙ sym (getD-tab (λ k. k) (gateCount b) t 0 l″))
@@ -263,6 +284,6 @@ module _ (b : Block) (fits : isWellFormed b ≡ true) where
   gathered-order-again =
       ap joined gathered-groups ∙ joined-map place (groups b) ∙ places-in-order ∙ ap upTo (sym (gathered-count b fits))
 
-  -- and the block stays
+  -- gathering a gathered block changes nothing
   pub gathered-again : gathered (gathered b) ≡ gathered b
   gathered-again = ordered-gathered (gathered b) (gathered-wellFormed b fits) gathered-order-again

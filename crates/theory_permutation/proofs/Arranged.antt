@@ -1,4 +1,5 @@
--- A block with its gates in another order, gate by gate and node by node: its counts, its gates, that it is well-formed, and that it is undone.
+-- A block with its gates in another order, gate by gate and node by node: its counts, its gates, that it is
+-- well-formed, and that it is undone.
 --   arranged-*              its counts, its gate t
 --   renumbered-*            operands renumbered twice, or not at all
 --   arranged-ext            only the numbers of gates that are there matter
@@ -42,7 +43,8 @@ module _ (b : Block) (f g : ℕ → ℕ) (agree : Agree (gateCount b) f g) where
   unfolding renumberedGate
   gate-agree a h =
       rw (map-same (renumbered f) (renumbered g) (a .operands) (constant false)
-      (λ i l. operand-agree (getD (a .operands) i (constant false)) (all-at (isOperand b) (a .operands) i (constant false) (fits-operands b a h) l)))
+      (λ i l. operand-agree (getD (a .operands) i (constant false))
+      (all-at (isOperand b) (a .operands) i (constant false) (fits-operands b a h) l)))
       refl
 
   output-agree : (o : Output) → isNode b (o .node) ≡ true → renumberedOutput f o ≡ renumberedOutput g o
@@ -77,7 +79,8 @@ gate-kept : (a : Gate) → renumberedGate (λ j. j) a ≡ a
 unfolding renumberedGate
 gate-kept a =
     ap (λ (os : List Operand). record { kind = a .kind; operands = os })
-    (map-same (renumbered (λ j. j)) (λ o. o) (a .operands) (constant false) (λ i l. operand-kept (getD (a .operands) i (constant false)))
+    (map-same (renumbered (λ j. j)) (λ o. o) (a .operands) (constant false)
+    (λ i l. operand-kept (getD (a .operands) i (constant false)))
     ∙ map-id (a .operands))
 
 output-kept : (o : Output) → renumberedOutput (λ j. j) o ≡ o
@@ -106,7 +109,8 @@ module _ (order : List ℕ) (number : ℕ → ℕ) (b : Block) where
   unfolding arranged
   arranged-outputCount = length-map (b .outputs) (renumberedOutput number)
 
-  pub arranged-gate : (t : ℕ) → t < length order → gateOf (arranged order number b) t ≡ renumberedGate number (gateOf b (numberAt order t))
+  pub arranged-gate : (t : ℕ) → t < length order
+      → gateOf (arranged order number b) t ≡ renumberedGate number (gateOf b (numberAt order t))
   unfolding arranged numberAt
   arranged-gate t l = getD-map (λ j. renumberedGate number (gateOf b j)) order t 0 _ l
 
@@ -115,17 +119,22 @@ module _ (order : List ℕ) (number : ℕ → ℕ) (b : Block) where
   unfolding arranged
   arranged-output o d e l = getD-map (renumberedOutput number) (b .outputs) o e d l
 
-  pub arranged-ports : map (λ (o : Output). o .port) (arranged order number b .outputs) ≡ map (λ (o : Output). o .port) (b .outputs)
+  pub arranged-ports : map (λ (o : Output). o .port) (arranged order number b .outputs)
+      ≡ map (λ (o : Output). o .port) (b .outputs)
   unfolding arranged renumberedOutput
   arranged-ports = map-map (λ (o : Output). o .port) (renumberedOutput number) (b .outputs)
 
 -- a block is its parts, gate by gate and output by output
-same-parts : (c b : Block) → c .inputs ≡ b .inputs → c .nevers ≡ b .nevers → c .gates ≡ b .gates → c .outputs ≡ b .outputs → c ≡ b
+same-parts : (c b : Block) → c .inputs ≡ b .inputs → c .nevers ≡ b .nevers → c .gates ≡ b .gates
+    → c .outputs ≡ b .outputs → c ≡ b
 same-parts c b ei en eg eo =
-    let parts : record { inputs = c .inputs; nevers = c .nevers; gates = c .gates; outputs = c .outputs } ≡ b = rw (ei, en, eg, eo) refl in parts
+    let parts : record { inputs = c .inputs; nevers = c .nevers; gates = c .gates; outputs = c .outputs } ≡ b =
+    rw (ei, en, eg, eo) refl in parts
 
-same-block : (c b : Block) → c .inputs ≡ b .inputs → c .nevers ≡ b .nevers → gateCount c ≡ gateCount b → outputCount c ≡ outputCount b
-    → ((j : ℕ) → j < gateCount b → gateOf c j ≡ gateOf b j) → ((o : ℕ) → o < outputCount b → getD (c .outputs) o noOutput ≡ getD (b .outputs) o noOutput)
+same-block : (c b : Block) → c .inputs ≡ b .inputs → c .nevers ≡ b .nevers → gateCount c ≡ gateCount b
+    → outputCount c ≡ outputCount b
+    → ((j : ℕ) → j < gateCount b → gateOf c j ≡ gateOf b j)
+    → ((o : ℕ) → o < outputCount b → getD (c .outputs) o noOutput ≡ getD (b .outputs) o noOutput)
     → c ≡ b
 same-block c b ei en count outputs gates shown =
     same-parts c b ei en (ext-getD _ (c .gates) (b .gates) count (λ i l. gates i (rw (← count) l)))
@@ -136,12 +145,14 @@ module _ (b : Block) (fits : isWellFormed b ≡ true) where
   node-there o l = wellFormed-output b fits o noOutput l
 
   -- only the numbers of gates that are there matter
-  pub arranged-ext : (order : List ℕ) (f g : ℕ → ℕ) → ((t : ℕ) → t < length order → numberAt order t < gateCount b) → Agree (gateCount b) f g
+  pub arranged-ext : (order : List ℕ) (f g : ℕ → ℕ) → ((t : ℕ) → t < length order → numberAt order t < gateCount b)
+      → Agree (gateCount b) f g
       → arranged order f b ≡ arranged order g b
   arranged-ext order f g below agree =
       same-block (arranged order f b) (arranged order g b) (arranged-inputs order f b ∙ sym (arranged-inputs order g b))
       (arranged-nevers order f b ∙ sym (arranged-nevers order g b))
-      (arranged-count order f b ∙ sym (arranged-count order g b)) (arranged-outputCount order f b ∙ sym (arranged-outputCount order g b))
+      (arranged-count order f b ∙ sym (arranged-count order g b))
+      (arranged-outputCount order f b ∙ sym (arranged-outputCount order g b))
       (λ t l. let l′ : t < length order = rw (arranged-count order g b) at l in
       arranged-gate order f b t l′
       ∙ gate-agree b f g agree (gateOf b (numberAt order t)) (wellFormed-gate b fits (numberAt order t) (below t l′))
@@ -160,7 +171,8 @@ module _ (b : Block) (fits : isWellFormed b ≡ true) where
       (arranged-count order number b ∙ long) (arranged-outputCount order number b)
       (λ t l.
       arranged-gate order number b t (rw long l)
-      ∙ rw (old t l) (gate-agree b number (λ j. j) new (gateOf b t) (wellFormed-gate b fits t l) ∙ gate-kept (gateOf b t)))
+      ∙ rw (old t l) (gate-agree b number (λ j. j) new (gateOf b t) (wellFormed-gate b fits t l)
+      ∙ gate-kept (gateOf b t)))
       (λ o l.
       arranged-output order number b o noOutput noOutput l
       ∙ output-agree b number (λ j. j) new (getD (b .outputs) o noOutput) (node-there o l)
@@ -169,14 +181,16 @@ module _ (b : Block) (fits : isWellFormed b ≡ true) where
   module _ (order : List ℕ) (number : ℕ → ℕ) (r : Renumbers (gateCount b) order number) where
     -- ---- undone
 
-    module _ (order′ : List ℕ) (number′ : ℕ → ℕ) (long : length order′ ≡ gateCount b) (places : Agree (gateCount b) (numberAt order′) number)
+    module _ (order′ : List ℕ) (number′ : ℕ → ℕ) (long : length order′ ≡ gateCount b)
+        (places : Agree (gateCount b) (numberAt order′) number)
         (undone : Agree (gateCount b) (λ j. number′ (number j)) (λ j. j)) where
       -- arranged the other way round, it is the block, every part of it
       pub arranged-back : arranged order′ number′ (arranged order number b) ≡ b
       arranged-back =
           same-block (arranged order′ number′ c) b (arranged-inputs order′ number′ c ∙ arranged-inputs order number b)
           (arranged-nevers order′ number′ c ∙ arranged-nevers order number b)
-          (arranged-count order′ number′ c ∙ long) (arranged-outputCount order′ number′ c ∙ arranged-outputCount order number b) gate-back output-back
+          (arranged-count order′ number′ c ∙ long)
+          (arranged-outputCount order′ number′ c ∙ arranged-outputCount order number b) gate-back output-back
         where
           c : Block
           c = arranged order number b
@@ -185,12 +199,15 @@ module _ (b : Block) (fits : isWellFormed b ≡ true) where
           gate-back j l =
               arranged-gate order′ number′ c j (rw long l)
               ∙ ap (λ (i : ℕ). renumberedGate number′ (gateOf c i)) (places j l)
-              ∙ ap (renumberedGate number′) (arranged-gate order number b (number j) (rw (r .lengthIs) (r .newBelow j l)))
+              ∙ ap (renumberedGate number′)
+              (arranged-gate order number b (number j) (rw (r .lengthIs) (r .newBelow j l)))
               ∙ gate-twice number′ number (gateOf b (numberAt order (number j)))
               ∙ rw (r .oldOfNew j l)
-              (gate-agree b (λ j. number′ (number j)) (λ j. j) undone (gateOf b j) (wellFormed-gate b fits j l) ∙ gate-kept (gateOf b j))
+              (gate-agree b (λ j. number′ (number j)) (λ j. j) undone (gateOf b j) (wellFormed-gate b fits j l)
+              ∙ gate-kept (gateOf b j))
 
-          output-back : (o : ℕ) → o < outputCount b → getD (arranged order′ number′ c .outputs) o noOutput ≡ getD (b .outputs) o noOutput
+          output-back : (o : ℕ) → o < outputCount b
+              → getD (arranged order′ number′ c .outputs) o noOutput ≡ getD (b .outputs) o noOutput
           output-back o l =
               arranged-output order′ number′ c o noOutput noOutput (rw (arranged-outputCount order number b) l)
               ∙ ap (renumberedOutput number′) (arranged-output order number b o noOutput noOutput l)
@@ -209,7 +226,8 @@ module _ (b : Block) (fits : isWellFormed b ≡ true) where
     node-fits (gate j) h = rw same-count (lt-ltb (number j) (gateCount b) (r .newBelow j (ltb-true j (gateCount b) h)))
     node-fits (constant c) h = h
 
-    operand-fits : (o : Operand) → isOperand b o ≡ true → isOperand (arranged order number b) (renumbered number o) ≡ true
+    operand-fits : (o : Operand) → isOperand b o ≡ true
+        → isOperand (arranged order number b) (renumbered number o) ≡ true
     unfolding isOperand renumbered
     operand-fits (input i) h = node-fits (input i) h
     operand-fits (gate j) h = node-fits (gate j) h
@@ -222,18 +240,22 @@ module _ (b : Block) (fits : isWellFormed b ≡ true) where
         (rw (length-map (a .operands) (renumbered number)) (fits-arity b a h))
         (all-map (isOperand (arranged order number b)) (renumbered number) (a .operands)
         ∙ all-from (λ o. isOperand (arranged order number b) (renumbered number o)) (a .operands) (constant false)
-        (λ i l. operand-fits (getD (a .operands) i (constant false)) (all-at (isOperand b) (a .operands) i (constant false) (fits-operands b a h) l)))
+        (λ i l. operand-fits (getD (a .operands) i (constant false))
+        (all-at (isOperand b) (a .operands) i (constant false) (fits-operands b a h) l)))
 
-    output-fits : (o : Output) → isNode b (o .node) ≡ true → isNode (arranged order number b) (renumberedOutput number o .node) ≡ true
+    output-fits : (o : Output) → isNode b (o .node) ≡ true
+        → isNode (arranged order number b) (renumberedOutput number o .node) ≡ true
     unfolding renumberedOutput
     output-fits o h = node-fits (o .node) h
 
     pub arranged-wellFormed : isWellFormed (arranged order number b) ≡ true
     arranged-wellFormed =
-        wellFormed-interface b (arranged order number b) fits (arranged-inputs order number b) (arranged-nevers order number b) (arranged-ports order number b)
+        wellFormed-interface b (arranged order number b) fits (arranged-inputs order number b)
+        (arranged-nevers order number b) (arranged-ports order number b)
         (rw same-count (wellFormed-parts b fits .fewGates))
         (λ t l. let l′ : t < gateCount b = rw same-count at l in
         rw (arranged-gate order number b t (rw (r .lengthIs) l′))
         (gate-fits (gateOf b (numberAt order t)) (wellFormed-gate b fits (numberAt order t) (r .oldBelow t l′))))
         (λ o d l. let l′ : o < outputCount b = rw (arranged-outputCount order number b) at l in
-        rw (arranged-output order number b o d noOutput l′) (output-fits (getD (b .outputs) o noOutput) (node-there o l′)))
+        rw (arranged-output order number b o d noOutput l′)
+        (output-fits (getD (b .outputs) o noOutput) (node-there o l′)))

@@ -1,8 +1,9 @@
--- Gather and Scatter (SPECIFICATION 7.17, 7.18): the laws of arranged gates, for the order by groups and for any list that is each number once.
---   out, back, by-group                                  a list that is each gate number once, both ways, and the list by groups
---   gathered-permutation                                 which is each gate number once
+-- Gather and Scatter (SPECIFICATION 7.17, 7.18): the laws of arranged gates, for the order by groups and for any list
+-- that is each number once.
+--   out, back, by-group                                  a permutation of the gates, both ways, and the list by groups
+--   gathered-permutation                                 the list by groups is a permutation
 --   gathered-back, scattered-out                         each undoes the other, every part of the block
---   gathered-wellFormed, scattered-wellFormed            what is made is a block
+--   gathered-wellFormed                                  what is made is a block
 --   gathered-settled, gathered-rounds, scattered-settled the settled values move with their gates
 --   gathered-outputs                                     the outputs show the same under every setting
 --   gathered-sameGroup                                   the groups are the same sets
@@ -27,13 +28,15 @@ use Rattle.netlist.specs.StoredBlock.{isWellFormed}
 use Rattle.netlist.specs.Rounds.{rounds, settled, outputsUnder}
 use Rattle.netlist.specs.Groups.{groups, sameGroup}
 use Rattle.netlist.specs.Rendering.{isStraight}
-use Rattle.netlist.specs.Gather.{arranged, numberAt, placeIn, gatheredOrder, gathered, isPermutation, inverse, scattered}
+use Rattle.netlist.specs.Gather.{arranged, numberAt, placeIn, gatheredOrder, gathered, isPermutation, inverse}
+use Rattle.netlist.specs.Gather.{scattered}
 use Rattle.theory_reach.proofs.Inside.{wellFormed-inside}
 use Rattle.theory_reach.proofs.Order.{groups-all, length-joined-groups}
 use Rattle.theory_reach.proofs.Straight.{straight-groups}
 use Rattle.theory_permutation.specs.Renumbering.{Renumbers}
 use Rattle.theory_permutation.proofs.Permutation.{place-renumbers, inverse-at, inverse-renumbers}
-use Rattle.theory_permutation.proofs.Arranged.{arranged-count, arranged-back, arranged-itself, arranged-wellFormed}
+use Rattle.theory_permutation.proofs.Arranged.{arranged-count, arranged-back, arranged-itself}
+use Rattle.theory_permutation.proofs.Arranged.{arranged-wellFormed}
 use Rattle.theory_permutation.proofs.Values.{settled-at, rounds-kept, outputs-kept}
 use Rattle.theory_permutation.proofs.Groups.{sameGroup-kept}
 use borrow.Author.Tests.{eq-eqb}
@@ -43,7 +46,8 @@ use lib.Dec.{eqb}
 joined-ones : (m : ℕ) → joined (tab (λ j. j ∷ []) m) ≡ upTo m
 joined-ones m =
     ap joined
-    (tab-ext (λ j. j ∷ []) (λ j. tab (λ i. 1 * j + i) 1) m (λ j l. let e : j ≡ 1 * j + 0 = omega arith in ap (λ (k : ℕ). k ∷ []) e))
+    (tab-ext (λ j. j ∷ []) (λ j. tab (λ i. 1 * j + i) 1) m
+    (λ j l. let e : j ≡ 1 * j + 0 = omega arith in ap (λ (k : ℕ). k ∷ []) e))
     ∙ joined-tab (λ k. k) 1 m
     ∙ ap upTo (one-mul m)
 
@@ -61,17 +65,15 @@ module _ (b : Block) (fits : isWellFormed b ≡ true) where
     pub permuted-back : scattered order (arranged order (placeIn order) b) ≡ b
     unfolding scattered
     permuted-back =
-        arranged-back b fits order (placeIn order) out (inverse order) (numberAt order) (back .lengthIs) (inverse-at (gateCount b) order h) (out .oldOfNew)
+        arranged-back b fits order (placeIn order) out (inverse order) (numberAt order) (back .lengthIs)
+        (inverse-at (gateCount b) order h) (out .oldOfNew)
 
-    -- and so is out after back
+    -- gathering by the list what was scattered by it gives the block back
     pub scattered-out : arranged order (placeIn order) (scattered order b) ≡ b
     unfolding scattered
     scattered-out =
-        arranged-back b fits (inverse order) (numberAt order) back order (placeIn order) (out .lengthIs) (λ j l. refl) (out .newOfOld)
-
-    pub scattered-wellFormed : isWellFormed (scattered order b) ≡ true
-    unfolding scattered
-    scattered-wellFormed = arranged-wellFormed b fits (inverse order) (numberAt order) back
+        arranged-back b fits (inverse order) (numberAt order) back order (placeIn order) (out .lengthIs) (λ j l. refl)
+        (out .newOfOld)
 
     -- gate t's settled value moves to number t of the list
     pub scattered-settled : (x : List Value) (t : ℕ) → t < gateCount b
@@ -126,7 +128,8 @@ module _ (b : Block) (fits : isWellFormed b ≡ true) where
   pub gathered-sameGroup : (t u : ℕ) → t < gateCount b → u < gateCount b
       → sameGroup (gathered b) t u ≡ sameGroup b (numberAt (gatheredOrder b) t) (numberAt (gatheredOrder b) u)
   unfolding gathered
-  gathered-sameGroup = sameGroup-kept b (wellFormed-inside b fits) (gatheredOrder b) (placeIn (gatheredOrder b)) by-group
+  gathered-sameGroup =
+      sameGroup-kept b (wellFormed-inside b fits) (gatheredOrder b) (placeIn (gatheredOrder b)) by-group
 
   -- ---- gates that are in order
 

@@ -1,4 +1,5 @@
--- Groups in a block with its gates in another order: a gate reads, reaches and shares a group as it did under its old number.
+-- Groups in a block with its gates in another order: a gate reads, reaches and shares a group as it did under its old
+-- number.
 --   readBy-moved, reads-kept   what a gate reads
 --   path-kept, path-back       chains of reads, both ways
 --   reaches-kept, sameGroup-kept
@@ -27,13 +28,15 @@ operand-gates number (input i) = refl
 operand-gates number (gate j) = refl
 operand-gates number (constant c) = refl
 
-gates-renumbered : (number : ℕ → ℕ) (os : List Operand) → joined (map gateOperand (map (renumbered number) os)) ≡ map number (joined (map gateOperand os))
+gates-renumbered : (number : ℕ → ℕ) (os : List Operand)
+    → joined (map gateOperand (map (renumbered number) os)) ≡ map number (joined (map gateOperand os))
 gates-renumbered number [] = refl
 gates-renumbered number (o ∷ os) =
     ap₂ {C = List ℕ} (λ (xs ys : List ℕ). xs ++ ys) (operand-gates number o) (gates-renumbered number os)
     ∙ sym (map-append number (gateOperand o) (joined (map gateOperand os)))
 
-pub member-map : (f : ℕ → ℕ) (x : ℕ) (xs : List ℕ) → member x (map f xs) ≡ true → (y : ℕ) × (member y xs ≡ true) × (x ≡ f y)
+pub member-map : (f : ℕ → ℕ) (x : ℕ) (xs : List ℕ) → member x (map f xs) ≡ true
+    → (y : ℕ) × (member y xs ≡ true) × (x ≡ f y)
 member-map f x xs h =
     let (i, l, e) = member-at x (map f xs) h in
     let l′ : i < length xs = rw (length-map xs f) at l in
@@ -44,7 +47,8 @@ map-member f y xs h =
     let (i, l, e) = member-at y xs h in
     member-from (f y) (map f xs) i (rw (length-map xs f) l) (getD-map f xs i 0 0 l ∙ ap f e)
 
-module _ (b : Block) (inside : Inside b) (order : List ℕ) (number : ℕ → ℕ) (r : Renumbers (gateCount b) order number) where
+module _ (b : Block) (inside : Inside b) (order : List ℕ) (number : ℕ → ℕ)
+    (r : Renumbers (gateCount b) order number) where
   abbrev c : Block
   c = arranged order number b
 
@@ -52,7 +56,8 @@ module _ (b : Block) (inside : Inside b) (order : List ℕ) (number : ℕ → �
   readBy-moved : (t : ℕ) → t < gateCount b → readBy c t ≡ map number (readBy b (numberAt order t))
   unfolding readBy renumberedGate
   readBy-moved t l =
-      rw (arranged-gate order number b t (rw (r .lengthIs) l)) (gates-renumbered number (gateOf b (numberAt order t) .operands))
+      rw (arranged-gate order number b t (rw (r .lengthIs) l))
+      (gates-renumbered number (gateOf b (numberAt order t) .operands))
 
   below-kept : (t : ℕ) → t < gateCount c → t < gateCount b
   below-kept t l = rw (arranged-count order number b, r .lengthIs) at l
@@ -66,7 +71,7 @@ module _ (b : Block) (inside : Inside b) (order : List ℕ) (number : ℕ → �
       let there : numberAt order u ≡ k = ap (numberAt order) e ∙ r .oldOfNew k (inside (numberAt order t) k m) in
       rw there m
 
-  -- and back
+  -- a read of the block is one of the renumbered block
   reads-new : (i k : ℕ) → reads b i k ≡ true → reads c (number i) (number k) ≡ true
   unfolding reads
   reads-new i k h =
@@ -81,7 +86,8 @@ module _ (b : Block) (inside : Inside b) (order : List ℕ) (number : ℕ → �
   path-new stay = stay
   path-new (step {i} {j} h p) = step (reads-new i j h) (path-new p)
 
-  pub reaches-kept : (t u : ℕ) → t < gateCount b → u < gateCount b → reaches c t u ≡ reaches b (numberAt order t) (numberAt order u)
+  pub reaches-kept : (t u : ℕ) → t < gateCount b → u < gateCount b
+      → reaches c t u ≡ reaches b (numberAt order t) (numberAt order u)
   reaches-kept t u l k =
       same-test (reaches c t u) (reaches b (numberAt order t) (numberAt order u))
       (λ h. path-reaches b (numberAt order t) (numberAt order u) (r .oldBelow u k) (path-old (reaches-path c t u h)))
@@ -89,6 +95,7 @@ module _ (b : Block) (inside : Inside b) (order : List ℕ) (number : ℕ → �
       (rw (r .newOfOld t l, r .newOfOld u k) at (path-new (reaches-path b (numberAt order t) (numberAt order u) h))))
 
   -- the groups are the same sets
-  pub sameGroup-kept : (t u : ℕ) → t < gateCount b → u < gateCount b → sameGroup c t u ≡ sameGroup b (numberAt order t) (numberAt order u)
+  pub sameGroup-kept : (t u : ℕ) → t < gateCount b → u < gateCount b
+      → sameGroup c t u ≡ sameGroup b (numberAt order t) (numberAt order u)
   unfolding sameGroup
   sameGroup-kept t u l k = ap₂ _&&_ (reaches-kept t u l k) (reaches-kept u t k l)

@@ -30,7 +30,8 @@ once-from : (xs : List ℕ) → ((t u : ℕ) → t < length xs → u < length xs
 once-from [] h = tt
 once-from (x ∷ xs) h = (
   not-true-false (member x xs)
-      (λ m. let (i, l, e) = member-at x xs m in let z : _≡_ {A = ℕ} 0 (suc i) = h 0 (suc i) (omega arith) (omega arith) (sym e) in omega arith),
+      (λ m. let (i, l, e) = member-at x xs m in
+      let z : _≡_ {A = ℕ} 0 (suc i) = h 0 (suc i) (omega arith) (omega arith) (sym e) in omega arith),
   once-from xs (λ t u l k e. let z : suc t ≡ suc u = h (suc t) (suc u) (omega arith) (omega arith) e in omega arith),
 )
 
@@ -40,17 +41,20 @@ abbrev holds : List ℕ → ℕ → Bool
 holds xs k = member k xs
 
 -- a number more counts for none where it is there already, or is not below n,
-count-again : (x : ℕ) (xs : List ℕ) (n : ℕ) → (member x xs ≡ true) ⊎ (n ≤ x) → countBelow (holds (x ∷ xs)) n ≡ countBelow (holds xs) n
+count-again : (x : ℕ) (xs : List ℕ) (n : ℕ) → (member x xs ≡ true) ⊎ (n ≤ x)
+    → countBelow (holds (x ∷ xs)) n ≡ countBelow (holds xs) n
 count-again x xs n h =
     countBelow-ext (holds (x ∷ xs)) (holds xs) n
-    (λ k l. same-test (member k (x ∷ xs)) (member k xs) (λ m. ⊎-elim (λ e. again k l e h) (λ e. e) (member-first k x xs m)) (λ m. member-rest k x xs m))
+    (λ k l. same-test (member k (x ∷ xs)) (member k xs)
+    (λ m. ⊎-elim (λ e. again k l e h) (λ e. e) (member-first k x xs m)) (λ m. member-rest k x xs m))
   where
     again : (k : ℕ) → k < n → k ≡ x → (member x xs ≡ true) ⊎ (n ≤ x) → member k xs ≡ true
     again k l e (inl m) = rw e m
     again k l e (inr c) = absurd (omega arith)
 
--- and else for one
-count-new : (x : ℕ) (xs : List ℕ) (n : ℕ) → member x xs ≡ false → x < n → countBelow (holds (x ∷ xs)) n ≡ suc (countBelow (holds xs) n)
+-- a number that is not in the list yet counts for one more
+count-new : (x : ℕ) (xs : List ℕ) (n : ℕ) → member x xs ≡ false → x < n
+    → countBelow (holds (x ∷ xs)) n ≡ suc (countBelow (holds xs) n)
 count-new x xs n m l =
     countBelow-one (holds xs) (holds (x ∷ xs)) n x l m (member-head x xs) (λ k d. rw (ne-eqb k x d) refl)
 
@@ -76,12 +80,14 @@ count-few (x ∷ xs) n = go (next-of x xs n) (count-few xs n)
     go (again e) r = omega arith
     go (new m l e) r = omega arith
 
--- so where as many are there as the list is long, none stands twice and all are below n
-count-all : (xs : List ℕ) (n : ℕ) → length xs ≤ countBelow (holds xs) n → Once xs × ((y : ℕ) → member y xs ≡ true → y < n)
+-- where a list holds as many numbers below n as it is long, none stands twice and all are below n
+count-all : (xs : List ℕ) (n : ℕ) → length xs ≤ countBelow (holds xs) n
+    → Once xs × ((y : ℕ) → member y xs ≡ true → y < n)
 count-all [] n h = (tt, λ y m. absurd (false≢true m))
 count-all (x ∷ xs) n h = go (next-of x xs n) (count-few xs n) (count-all xs n)
   where
-    go : Next x xs n → countBelow (holds xs) n ≤ length xs → (length xs ≤ countBelow (holds xs) n → Once xs × ((y : ℕ) → member y xs ≡ true → y < n))
+    go : Next x xs n → countBelow (holds xs) n ≤ length xs
+        → (length xs ≤ countBelow (holds xs) n → Once xs × ((y : ℕ) → member y xs ≡ true → y < n))
         → Once (x ∷ xs) × ((y : ℕ) → member y (x ∷ xs) ≡ true → y < n)
     go (again e) few r = absurd (omega arith)
     go (new m l e) few r =
@@ -97,7 +103,8 @@ module _ (m : ℕ) (order : List ℕ) where
   permutation-each h =
       let long : length order ≡ m = eqb-true (length order) m (and-left (eqb (length order) m) _ h) in
       let full = all-below (λ j. member j order) m in
-      let counts : countBelow (holds order) m ≡ m = countBelow-all (holds order) m (λ k l. full k (and-right (eqb (length order) m) _ h) l) in
+      let counts : countBelow (holds order) m ≡ m =
+      countBelow-all (holds order) m (λ k l. full k (and-right (eqb (length order) m) _ h) l) in
       let (once, below) = count-all order m (omega arith) in
       record {
         lengthIs = long;
@@ -105,13 +112,14 @@ module _ (m : ℕ) (order : List ℕ) where
         apart = λ t u l k e. once-getD order once t u (omega arith) (omega arith) e;
       }
 
-  -- and each number once passes
+  -- a list that is each number below m once passes the test
   pub each-permutation : EachOnce m order → isPermutation m order ≡ true
   unfolding isPermutation numberAt
   each-permutation e =
       let long : length order ≡ m = e .lengthIs in
       let once : Once order = once-from order (λ t u l k. e .apart t u (omega arith) (omega arith)) in
-      let below : (x : ℕ) → member x order ≡ true → x < m = λ x h. let (i, l, is) = member-at x order h in rw is at (e .below i (omega arith)) in
+      let below : (x : ℕ) → member x order ≡ true → x < m = λ x h. let (i, l, is) =
+      member-at x order h in rw is at (e .below i (omega arith)) in
       let counts : length order ≡ countBelow (holds order) m = once-length order m once below in
       and-intro (eqb (length order) m) _ (eq-eqb (length order) m long)
       (below-all (λ j. member j order) m (countBelow-full (holds order) m (omega arith)))
@@ -124,9 +132,11 @@ module _ (m : ℕ) (order : List ℕ) where
     unfolding isPermutation placeIn numberAt
     place-at j l =
         let long : length order ≡ m = permutation-each h .lengthIs in
-        let (i, k, is) = member-at j order (all-below (λ j. member j order) m j (and-right (eqb (length order) m) _ h) l) in
+        let (i, k, is) =
+        member-at j order (all-below (λ j. member j order) m j (and-right (eqb (length order) m) _ h) l) in
         let stands : (t : ℕ) → Bool = λ t. eqb (getD order t 0) j in
-        let first : least stands (length order) ≤ i = least-at-most stands (length order) i (eq-eqb (getD order i 0) j is) in
+        let first : least stands (length order) ≤ i =
+        least-at-most stands (length order) i (eq-eqb (getD order i 0) j is) in
         (omega arith, eqb-true _ j (least-at stands (length order) (omega arith)))
 
     pub place-renumbers : Renumbers m order (placeIn order)
@@ -137,7 +147,8 @@ module _ (m : ℕ) (order : List ℕ) where
           oldBelow = e .below;
           newBelow = λ j l. place-at j l .0;
           oldOfNew = λ j l. place-at j l .1;
-          newOfOld = λ t l. let p = place-at (numberAt order t) (e .below t l) in e .apart (placeIn order (numberAt order t)) t (p .0) l (p .1);
+          newOfOld = λ t l. let p = place-at (numberAt order t) (e .below t l) in
+              e .apart (placeIn order (numberAt order t)) t (p .0) l (p .1);
         }
 
     pub inverse-at : (j : ℕ) → j < m → numberAt (inverse order) j ≡ placeIn order j

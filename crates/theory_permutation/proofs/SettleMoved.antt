@@ -1,5 +1,5 @@
--- Settle on gathered words (specs/Moved.antt): what is gathered is a block with the same inputs, and its settled values are the moved ones, after as many
--- rounds. Assumes nothing.
+-- Settle on gathered words (specs/Moved.antt): what is gathered is a block with the same inputs, and its settled values
+-- are the moved ones, after as many rounds. Assumes nothing.
 use Prim.Native.Nat.{ℕ}
 use mathlib.Core.Path.{_≡_, refl, sym, ap, _∙_}
 use mathlib.Core.Bool.{Bool, true, false}
@@ -30,7 +30,8 @@ code-at vs j = List·getD-map code vs j undefined
 
 moved-codes : (order : List ℕ) (vs : List Value) → map code (moved order vs) ≡ map (λ j. getD (map code vs) j 2) order
 unfolding moved
-moved-codes order vs = map-map code (λ j. getD vs j undefined) order ∙ map-same _ _ order 0 (λ i l. sym (code-at vs (getD order i 0)))
+moved-codes order vs = map-map code (λ j. getD vs j undefined) order
+    ∙ map-same _ _ order 0 (λ i l. sym (code-at vs (getD order i 0)))
 
 -- a refusal stays one, and a result of as many values as are listed has the same room
 list-answer : (order values : List ℕ) (count room : ℕ) (bad : Bool) → length values ≡ length order
@@ -38,9 +39,11 @@ list-answer : (order values : List ℕ) (count room : ℕ) (bad : Bool) → leng
     ≡ inListOrder order (inRoom room (refuseIf bad BadSetting (done values count 0)))
 unfolding inRoom refuseIf inListOrder
 list-answer order values count room true e = refl
-list-answer order values count room false e = rw (length-map order (λ j. getD values j 2), e) (go (ltb room (length order)))
+list-answer order values count room false e =
+    rw (length-map order (λ j. getD values j 2), e) (go (ltb room (length order)))
   where
-    go : (b : Bool) → refuseIf b NoRoom (done (map (λ j. getD values j 2) order) count 0) ≡ inListOrder order (refuseIf b NoRoom (done values count 0))
+    go : (b : Bool) → refuseIf b NoRoom (done (map (λ j. getD values j 2) order) count 0)
+        ≡ inListOrder order (refuseIf b NoRoom (done values count 0))
     go true = refl
     go false = refl
 

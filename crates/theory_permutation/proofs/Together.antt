@@ -1,4 +1,5 @@
--- The gates of a group lie side by side in the gathered block, ascending by their old numbers, and the groups stand in their order.
+-- The gates of a group lie side by side in the gathered block, ascending by their old numbers, and the groups stand in
+-- their order.
 --   Pair, pair-of          where two places of lists put one after the other lie
 --   gathered-in-order      a later gate is of no earlier group
 --   gathered-together      what lies between two gates of a group is of that group
@@ -52,14 +53,16 @@ getD-later x ys t l =
 pair-of : (xs : List (List ℕ)) (t u : ℕ) → t ≤ u → u < length (joined xs) → Pair xs t u
 pair-of [] t u l k = absurd (omega arith)
 pair-of (x ∷ xs) t u l k =
-    ⊎-elim here′ (λ late. ⊎-elim (λ early. across early late (pair-of xs (u - length x) (u - length x) (omega arith) (omega (arith, whole))))
-    (λ later. there later (pair-of xs (t - length x) (u - length x) (omega arith) (omega (arith, whole)))) (lt-or-le t (length x)))
+    ⊎-elim here′ (λ late. ⊎-elim
+    (λ early. across early late (pair-of xs (u - length x) (u - length x) (omega arith) (omega (arith, whole))))
+    (λ later. there later (pair-of xs (t - length x) (u - length x) (omega arith) (omega (arith, whole))))
+    (lt-or-le t (length x)))
     (lt-or-le u (length x))
   where
     whole : length (joined (x ∷ xs)) ≡ length x + length (joined xs)
     whole = length-append x (joined xs)
 
-    -- both in the first list
+    -- both places are in the first list
     here′ : u < length x → Pair (x ∷ xs) t u
     here′ c =
         record {
@@ -91,7 +94,7 @@ pair-of (x ∷ xs) t u l k =
           secondIs = getD-later x (joined xs) u d ∙ p .secondIs;
         }
 
-    -- and neither
+    -- neither place is in the first list
     there : length x ≤ t → Pair xs (t - length x) (u - length x) → Pair (x ∷ xs) t u
     there c p =
         record {
@@ -123,7 +126,8 @@ module _ (b : Block) (fits : isWellFormed b ≡ true) where
   pair-at : (t u : ℕ) → t ≤ u → u < gateCount b → Pair (groups b) t u
   pair-at t u l k = pair-of (groups b) t u l (rw (length-joined-groups b inside) k)
 
-  number-of : (x g i : ℕ) → i < length (getD (groups b) g []) → x ≡ getD (getD (groups b) g []) i 0 → groupNumber b x ≡ g
+  number-of : (x g i : ℕ) → i < length (getD (groups b) g []) → x ≡ getD (getD (groups b) g []) i 0
+      → groupNumber b x ≡ g
   number-of x g i l e = groupNumber-is b x g (member-from x (getD (groups b) g []) i l (sym e))
 
   first-group : (t u : ℕ) (p : Pair (groups b) t u) → groupAt t ≡ p .g
@@ -140,18 +144,23 @@ module _ (b : Block) (fits : isWellFormed b ≡ true) where
       let p = pair-at t u l k in
       omega (arith, first-group t u p, second-group t u p, p .lists)
 
-  same-number : (t u : ℕ) → t < gateCount b → u < gateCount b → sameGroup (gathered b) t u ≡ true → groupAt t ≡ groupAt u
+  same-number : (t u : ℕ) → t < gateCount b → u < gateCount b → sameGroup (gathered b) t u ≡ true
+      → groupAt t ≡ groupAt u
   same-number t u l k h =
-      groupNumber-same b inside (numberAt (gatheredOrder b) t) (numberAt (gatheredOrder b) u) (sym (gathered-sameGroup b fits t u l k) ∙ h)
+      groupNumber-same b inside (numberAt (gatheredOrder b) t) (numberAt (gatheredOrder b) u)
+      (sym (gathered-sameGroup b fits t u l k) ∙ h)
 
   -- what lies between two gates of a group is of that group
-  pub gathered-together : (t u v : ℕ) → t ≤ u → u ≤ v → v < gateCount b → sameGroup (gathered b) t v ≡ true → sameGroup (gathered b) t u ≡ true
+  pub gathered-together : (t u v : ℕ) → t ≤ u → u ≤ v → v < gateCount b → sameGroup (gathered b) t v ≡ true
+      → sameGroup (gathered b) t u ≡ true
   gathered-together t u v l k c h =
       let t-below : t < gateCount b = omega arith in
       let u-below : u < gateCount b = omega arith in
-      let equal : groupAt t ≡ groupAt u = omega (arith, same-number t v t-below c h, gathered-in-order t u l u-below, gathered-in-order u v k c) in
+      let equal : groupAt t ≡ groupAt u =
+      omega (arith, same-number t v t-below c h, gathered-in-order t u l u-below, gathered-in-order u v k c) in
       gathered-sameGroup b fits t u t-below u-below
-      ∙ same-groupNumber b inside (numberAt (gatheredOrder b) t) (numberAt (gatheredOrder b) u) (old-below t t-below) (old-below u u-below) equal
+      ∙ same-groupNumber b inside (numberAt (gatheredOrder b) t) (numberAt (gatheredOrder b) u) (old-below t t-below)
+      (old-below u u-below) equal
 
   -- of two gates of a group the later has the higher old number
   pub gathered-ascending : (t u : ℕ) → t < u → u < gateCount b → sameGroup (gathered b) t u ≡ true
@@ -159,7 +168,8 @@ module _ (b : Block) (fits : isWellFormed b ≡ true) where
   unfolding gatheredOrder numberAt
   gathered-ascending t u l k h =
       let p = pair-at t u (omega arith) k in
-      let same : p .g ≡ p .h = omega (arith, first-group t u p, second-group t u p, same-number t u (omega arith) k h) in
+      let same : p .g ≡ p .h =
+      omega (arith, first-group t u p, second-group t u p, same-number t u (omega arith) k h) in
       let en = groups-entry b (p .h) (second-there p) in
       let rises : Ascending (getD (groups b) (p .h) []) = rw (en .2) (groupOf-ascending b (en .0)) in
       let second : getD (joined (groups b)) u 0 ≡ getD (getD (groups b) (p .h) []) (p .j) 0 = p .secondIs in
@@ -168,4 +178,5 @@ module _ (b : Block) (fits : isWellFormed b ≡ true) where
     where
       second-there : (p : Pair (groups b) t u) → p .h < length (groups b)
       second-there p =
-          entry-below (getD (getD (groups b) (p .h) []) (p .j) 0) (groups b) (p .h) (member-from _ (getD (groups b) (p .h) []) (p .j) (p .second) refl)
+          entry-below (getD (getD (groups b) (p .h) []) (p .j) 0) (groups b) (p .h)
+          (member-from _ (getD (groups b) (p .h) []) (p .j) (p .second) refl)

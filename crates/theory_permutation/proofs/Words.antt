@@ -1,10 +1,10 @@
--- Gather and Scatter on stored words: what is written is a block, back after out gives every word, and Verdict and Cover answer the same. The
--- operations are those of netlist/specs.
---   gathered-whole, scattered-whole         what is made is not torn
+-- Gather and Scatter on stored words: what is written is a block, back after out gives every word, and Verdict and
+-- Cover answer the same. The operations are those of netlist/specs.
+--   gathered-whole, scattered-whole         what is made is not malformed
 --   gathered-length, scattered-length       it has as many words; gathered-listed: the list has a word for each gate
 --   gathered-verdict, scattered-verdict     Verdict of it is that of the words
 --   gathered-coverOf, scattered-coverOf     and so is Cover
---   gather-scatter                          Scatter of what Gather leaves in its two slices gives the words that were gathered
+--   gather-scatter                          Scatter of what Gather leaves in its slices gives the words back
 --   straight-words                          a straight block keeps its words
 -- Assumes nothing.
 use Prim.Native.Nat.{ℕ, _+_, _*_, _≤_}
@@ -19,19 +19,30 @@ use Rattle.netlist.specs.Rendering.{isStraight}
 use Rattle.netlist.specs.Cover.{coverEntries}
 use Rattle.netlist.specs.Answers.{done, refuseIf, inRoom}
 use Rattle.netlist.specs.Operations.{counted, verdict, coverBlock, coverOf}
-use Rattle.netlist.specs.Gather.{arranged, gatheredOrder, gathered, gatheredWords, isPermutation, inverse, numberAt, placeIn, scattered, scatter}
+use Rattle.netlist.specs.Gather.{arranged, gatheredOrder, gathered, gatheredWords, isPermutation, inverse, numberAt}
+use Rattle.netlist.specs.Gather.{placeIn, scattered, scatter}
 use Rattle.theory_encoding.proofs.Encoded.{length-encode}
 use Rattle.theory_encoding.proofs.RoundTrip.{decode-encode, whole-encode, whole-wellFormed, encode-whole}
 use Rattle.theory_permutation.specs.Renumbering.{Renumbers}
-use Rattle.theory_permutation.proofs.Arranged.{arranged-wellFormed, arranged-inputs, arranged-nevers, arranged-count, arranged-outputCount}
+use Rattle.theory_permutation.proofs.Arranged.{arranged-wellFormed, arranged-inputs, arranged-nevers}
+use Rattle.theory_permutation.proofs.Arranged.{arranged-count, arranged-outputCount}
 use Rattle.theory_permutation.proofs.Values.{settledSettings-kept, lowestUnsettled-kept, cover-kept}
-use Rattle.theory_permutation.proofs.Gathered.{back, by-group, gathered-permutation, gathered-count, gathered-back, straight-gathered}
+use Rattle.theory_permutation.proofs.Gathered.{back, by-group, gathered-permutation, gathered-count}
+use Rattle.theory_permutation.proofs.Gathered.{gathered-back, straight-gathered}
 
 -- a block of the same counts has as many words
-pub arranged-length : (order : List ℕ) (number : ℕ → ℕ) (b : Block) → length order ≡ gateCount b → length (encode (arranged order number b)) ≡ length (encode b)
+pub arranged-length : (order : List ℕ) (number : ℕ → ℕ) (b : Block) → length order ≡ gateCount b
+    → length (encode (arranged order number b)) ≡ length (encode b)
 arranged-length order number b long =
-    rw (length-encode (arranged order number b), length-encode b, arranged-count order number b, long, arranged-outputCount order number b)
-    (ap₂ (λ (n l : ℕ). outputsAt n l (gateCount b) + outputSize * outputCount b) (ap {B = ℕ} length (arranged-inputs order number b))
+    rw (
+      length-encode (arranged order number b),
+      length-encode b,
+      arranged-count order number b,
+      long,
+      arranged-outputCount order number b,
+    )
+    (ap₂ (λ (n l : ℕ). outputsAt n l (gateCount b) + outputSize * outputCount b)
+    (ap {B = ℕ} length (arranged-inputs order number b))
     (ap {B = ℕ} length (arranged-nevers order number b)))
 
 module _ (ws : List ℕ) (whole : isMalformed ws ≡ false) where
@@ -45,7 +56,8 @@ module _ (ws : List ℕ) (whole : isMalformed ws ≡ false) where
     made-whole = encode-whole (arranged order number (decode ws)) (arranged-wellFormed (decode ws) fits order number r)
 
     made-decode : decode (encode (arranged order number (decode ws))) ≡ arranged order number (decode ws)
-    made-decode = decode-encode (arranged order number (decode ws)) (arranged-wellFormed (decode ws) fits order number r)
+    made-decode =
+        decode-encode (arranged order number (decode ws)) (arranged-wellFormed (decode ws) fits order number r)
 
     made-length : length (encode (arranged order number (decode ws))) ≡ length ws
     made-length = arranged-length order number (decode ws) (r .lengthIs) ∙ ap {B = ℕ} length (whole-encode ws whole)
@@ -102,7 +114,8 @@ module _ (ws : List ℕ) (whole : isMalformed ws ≡ false) where
   -- ---- back
 
   -- Scatter of the gathered words and their list gives the words themselves, all of them
-  pub gather-scatter : (room : ℕ) → length ws ≤ room → scatter (gatheredWords (decode ws)) (gatheredOrder (decode ws)) room ≡ done ws (length ws) 0
+  pub gather-scatter : (room : ℕ) → length ws ≤ room
+      → scatter (gatheredWords (decode ws)) (gatheredOrder (decode ws)) room ≡ done ws (length ws) 0
   unfolding scatter refuseIf inRoom counted
   gather-scatter room l =
       rw (

@@ -10,7 +10,7 @@ use Rattle.netlist.specs.Answers.{Outcome, done, refused}
 use Rattle.netlist.specs.Operations.{settle}
 use Rattle.netlist.specs.Gather.{gatheredOrder, gatheredWords}
 
--- the same outcome with its result's elements in the order of a list of places
+-- an outcome whose result's elements are permuted by a list of places; a refusal stays as it is
 unfoldable pub inListOrder : List ℕ → Outcome → Outcome
 inListOrder order (done values count detail) = done (map (λ j. getD values j 2) order) count detail
 inListOrder order (refused r) = refused r
@@ -19,4 +19,5 @@ inListOrder order (refused r) = refused r
 -- legal or not, and every slice
 abbrev pub SettleMoves : List ℕ → Type 0
 SettleMoves ws =
-    (setting : List ℕ) (room : ℕ) → settle (gatheredWords (decode ws)) setting room ≡ inListOrder (gatheredOrder (decode ws)) (settle ws setting room)
+    (setting : List ℕ) (room : ℕ) → settle (gatheredWords (decode ws)) setting room
+    ≡ inListOrder (gatheredOrder (decode ws)) (settle ws setting room)

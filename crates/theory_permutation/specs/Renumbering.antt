@@ -1,5 +1,4 @@
--- Lists of numbers that are each number below m once, and the two ways of such a list: from places to numbers and back.
--- Assumes nothing.
+-- Permutations of the numbers below m, as lists, and their inverses: from places to numbers and back. Assumes nothing.
 use Prim.Native.Nat.{ℕ, _<_}
 use mathlib.Core.Path.{_≡_}
 use mathlib.Core.List.{List}

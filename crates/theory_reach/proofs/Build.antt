@@ -1,9 +1,8 @@
--- A list of groups built one by one, each time the group of the lowest gate that may be next, is the first part of `groups`,
--- and is `groups` once every gate is in it. The code of Groups cites it.
+-- A list of groups built one by one, each time the group of the lowest gate that may be next, is the first part of
+-- `groups`, and is `groups` once every gate is in it. The code of Groups cites it.
 --   built-numbered, built-count   what is built is a numbered list, and no longer than its gates
 --   built-groups                  once it holds every gate it is `groups`
 --   groups-built, groups-at       each first part of `groups` is so built, and entry t is the next gate's group
---   built-groupNumber             a built list gives the numbers that `groups` gives
 -- Assumes nothing.
 use Prim.Native.Nat.{ℕ, zero, suc, _-_, _≤_, _<_}
 use mathlib.Core.Path.{_≡_, refl, sym, ap, _∙_}
@@ -11,33 +10,20 @@ use mathlib.Core.Logic.{_⊎_, inl, inr}
 use mathlib.Core.Bool.{true}
 use mathlib.Core.List.{List, [], _∷_, _++_, append-assoc, append-nil}
 use native.Mathlib.Omega.{arith}
-use lib.ListN.{length, getD, take, length-append, List·getD-append}
+use lib.ListN.{length, getD, take, length-append}
 use lib.Seq.{take-nil, getD-at, length-take-le}
 use Rattle.prelude.specs.Lists.{joined, member, countBelow}
 use Rattle.prelude.proofs.Tests.{not-both, lt-or-le}
 use Rattle.prelude.proofs.Lists.{joined-snoc}
 use Rattle.prelude.proofs.Counting.{countBelow-le}
 use Rattle.netlist.specs.Netlist.{Block, gateCount}
-use Rattle.netlist.specs.Groups.{groupOf, mayBeNext, groupsAfter, groups, groupNumber}
+use Rattle.netlist.specs.Groups.{groupOf, groupsAfter, groups}
 use Rattle.theory_reach.specs.Numbering.{Numbered, nextGate, Built, none, next}
-use Rattle.theory_reach.proofs.ListFacts.{entry-below, least-at-most}
-use Rattle.theory_reach.proofs.SameGroup.{groupOf-same, groupOf-equal}
-use Rattle.theory_reach.proofs.Next.{mayBeNext-left, mayBeNext-ready, mayBeNext-intro, next-new, numbered-none, numbered-next, next-counts}
+use Rattle.theory_reach.proofs.Next.{mayBeNext-left, numbered-none}
+use Rattle.theory_reach.proofs.Next.{numbered-next, next-counts}
 use Rattle.theory_reach.proofs.Order.{nextGate-passes, groupsAfter-elim, groupsAfter-found, groupsAfter-none}
-use Rattle.theory_reach.proofs.GroupNumber.{groupNumber-is}
 
 module _ (b : Block) where
-  -- the next gate is the lowest of its group
-  pub nextGate-lowest : (done : List ℕ) → Numbered b done → nextGate b done < gateCount b → (k : ℕ) → member k (groupOf b (nextGate b done)) ≡ true
-      → nextGate b done ≤ k
-  nextGate-lowest done n h k m =
-      let p = nextGate-passes b done h in
-      let e = groupOf-equal b (nextGate b done) k (groupOf-same b (nextGate b done) k m) in
-      least-at-most (mayBeNext b done) (gateCount b) k
-      (mayBeNext-intro b done k
-      (next-new b done n (nextGate b done) k (mayBeNext-left b done (nextGate b done) p) m)
-      (rw e at (mayBeNext-ready b done (nextGate b done) p)))
-
   -- the gates of a built list are whole groups, each gate once, and all that they read
   pub built-numbered : {gs : List (List ℕ)} → Built b gs → Numbered b (joined gs)
   built-numbered none = numbered-none b
@@ -63,7 +49,8 @@ module _ (b : Block) where
       omega arith
 
   -- what is built is the first part of the list, and the rule gives the rest
-  pub built-rest : {gs : List (List ℕ)} → Built b gs → groups b ≡ gs ++ groupsAfter b (gateCount b - length gs) (joined gs)
+  pub built-rest : {gs : List (List ℕ)} → Built b gs
+      → groups b ≡ gs ++ groupsAfter b (gateCount b - length gs) (joined gs)
   unfolding groups
   built-rest none = let e : gateCount b ≡ gateCount b - 0 = omega arith in ap (λ (n : ℕ). groupsAfter b n []) e
   built-rest (next {gs} r h) =
@@ -86,22 +73,18 @@ module _ (b : Block) where
       ∙ append-nil gs)
 
   -- where every gate is in it, the list is built
-  pub built-groups : {gs : List (List ℕ)} → Built b gs → ((j : ℕ) → j < gateCount b → member j (joined gs) ≡ true) → gs ≡ groups b
+  pub built-groups : {gs : List (List ℕ)} → Built b gs → ((j : ℕ) → j < gateCount b → member j (joined gs) ≡ true)
+      → gs ≡ groups b
   built-groups {gs} r all = built-end r (go (lt-or-le (nextGate b (joined gs)) (gateCount b)))
     where
-      go : (nextGate b (joined gs) < gateCount b) ⊎ (gateCount b ≤ nextGate b (joined gs)) → gateCount b ≤ nextGate b (joined gs)
+      go : (nextGate b (joined gs) < gateCount b) ⊎ (gateCount b ≤ nextGate b (joined gs))
+          → gateCount b ≤ nextGate b (joined gs)
       go (inl l) =
           (not-both (all (nextGate b (joined gs)) l) (mayBeNext-left b (joined gs) _ (nextGate-passes b (joined gs) l)))
       go (inr l) = l
 
-  -- the numbers of the groups built so far are final
-  pub built-groupNumber : {gs : List (List ℕ)} → Built b gs → (j g : ℕ) → member j (getD gs g []) ≡ true → groupNumber b j ≡ g
-  built-groupNumber {gs} r j g m =
-      let rest = groupsAfter b (gateCount b - length gs) (joined gs) in
-      let e = List·getD-append gs rest [] g (entry-below j gs g m) in
-      groupNumber-is b j g (rw (built-rest r, e) m)
-
-  after-built : (more : ℕ) (done : List ℕ) (t : ℕ) (gs : List (List ℕ)) → joined gs ≡ done → Built b gs → Built b (gs ++ take t (groupsAfter b more done))
+  after-built : (more : ℕ) (done : List ℕ) (t : ℕ) (gs : List (List ℕ)) → joined gs ≡ done → Built b gs
+      → Built b (gs ++ take t (groupsAfter b more done))
   after-built =
       groupsAfter-elim b
       (λ more done rest. (t : ℕ) (gs : List (List ℕ)) → joined gs ≡ done → Built b gs → Built b (gs ++ take t rest))
@@ -111,8 +94,11 @@ module _ (b : Block) where
     where
       go : (more : ℕ) (done : List ℕ) → nextGate b done < gateCount b
           → ((t : ℕ) (gs : List (List ℕ)) → joined gs ≡ done ++ groupOf b (nextGate b done) → Built b gs
-          → Built b (gs ++ take t (groupsAfter b more (done ++ groupOf b (nextGate b done))))) → (t : ℕ) (gs : List (List ℕ)) → joined gs ≡ done
-          → Built b gs → Built b (gs ++ take t (groupOf b (nextGate b done) ∷ groupsAfter b more (done ++ groupOf b (nextGate b done))))
+          → Built b (gs ++ take t (groupsAfter b more (done ++ groupOf b (nextGate b done)))))
+          → (t : ℕ) (gs : List (List ℕ)) → joined gs ≡ done
+          → Built b gs
+          → Built b (gs
+          ++ take t (groupOf b (nextGate b done) ∷ groupsAfter b more (done ++ groupOf b (nextGate b done))))
       go more done l f zero gs e r = rw (append-nil gs) r
       go more done l f (suc t) gs e r =
           let g = groupOf b (nextGate b done) in
@@ -130,14 +116,19 @@ module _ (b : Block) where
       × (getD (groups b) t [] ≡ groupOf b (nextGate b (joined (take t (groups b)))))
   groups-at t h = go (lt-or-le (nextGate b (joined (take t (groups b)))) (gateCount b))
     where
-      go : (nextGate b (joined (take t (groups b))) < gateCount b) ⊎ (gateCount b ≤ nextGate b (joined (take t (groups b))))
-          → (nextGate b (joined (take t (groups b))) < gateCount b) × (getD (groups b) t [] ≡ groupOf b (nextGate b (joined (take t (groups b)))))
+      go : (nextGate b (joined (take t (groups b))) < gateCount b)
+          ⊎ (gateCount b ≤ nextGate b (joined (take t (groups b))))
+          → (nextGate b (joined (take t (groups b))) < gateCount b)
+          × (getD (groups b) t [] ≡ groupOf b (nextGate b (joined (take t (groups b)))))
       go (inl l) =
           let gs = take t (groups b) in
           let g = groupOf b (nextGate b (joined gs)) in
           let rest = groupsAfter b (gateCount b - length (gs ++ (g ∷ []))) (joined (gs ++ (g ∷ []))) in
-          let whole = built-rest (next (groups-built t) l) ∙ append-assoc gs (g ∷ []) rest in
-          (l, ap (λ (x : List (List ℕ)). getD x t []) whole ∙ getD-at gs g rest [] t (length-take-le t (groups b) (omega arith)))
+          let whole = built-rest (next (groups-built t) l) ∙ append-assoc gs (g ∷ []) rest in (
+            l,
+            ap (λ (x : List (List ℕ)). getD x t []) whole
+                ∙ getD-at gs g rest [] t (length-take-le t (groups b) (omega arith)),
+          )
       go (inr l) =
           let gs = take t (groups b) in
           let same = ap length (built-end (groups-built t) l) in

@@ -14,7 +14,8 @@ use Rattle.prelude.proofs.Counting.{countBelow-one}
 use Rattle.theory_reach.specs.Orders.{Once}
 
 -- a list without repeats is as long as its numbers are many
-pub once-length : (xs : List ℕ) (n : ℕ) → Once xs → ((x : ℕ) → member x xs ≡ true → x < n) → length xs ≡ countBelow (λ k. member k xs) n
+pub once-length : (xs : List ℕ) (n : ℕ) → Once xs → ((x : ℕ) → member x xs ≡ true → x < n)
+    → length xs ≡ countBelow (λ k. member k xs) n
 once-length [] n a f = sym (none n)
   where
     none : (n : ℕ) → countBelow (λ k. false) n ≡ 0

@@ -2,7 +2,7 @@
 --   groupNumber-is, groupNumber-member       a gate's number is the place of the group that holds it
 --   groupNumber-same, same-groupNumber       two gates have one number exactly when they share a group
 --   groupNumber-reads, groupNumber-path      a gate reads, and reaches, no higher number
---   length-groupNumbers, getD-groupNumbers   the list of all numbers
+--   getD-groupNumbers                        the list of all numbers
 -- Assumes nothing.
 use Prim.Native.Nat.{ℕ, _≤_, _<_}
 use mathlib.Core.Path.{_≡_, sym, ap, _∙_}
@@ -12,7 +12,7 @@ use native.Mathlib.Omega.{arith}
 use lib.ListN.{length, getD}
 use Rattle.prelude.specs.Lists.{member, least}
 use Rattle.prelude.proofs.Least.{least-at}
-use Rattle.prelude.proofs.Tab.{length-tab, getD-tab}
+use Rattle.prelude.proofs.Tab.{getD-tab}
 use Rattle.netlist.specs.Netlist.{Block, gateCount}
 use Rattle.netlist.specs.Groups.{reads, OperandPath, stay, step, sameGroup, groupOf, groups, groupNumber, groupNumbers}
 use Rattle.theory_reach.specs.Inside.{Inside}
@@ -43,7 +43,7 @@ module _ (b : Block) where
       let w = groups-some b inside j h in
       rw (groupNumber-is j (w .0) (w .2)) (w .2)
 
-  -- and is its group
+  -- the group at a gate's number is the gate's group
   pub groupNumber-group : Inside b → (j : ℕ) → j < gateCount b → getD (groups b) (groupNumber b j) [] ≡ groupOf b j
   groupNumber-group inside j h = groups-group b j (groupNumber b j) (groupNumber-member inside j h)
 
@@ -53,11 +53,13 @@ module _ (b : Block) where
       let e = groupNumber-group inside i (sameGroup-below b j i (sameGroup-sym b i j h)) in
       sym (groupNumber-is j (groupNumber b i) (rw e (groupOf-member b i j h)))
 
-  -- and only they
-  pub same-groupNumber : Inside b → (i j : ℕ) → i < gateCount b → j < gateCount b → groupNumber b i ≡ groupNumber b j → sameGroup b i j ≡ true
+  -- gates with one number are in one group
+  pub same-groupNumber : Inside b → (i j : ℕ) → i < gateCount b → j < gateCount b → groupNumber b i ≡ groupNumber b j
+      → sameGroup b i j ≡ true
   same-groupNumber inside i j hi hj e =
       groupOf-same b i j
-      (rw (ap (λ (g : ℕ). getD (groups b) g []) (sym e) ∙ groupNumber-group inside i hi) at (groupNumber-member inside j hj))
+      (rw (ap (λ (g : ℕ). getD (groups b) g []) (sym e)
+      ∙ groupNumber-group inside i hi) at (groupNumber-member inside j hj))
 
   -- a gate reads gates of its own and of earlier groups
   pub groupNumber-reads : Inside b → (i k : ℕ) → reads b i k ≡ true → groupNumber b k ≤ groupNumber b i
@@ -67,18 +69,13 @@ module _ (b : Block) where
       let l = w .1 in
       omega arith
 
-  -- and so it reaches them only
+  -- a gate reaches only gates whose number is not higher
   pub groupNumber-path : Inside b → {i k : ℕ} → OperandPath b i k → groupNumber b k ≤ groupNumber b i
   groupNumber-path inside stay = omega arith
   groupNumber-path inside (step {i} {j} {k} r p) =
       let u = groupNumber-reads inside i j r in
       let v = groupNumber-path inside p in
       omega arith
-
-  -- a number for each gate
-  pub length-groupNumbers : length (groupNumbers b) ≡ gateCount b
-  unfolding groupNumbers
-  length-groupNumbers = length-tab _ (gateCount b)
 
   -- the j-th is gate j's
   pub getD-groupNumbers : (j d : ℕ) → j < gateCount b → getD (groupNumbers b) j d ≡ groupNumber b j

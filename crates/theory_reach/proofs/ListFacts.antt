@@ -32,7 +32,7 @@ all-member p (y ∷ xs) h x m =
     (λ e. all-member p xs (and-right (p y) _ h) x e)
     (or-cases _ _ m)
 
--- and one that passes at each passes at all
+-- a test that passes at each element passes at all
 pub all-intro : (p : ℕ → Bool) (xs : List ℕ) → ((x : ℕ) → member x xs ≡ true → p x ≡ true) → all p xs ≡ true
 all-intro p [] f = refl
 all-intro p (y ∷ xs) f =
@@ -43,7 +43,8 @@ pub all-fails : (p : ℕ → Bool) (xs : List ℕ) → all p xs ≡ false → (x
 all-fails p [] h = absurd (true≢false h)
 all-fails p (y ∷ xs) h = go (p y) refl h (all-fails p xs)
   where
-    go : (t : Bool) → p y ≡ t → (t && all p xs) ≡ false → (all p xs ≡ false → (x : ℕ) × (member x xs ≡ true) × (p x ≡ false))
+    go : (t : Bool) → p y ≡ t → (t && all p xs) ≡ false
+        → (all p xs ≡ false → (x : ℕ) × (member x xs ≡ true) × (p x ≡ false))
         → (x : ℕ) × (member x (y ∷ xs) ≡ true) × (p x ≡ false)
     go true e k f = let r = f k in (r .0, or-right (eqb (r .0) y) _ (r .1), r .2)
     go false e k f = (y, member-head y xs, e)
@@ -61,7 +62,7 @@ member-upTo k (suc n) h = go (lt-or-le k n) (member-upTo k n)
         let s : k ≡ n = omega arith in
         member-right k (upTo n) _ (rw s (member-head n []))
 
--- and nothing else is
+-- every number in 0, .., n - 1 is below n
 pub upTo-below : (k n : ℕ) → member k (upTo n) ≡ true → k < n
 upTo-below k zero h = absurd (false≢true h)
 upTo-below k (suc n) h =
@@ -101,7 +102,8 @@ keep-one p (suc n) j h e f = keep-append p (upTo n) (n ∷ []) ∙ go (lt-or-le 
         rw (r u, z) refl
     go (inr u) r =
         let s : n ≡ j = omega arith in
-        let z : keep p (upTo n) ≡ [] = keep-none p (upTo n) (λ x m. not-true-false _ (λ t. let w = f x t in let v = upTo-below x n m in omega arith)) in
+        let z : keep p (upTo n) ≡ [] = keep-none p (upTo n)
+        (λ x m. not-true-false _ (λ t. let w = f x t in let v = upTo-below x n m in omega arith)) in
         rw (z, s, e) refl
 
 -- what passes of 0 .. n - 1 stands in order
@@ -146,10 +148,12 @@ ascending-once [] a = tt
 ascending-once (x ∷ xs) a = (not-true-false _ (λ m. let l = a .0 x m in omega arith), ascending-once xs (a .1))
 
 -- nor in one list after the other that shares none with it
-pub once-append : (xs ys : List ℕ) → Once xs → Once ys → ((x : ℕ) → member x xs ≡ true → member x ys ≡ false) → Once (xs ++ ys)
+pub once-append : (xs ys : List ℕ) → Once xs → Once ys → ((x : ℕ) → member x xs ≡ true → member x ys ≡ false)
+    → Once (xs ++ ys)
 once-append [] ys a b f = b
 once-append (x ∷ xs) ys a b f = (
-  not-true-false _ (λ m. ⊎-elim (λ e. not-both e (a .0)) (λ e. not-both e (f x (member-head x xs))) (member-cases x xs ys m)),
+  not-true-false _
+      (λ m. ⊎-elim (λ e. not-both e (a .0)) (λ e. not-both e (f x (member-head x xs))) (member-cases x xs ys m)),
   once-append xs ys (a .1) b (λ y m. f y (or-right (eqb y x) _ m)),
 )
 
@@ -173,12 +177,14 @@ entry-below x [] g h = absurd (false≢true h)
 entry-below x (y ∷ xs) zero h = omega arith
 entry-below x (y ∷ xs) (suc g) h = let r = entry-below x xs g h in omega arith
 
--- and what is in them joined is in one
-pub joined-member : (x : ℕ) (xs : List (List ℕ)) → member x (joined xs) ≡ true → (g : ℕ) × (g < length xs) × (member x (getD xs g []) ≡ true)
+-- an element of lists joined is an element of one of them
+pub joined-member : (x : ℕ) (xs : List (List ℕ)) → member x (joined xs) ≡ true
+    → (g : ℕ) × (g < length xs) × (member x (getD xs g []) ≡ true)
 joined-member x [] h = absurd (false≢true h)
 joined-member x (y ∷ xs) h = go (member-cases x y (joined xs) h) (joined-member x xs)
   where
-    go : (member x y ≡ true) ⊎ (member x (joined xs) ≡ true) → (member x (joined xs) ≡ true → (g : ℕ) × (g < length xs) × (member x (getD xs g []) ≡ true))
+    go : (member x y ≡ true) ⊎ (member x (joined xs) ≡ true)
+        → (member x (joined xs) ≡ true → (g : ℕ) × (g < length xs) × (member x (getD xs g []) ≡ true))
         → (g : ℕ) × (g < length (y ∷ xs)) × (member x (getD (y ∷ xs) g []) ≡ true)
     go (inl e) f = (0, omega arith, e)
     go (inr e) f = let r = f e in (suc (r .0), (let l = r .1 in omega arith), r .2)
@@ -188,7 +194,7 @@ pub once-right : (xs ys : List ℕ) → Once (xs ++ ys) → Once ys
 once-right [] ys h = h
 once-right (x ∷ xs) ys h = once-right xs ys (h .1)
 
--- and what is before is not behind
+-- where none stands twice in two lists joined, no element is in both
 pub once-apart : (xs ys : List ℕ) → Once (xs ++ ys) → (x : ℕ) → member x xs ≡ true → member x ys ≡ true → ⊥
 once-apart [] ys h x m n = true≢false (sym m)
 once-apart (y ∷ xs) ys h x m n =
@@ -198,7 +204,8 @@ once-apart (y ∷ xs) ys h x m n =
     (or-cases _ _ m)
 
 -- where no number stands twice, each is in one of the lists
-pub once-joined : (xs : List (List ℕ)) → Once (joined xs) → (x g h : ℕ) → member x (getD xs g []) ≡ true → member x (getD xs h []) ≡ true → g ≡ h
+pub once-joined : (xs : List (List ℕ)) → Once (joined xs) → (x g h : ℕ) → member x (getD xs g []) ≡ true
+    → member x (getD xs h []) ≡ true → g ≡ h
 once-joined [] o x g h m n = absurd (false≢true m)
 once-joined (y ∷ xs) o x zero zero m n = refl
 once-joined (y ∷ xs) o x zero (suc h) m n = absurd (once-apart y (joined xs) o x m (member-joined x xs h n))
@@ -208,7 +215,8 @@ once-joined (y ∷ xs) o x (suc g) (suc h) m n = ap suc (once-joined xs (once-ri
 -- ---- images and sums
 
 -- two functions that agree on a list's elements have one image
-pub map-same : {A B : Type 0} (f g : A → B) (xs : List A) (d : A) → ((i : ℕ) → i < length xs → f (getD xs i d) ≡ g (getD xs i d)) → map f xs ≡ map g xs
+pub map-same : {A B : Type 0} (f g : A → B) (xs : List A) (d : A)
+    → ((i : ℕ) → i < length xs → f (getD xs i d) ≡ g (getD xs i d)) → map f xs ≡ map g xs
 map-same f g [] d h = refl
 map-same f g (x ∷ xs) d h = rw (h 0 (omega arith), map-same f g xs d (λ i l. h (suc i) (omega arith)))
 

@@ -1,5 +1,5 @@
--- Which group may be numbered next, that there is one while a gate is left, and that numbering it keeps what is numbered closed.
--- The order of the groups and the code of Groups cite it.
+-- Which group may be numbered next, that there is one while a gate is left, and that numbering it keeps what is
+-- numbered closed. The order of the groups and the code of Groups cite it.
 --   ready-reads, ready-intro     a gate is ready: all that its group reads has a number or is in it
 --   mayBeNext-*                  what may be next, taken apart and put together
 --   some-next, none-left         while a gate has no number some gate may be next
@@ -13,7 +13,8 @@ use mathlib.Core.List.{List, [], _++_}
 use native.Mathlib.Omega.{arith}
 use borrow.Author.Tests.{not-true}
 use Rattle.prelude.specs.Lists.{all, member, least, countBelow}
-use Rattle.prelude.proofs.Tests.{bool-cases, not-both, and-intro, and-left, and-right, or-left, or-right, or-cases, not-true-false, or-neither}
+use Rattle.prelude.proofs.Tests.{bool-cases, not-both, and-intro, and-left, and-right, or-left, or-right, or-cases}
+use Rattle.prelude.proofs.Tests.{not-true-false, or-neither}
 use Rattle.prelude.proofs.Lists.{member-left, member-right, member-cases}
 use Rattle.prelude.proofs.Counting.{countBelow-less}
 use Rattle.netlist.specs.Netlist.{Block, gateCount}
@@ -22,22 +23,26 @@ use Rattle.theory_reach.specs.Inside.{Inside}
 use Rattle.theory_reach.specs.Numbering.{Numbered}
 use Rattle.theory_reach.proofs.ListFacts.{all-member, all-intro, all-fails, once-append, least-at-most}
 use Rattle.theory_reach.proofs.Reach.{reaches-refl, reaches-trans, reaches-below, reaches-reads}
-use Rattle.theory_reach.proofs.SameGroup.{sameGroup-sym, sameGroup-trans, groupOf-member, groupOf-same, groupOf-below, groupOf-self, groupOf-once}
+use Rattle.theory_reach.proofs.SameGroup.{sameGroup-sym, sameGroup-trans, groupOf-member, groupOf-same}
+use Rattle.theory_reach.proofs.SameGroup.{groupOf-below, groupOf-self, groupOf-once}
 
 module _ (b : Block) where
   -- a ready group reads itself and what is numbered
-  pub ready-reads : (done group : List ℕ) → isReady b done group ≡ true → (i k : ℕ) → member i group ≡ true → reads b i k ≡ true
+  pub ready-reads : (done group : List ℕ) → isReady b done group ≡ true → (i k : ℕ) → member i group ≡ true
+      → reads b i k ≡ true
       → (member k group ≡ true) ⊎ (member k done ≡ true)
   unfolding isReady reads
   ready-reads done group h i k m r =
       or-cases _ _ (all-member (λ k. member k group || member k done) (readBy b i) (all-member _ group h i m) k r)
 
-  -- and a group that does is ready
-  pub ready-intro : (done group : List ℕ) → ((i k : ℕ) → member i group ≡ true → reads b i k ≡ true → (member k group ≡ true) ⊎ (member k done ≡ true))
+  -- a group is ready if all that it reads is in it or done
+  pub ready-intro : (done group : List ℕ)
+      → ((i k : ℕ) → member i group ≡ true → reads b i k ≡ true → (member k group ≡ true) ⊎ (member k done ≡ true))
       → isReady b done group ≡ true
   unfolding isReady reads
   ready-intro done group f =
-      all-intro _ group λ i m. all-intro _ (readBy b i) λ k r. ⊎-elim (or-left _ _) (or-right (member k group) _) (f i k m r)
+      all-intro _ group λ i m. all-intro _ (readBy b i) λ k r. ⊎-elim (or-left _ _) (or-right (member k group) _)
+      (f i k m r)
 
   -- a group that is not ready reads a gate that is neither its own nor numbered
   ready-fails : (done group : List ℕ) → isReady b done group ≡ false
@@ -50,7 +55,8 @@ module _ (b : Block) where
       (r .0, s .0, r .1, s .1, e .0, e .1)
 
   -- a gate may be next when it is not numbered and its group is ready
-  pub mayBeNext-intro : (done : List ℕ) (j : ℕ) → member j done ≡ false → isReady b done (groupOf b j) ≡ true → mayBeNext b done j ≡ true
+  pub mayBeNext-intro : (done : List ℕ) (j : ℕ) → member j done ≡ false → isReady b done (groupOf b j) ≡ true
+      → mayBeNext b done j ≡ true
   unfolding mayBeNext
   mayBeNext-intro done j e h = and-intro _ _ (ap not e) h
 
@@ -59,40 +65,46 @@ module _ (b : Block) where
   unfolding mayBeNext
   mayBeNext-left done j h = not-true _ (and-left _ _ h)
 
-  -- and its group is ready
+  -- the group of a gate that may be next is ready
   pub mayBeNext-ready : (done : List ℕ) (j : ℕ) → mayBeNext b done j ≡ true → isReady b done (groupOf b j) ≡ true
   unfolding mayBeNext
   mayBeNext-ready done j h = and-right (not (member j done)) _ h
 
-  -- it matters only which gates are numbered
-  pub mayBeNext-same : (done done′ : List ℕ) → ((k : ℕ) → member k done ≡ member k done′) → mayBeNext b done ≡ mayBeNext b done′
+  -- whether a gate may be next depends only on which gates are numbered
+  pub mayBeNext-same : (done done′ : List ℕ) → ((k : ℕ) → member k done ≡ member k done′)
+      → mayBeNext b done ≡ mayBeNext b done′
   unfolding mayBeNext isReady
   mayBeNext-same done done′ f =
       fun-ext λ j.
-      ap (λ (in′ : ℕ → Bool). not (in′ j) && all (λ i. all (λ k. member k (groupOf b j) || in′ k) (readBy b i)) (groupOf b j)) (fun-ext f)
+      ap (λ (in′ : ℕ → Bool). not (in′ j) && all (λ i. all (λ k. member k (groupOf b j) || in′ k) (readBy b i))
+      (groupOf b j)) (fun-ext f)
 
   -- ---- there is a next one
 
   reach-less : (j k : ℕ) → j < gateCount b → reaches b j k ≡ true → reaches b k j ≡ false
       → countBelow (reaches b k) (gateCount b) < countBelow (reaches b j) (gateCount b)
   reach-less j k h r e =
-      countBelow-less (reaches b k) (reaches b j) (gateCount b) (λ i l. reaches-trans b j k i r) j h e (reaches-refl b j h)
+      countBelow-less (reaches b k) (reaches b j) (gateCount b) (λ i l. reaches-trans b j k i r) j h e
+      (reaches-refl b j h)
 
-  reach-outside : (i j k : ℕ) → Inside b → member i (groupOf b j) ≡ true → reads b i k ≡ true → member k (groupOf b j) ≡ false
+  reach-outside : (i j k : ℕ) → Inside b → member i (groupOf b j) ≡ true → reads b i k ≡ true
+      → member k (groupOf b j) ≡ false
       → (reaches b j k ≡ true) × (reaches b k j ≡ false)
   unfolding sameGroup
   reach-outside i j k inside m r e =
       let to-k = reaches-reads b j i k (and-left _ _ (groupOf-same b j i m)) r (inside i k r) in
       (to-k, not-true-false _ (λ back. not-both (groupOf-member b j k (and-intro _ _ to-k back)) e))
 
-  next-within : Inside b → (done : List ℕ) (n j : ℕ) → countBelow (reaches b j) (gateCount b) < n → j < gateCount b → member j done ≡ false
+  next-within : Inside b → (done : List ℕ) (n j : ℕ) → countBelow (reaches b j) (gateCount b) < n → j < gateCount b
+      → member j done ≡ false
       → (k : ℕ) × (k < gateCount b) × (mayBeNext b done k ≡ true)
   next-within inside done zero j c h e = absurd (omega arith)
   next-within inside done (suc n) j c h e = go (bool-cases (isReady b done (groupOf b j))) (next-within inside done n)
     where
       go : (isReady b done (groupOf b j) ≡ true) ⊎ (isReady b done (groupOf b j) ≡ false)
           → ((k : ℕ) → countBelow (reaches b k) (gateCount b) < n → k < gateCount b → member k done ≡ false
-          → (k : ℕ) × (k < gateCount b) × (mayBeNext b done k ≡ true)) → (k : ℕ) × (k < gateCount b) × (mayBeNext b done k ≡ true)
+          → (k : ℕ) × (k < gateCount b) × (mayBeNext b done k ≡ true))
+          → (k : ℕ) × (k < gateCount b) × (mayBeNext b done k ≡ true)
       go (inl u) f = (j, h, mayBeNext-intro done j e u)
       go (inr u) f =
           let w = ready-fails done (groupOf b j) u in
@@ -101,7 +113,8 @@ module _ (b : Block) where
           f (w .1) (omega arith) (reaches-below b j (w .1) (o .0)) (w .5)
 
   -- while a gate is left, a group may be numbered next: take the gate left whose reach is smallest
-  pub some-next : Inside b → (done : List ℕ) (j : ℕ) → j < gateCount b → member j done ≡ false → least (mayBeNext b done) (gateCount b) < gateCount b
+  pub some-next : Inside b → (done : List ℕ) (j : ℕ) → j < gateCount b → member j done ≡ false
+      → least (mayBeNext b done) (gateCount b) < gateCount b
   some-next inside done j h e =
       let r = next-within inside done (suc (countBelow (reaches b j) (gateCount b))) j (omega arith) h e in
       let l = least-at-most (mayBeNext b done) (gateCount b) (r .0) (r .2) in
@@ -109,8 +122,10 @@ module _ (b : Block) where
       omega arith
 
   -- where no group may be next, every gate is numbered
-  pub none-left : Inside b → (done : List ℕ) → gateCount b ≤ least (mayBeNext b done) (gateCount b) → (j : ℕ) → j < gateCount b → member j done ≡ true
-  none-left inside done l j h = ⊎-elim (λ e. e) (λ e. absurd (let u = some-next inside done j h e in omega arith)) (bool-cases (member j done))
+  pub none-left : Inside b → (done : List ℕ) → gateCount b ≤ least (mayBeNext b done) (gateCount b) → (j : ℕ)
+      → j < gateCount b → member j done ≡ true
+  none-left inside done l j h =
+      ⊎-elim (λ e. e) (λ e. absurd (let u = some-next inside done j h e in omega arith)) (bool-cases (member j done))
 
   -- ---- numbering it
 
@@ -125,12 +140,14 @@ module _ (b : Block) where
       }
 
   -- the group next is new
-  pub next-new : (done : List ℕ) → Numbered b done → (j k : ℕ) → member j done ≡ false → member k (groupOf b j) ≡ true → member k done ≡ false
+  pub next-new : (done : List ℕ) → Numbered b done → (j k : ℕ) → member j done ≡ false → member k (groupOf b j) ≡ true
+      → member k done ≡ false
   next-new done n j k e m =
       not-true-false _ λ h. not-both (n .whole k j h (sameGroup-sym b j k (groupOf-same b j k m))) e
 
   -- with it, what is numbered is still whole groups, each gate once, and all that they read
-  pub numbered-next : (done : List ℕ) (j : ℕ) → Numbered b done → mayBeNext b done j ≡ true → Numbered b (done ++ groupOf b j)
+  pub numbered-next : (done : List ℕ) (j : ℕ) → Numbered b done → mayBeNext b done j ≡ true
+      → Numbered b (done ++ groupOf b j)
   numbered-next done j n h =
       record {
         below = λ k m. ⊎-elim (n .below k) (groupOf-below b j k) (member-cases k done (groupOf b j) m);
@@ -140,7 +157,8 @@ module _ (b : Block) where
         whole = λ i k m e.
             ⊎-elim
             (λ u. member-left k done (groupOf b j) (n .whole i k u e))
-            (λ u. member-right k done (groupOf b j) (groupOf-member b j k (sameGroup-trans b j i k (groupOf-same b j i u) e)))
+            (λ u. member-right k done (groupOf b j)
+            (groupOf-member b j k (sameGroup-trans b j i k (groupOf-same b j i u) e)))
             (member-cases i done (groupOf b j) m);
         closed = λ i k m r.
             ⊎-elim
@@ -153,7 +171,7 @@ module _ (b : Block) where
             (member-cases i done (groupOf b j) m);
       }
 
-  -- and one gate more at least is numbered
+  -- numbering a group numbers at least one gate more
   pub next-counts : (done : List ℕ) (j : ℕ) → j < gateCount b → mayBeNext b done j ≡ true
       → countBelow (λ k. member k done) (gateCount b) < countBelow (λ k. member k (done ++ groupOf b j)) (gateCount b)
   next-counts done j h e =

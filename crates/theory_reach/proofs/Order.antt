@@ -37,22 +37,25 @@ module _ (b : Block) where
 
   -- one step of the list where a group may be next
   pub groupsAfter-found : (more : ℕ) (done : List ℕ) → nextGate b done < gateCount b
-      → groupsAfter b (suc more) done ≡ groupOf b (nextGate b done) ∷ groupsAfter b more (done ++ groupOf b (nextGate b done))
+      → groupsAfter b (suc more) done ≡ groupOf b (nextGate b done)
+      ∷ groupsAfter b more (done ++ groupOf b (nextGate b done))
   unfolding groupsAfter
   groupsAfter-found more done h = rw (lt-ltb (nextGate b done) (gateCount b) h)
 
-  -- and where none may
+  -- where no gate may be next, no group follows
   pub groupsAfter-none : (more : ℕ) (done : List ℕ) → gateCount b ≤ nextGate b done → groupsAfter b more done ≡ []
   unfolding groupsAfter
   groupsAfter-none zero done h = refl
   groupsAfter-none (suc more) done h = rw (le-ltb (nextGate b done) (gateCount b) h)
 
-  -- it matters only which gates are numbered
-  pub groupsAfter-same : (more : ℕ) (done done′ : List ℕ) → ((k : ℕ) → member k done ≡ member k done′) → groupsAfter b more done ≡ groupsAfter b more done′
+  -- the groups that follow depend only on which gates are numbered
+  pub groupsAfter-same : (more : ℕ) (done done′ : List ℕ) → ((k : ℕ) → member k done ≡ member k done′)
+      → groupsAfter b more done ≡ groupsAfter b more done′
   unfolding groupsAfter
   groupsAfter-same zero done done′ f = refl
   groupsAfter-same (suc more) done done′ f =
-      let n : nextGate b done ≡ nextGate b done′ = ap (λ (p : ℕ → Bool). least p (gateCount b)) (mayBeNext-same b done done′ f) in
+      let n : nextGate b done ≡ nextGate b done′ =
+      ap (λ (p : ℕ → Bool). least p (gateCount b)) (mayBeNext-same b done done′ f) in
       let g = groupOf b (nextGate b done′) in
       let r : groupsAfter b more (done ++ g) ≡ groupsAfter b more (done′ ++ g) =
       groupsAfter-same more (done ++ g) (done′ ++ g)
@@ -63,12 +66,15 @@ module _ (b : Block) where
   pub groupsAfter-elim : (P : ℕ → List ℕ → List (List ℕ) → Type 0) → ((done : List ℕ) → P 0 done [])
       → ((more : ℕ) (done : List ℕ) → nextGate b done < gateCount b
       → P more (done ++ groupOf b (nextGate b done)) (groupsAfter b more (done ++ groupOf b (nextGate b done)))
-      → P (suc more) done (groupOf b (nextGate b done) ∷ groupsAfter b more (done ++ groupOf b (nextGate b done)))) → ((more : ℕ) (done : List ℕ)
-      → gateCount b ≤ nextGate b done → P (suc more) done []) → (more : ℕ) (done : List ℕ) → P more done (groupsAfter b more done)
+      → P (suc more) done (groupOf b (nextGate b done) ∷ groupsAfter b more (done ++ groupOf b (nextGate b done))))
+      → ((more : ℕ) (done : List ℕ)
+      → gateCount b ≤ nextGate b done → P (suc more) done []) → (more : ℕ) (done : List ℕ)
+      → P more done (groupsAfter b more done)
   unfolding groupsAfter
   groupsAfter-elim P z s n zero done = z done
   groupsAfter-elim P z s n (suc more) done =
-      go (lt-or-le (nextGate b done) (gateCount b)) (groupsAfter-elim P z s n more (done ++ groupOf b (nextGate b done)))
+      go (lt-or-le (nextGate b done) (gateCount b))
+      (groupsAfter-elim P z s n more (done ++ groupOf b (nextGate b done)))
     where
       go : (nextGate b done < gateCount b) ⊎ (gateCount b ≤ nextGate b done)
           → P more (done ++ groupOf b (nextGate b done)) (groupsAfter b more (done ++ groupOf b (nextGate b done)))
@@ -81,7 +87,8 @@ module _ (b : Block) where
   -- no more groups than steps
   pub length-groupsAfter : (more : ℕ) (done : List ℕ) → length (groupsAfter b more done) ≤ more
   length-groupsAfter =
-      groupsAfter-elim (λ more done gs. length gs ≤ more) (λ done. omega arith) (λ more done l r. omega arith) (λ more done l. omega arith)
+      groupsAfter-elim (λ more done gs. length gs ≤ more) (λ done. omega arith) (λ more done l r. omega arith)
+      (λ more done l. omega arith)
 
   groupsAfter-entry : (more : ℕ) (done : List ℕ) (g : ℕ) → g < length (groupsAfter b more done)
       → (j : ℕ) × (j < gateCount b) × (getD (groupsAfter b more done) g [] ≡ groupOf b j)
@@ -92,18 +99,22 @@ module _ (b : Block) where
       (λ more done l r g h. first (nextGate b done) l (groupsAfter b more (done ++ groupOf b (nextGate b done))) r g h)
       (λ more done l g h. absurd (omega arith))
     where
-      first : (i : ℕ) → i < gateCount b → (gs : List (List ℕ)) → ((g : ℕ) → g < length gs → (j : ℕ) × (j < gateCount b) × (getD gs g [] ≡ groupOf b j))
-          → (g : ℕ) → g < length (groupOf b i ∷ gs) → (j : ℕ) × (j < gateCount b) × (getD (groupOf b i ∷ gs) g [] ≡ groupOf b j)
+      first : (i : ℕ) → i < gateCount b → (gs : List (List ℕ))
+          → ((g : ℕ) → g < length gs → (j : ℕ) × (j < gateCount b) × (getD gs g [] ≡ groupOf b j))
+          → (g : ℕ) → g < length (groupOf b i ∷ gs)
+          → (j : ℕ) × (j < gateCount b) × (getD (groupOf b i ∷ gs) g [] ≡ groupOf b j)
       first i l gs r zero h = (i, l, refl)
       first i l gs r (suc g) h = r g (omega arith)
 
   -- what is numbered on the way is closed
-  groupsAfter-numbered : (more : ℕ) (done : List ℕ) (t : ℕ) → Numbered b done → Numbered b (done ++ joined (take t (groupsAfter b more done)))
+  groupsAfter-numbered : (more : ℕ) (done : List ℕ) (t : ℕ) → Numbered b done
+      → Numbered b (done ++ joined (take t (groupsAfter b more done)))
   groupsAfter-numbered =
       groupsAfter-elim
       (λ more done gs. (t : ℕ) → Numbered b done → Numbered b (done ++ joined (take t gs)))
       (λ done t n. nothing done t n)
-      (λ more done l r t n. some done (nextGate b done) _ (numbered-next b done (nextGate b done) n (nextGate-passes done l)) n r t)
+      (λ more done l r t n. some done (nextGate b done) _
+      (numbered-next b done (nextGate b done) n (nextGate-passes done l)) n r t)
       (λ more done l t n. nothing done t n)
     where
       nothing : (done : List ℕ) (t : ℕ) → Numbered b done → Numbered b (done ++ joined (take t []))
@@ -111,23 +122,27 @@ module _ (b : Block) where
       nothing done (suc t) n = rw (append-nil done) n
 
       some : (done : List ℕ) (j : ℕ) (gs : List (List ℕ)) → Numbered b (done ++ groupOf b j) → Numbered b done
-          → ((t : ℕ) → Numbered b (done ++ groupOf b j) → Numbered b (done ++ groupOf b j ++ joined (take t gs))) → (t : ℕ)
+          → ((t : ℕ) → Numbered b (done ++ groupOf b j) → Numbered b (done ++ groupOf b j ++ joined (take t gs)))
+          → (t : ℕ)
           → Numbered b (done ++ joined (take t (groupOf b j ∷ gs)))
       some done j gs n′ n r zero = rw (append-nil done) n
       some done j gs n′ n r (suc t) = rw (append-assoc done (groupOf b j) (joined (take t gs))) at (r t n′)
 
   -- enough steps number every gate
-  groupsAfter-all : Inside b → (more : ℕ) (done : List ℕ) → Numbered b done → gateCount b ≤ countBelow (λ k. member k done) (gateCount b) + more → (j : ℕ)
+  groupsAfter-all : Inside b → (more : ℕ) (done : List ℕ) → Numbered b done
+      → gateCount b ≤ countBelow (λ k. member k done) (gateCount b) + more → (j : ℕ)
       → j < gateCount b → member j (done ++ joined (groupsAfter b more done)) ≡ true
   groupsAfter-all inside =
       groupsAfter-elim
-      (λ more done gs. Numbered b done → gateCount b ≤ countBelow (λ k. member k done) (gateCount b) + more → (j : ℕ) → j < gateCount b
+      (λ more done gs. Numbered b done → gateCount b ≤ countBelow (λ k. member k done) (gateCount b) + more → (j : ℕ)
+      → j < gateCount b
       → member j (done ++ joined gs) ≡ true)
       (λ done n c j h. rw (append-nil done) (countBelow-full (λ k. member k done) (gateCount b) (omega arith) j h))
       (λ more done l r n c j h.
       let p = nextGate-passes done l in
       let u = next-counts b done (nextGate b done) l p in
-      rw (append-assoc done (groupOf b (nextGate b done)) (joined (groupsAfter b more (done ++ groupOf b (nextGate b done))))) at
+      rw (append-assoc done (groupOf b (nextGate b done))
+      (joined (groupsAfter b more (done ++ groupOf b (nextGate b done))))) at
       (r (numbered-next b done (nextGate b done) n p) (omega arith) j h))
       (λ more done l n c j h. rw (append-nil done) (none-left b inside done l j h))
 
@@ -139,7 +154,8 @@ module _ (b : Block) where
   length-groups = length-groupsAfter (gateCount b) []
 
   -- each entry is the group of a gate
-  pub groups-entry : (g : ℕ) → g < length (groups b) → (j : ℕ) × (j < gateCount b) × (getD (groups b) g [] ≡ groupOf b j)
+  pub groups-entry : (g : ℕ) → g < length (groups b)
+      → (j : ℕ) × (j < gateCount b) × (getD (groups b) g [] ≡ groupOf b j)
   unfolding groups
   groups-entry = groupsAfter-entry (gateCount b) []
 
@@ -158,7 +174,7 @@ module _ (b : Block) where
   unfolding groups
   groups-numbered t = groupsAfter-numbered (gateCount b) [] t (numbered-none b)
 
-  -- and so are those of all
+  -- the gates of all groups are numbered
   pub groups-all-numbered : Numbered b (joined (groups b))
   groups-all-numbered = rw (take-length (groups b)) at (groups-numbered (length (groups b)))
 
@@ -167,8 +183,9 @@ module _ (b : Block) where
   unfolding groups
   groups-all inside = groupsAfter-all inside (gateCount b) [] (numbered-none b) (omega arith)
 
-  -- and so in one of the groups,
-  pub groups-some : Inside b → (j : ℕ) → j < gateCount b → (g : ℕ) × (g < length (groups b)) × (member j (getD (groups b) g []) ≡ true)
+  -- every gate is in one of the groups
+  pub groups-some : Inside b → (j : ℕ) → j < gateCount b
+      → (g : ℕ) × (g < length (groups b)) × (member j (getD (groups b) g []) ≡ true)
   groups-some inside j h = joined-member j (groups b) (groups-all inside j h)
 
   -- in one only
@@ -183,7 +200,7 @@ module _ (b : Block) where
   pub groups-once : Once (joined (groups b))
   groups-once = groups-all-numbered .once
 
-  -- and all stand there
+  -- the groups together have as many gates as the block
   pub length-joined-groups : Inside b → length (joined (groups b)) ≡ gateCount b
   length-joined-groups inside =
       once-length (joined (groups b)) (gateCount b) groups-once (groups-all-numbered .below)
@@ -196,14 +213,16 @@ module _ (b : Block) where
       e .2 ∙ groupOf-equal b (e .0) j (groupOf-same b (e .0) j (rw (e .2) at m))
 
   -- the first groups read only each other
-  pub groups-closed : (t i k : ℕ) → member i (joined (take t (groups b))) ≡ true → reads b i k ≡ true → member k (joined (take t (groups b))) ≡ true
+  pub groups-closed : (t i k : ℕ) → member i (joined (take t (groups b))) ≡ true → reads b i k ≡ true
+      → member k (joined (take t (groups b))) ≡ true
   groups-closed t = groups-numbered t .closed
 
   -- a group reads only itself and earlier groups
   pub groups-read-back : (g i k : ℕ) → member i (getD (groups b) g []) ≡ true → reads b i k ≡ true
       → (h : ℕ) × (h ≤ g) × (member k (getD (groups b) h []) ≡ true)
   groups-read-back g i k m r =
-      let first : getD (take (suc g) (groups b)) g [] ≡ getD (groups b) g [] = getD-take (suc g) (groups b) g [] (omega arith) in
+      let first : getD (take (suc g) (groups b)) g [] ≡ getD (groups b) g [] =
+      getD-take (suc g) (groups b) g [] (omega arith) in
       let inside = member-joined i (take (suc g) (groups b)) g (rw first m) in
       let w = joined-member k (take (suc g) (groups b)) (groups-closed (suc g) i k inside r) in
       let l = w .1 in

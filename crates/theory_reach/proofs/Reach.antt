@@ -3,7 +3,6 @@
 --   grown-*, grownTimes-*         a step, and many: nothing is lost, and what is read is added
 --   path-reaches, reaches-path    `reaches` tells whether there is a path
 --   reaches-refl, reaches-trans   it is reflexive and transitive
---   reach-least, reach-is         the reach is the least closed set with the gate
 -- Assumes nothing.
 use Prim.Native.Nat.{ℕ, zero, suc, _≤_, _<_}
 use mathlib.Core.Path.{_≡_, refl, sym, _∙_}
@@ -11,12 +10,12 @@ use mathlib.Core.Logic.{_⊎_, inl, inr, ⊎-elim}
 use mathlib.Core.Bool.{Bool, true, false, _&&_, _||_, true≢false}
 use mathlib.Core.List.{List, []}
 use native.Mathlib.Omega.{arith}
-use lib.ListN.{length, getD, List·getD-eq-default}
-use lib.Seq.{ext-getD}
+use lib.ListN.{length, List·getD-eq-default}
 use lib.Dec.{eqb}
 use borrow.Author.Tests.{eqb-true, eq-eqb}
 use Rattle.prelude.specs.Lists.{any, tab, upTo, countBelow}
-use Rattle.prelude.proofs.Tests.{bool-cases, not-both, and-intro, and-left, and-right, or-left, or-right, or-cases, same-test, lt-or-le}
+use Rattle.prelude.proofs.Tests.{bool-cases, not-both, and-intro, and-left, and-right, or-left, or-right, or-cases}
+use Rattle.prelude.proofs.Tests.{lt-or-le}
 use Rattle.prelude.proofs.Tab.{length-tab, getD-tab}
 use Rattle.prelude.proofs.Quantifiers.{any-below, below-any}
 use Rattle.prelude.proofs.Counting.{countBelow-less, countBelow-full}
@@ -60,12 +59,14 @@ module _ (b : Block) where
   length-grown set = length-tab _ (gateCount b)
 
   -- as often as it grows
-  pub length-grownTimes : (t : ℕ) (set : List Bool) → length set ≡ gateCount b → length (grownTimes b t set) ≡ gateCount b
+  pub length-grownTimes : (t : ℕ) (set : List Bool) → length set ≡ gateCount b
+      → length (grownTimes b t set) ≡ gateCount b
   unfolding grownTimes
   length-grownTimes zero set e = e
   length-grownTimes (suc t) set e = length-grown (grownTimes b t set)
 
-  has-grown : (set : List Bool) (j : ℕ) → j < gateCount b → has (grown b set) j ≡ (has set j || any (λ i. has set i && reads b i j) (upTo (gateCount b)))
+  has-grown : (set : List Bool) (j : ℕ) → j < gateCount b
+      → has (grown b set) j ≡ (has set j || any (λ i. has set i && reads b i j) (upTo (gateCount b)))
   unfolding grown has
   has-grown set j h = getD-tab _ (gateCount b) j false h
 
@@ -73,13 +74,15 @@ module _ (b : Block) where
   pub grown-keeps : (set : List Bool) (j : ℕ) → j < gateCount b → has set j ≡ true → has (grown b set) j ≡ true
   grown-keeps set j h e = has-grown set j h ∙ or-left _ _ e
 
-  -- and adds what is read
-  pub grown-reads : (set : List Bool) (i j : ℕ) → j < gateCount b → has set i ≡ true → reads b i j ≡ true → has (grown b set) j ≡ true
+  -- growing a set adds what its gates read
+  pub grown-reads : (set : List Bool) (i j : ℕ) → j < gateCount b → has set i ≡ true → reads b i j ≡ true
+      → has (grown b set) j ≡ true
   grown-reads set i j h e r =
       has-grown set j h
-      ∙ or-right (has set j) _ (below-any (λ i. has set i && reads b i j) (gateCount b) i (reads-below b i j r) (and-intro _ _ e r))
+      ∙ or-right (has set j) _
+      (below-any (λ i. has set i && reads b i j) (gateCount b) i (reads-below b i j r) (and-intro _ _ e r))
 
-  -- and nothing else
+  -- growing a set adds nothing else
   pub grown-cases : (set : List Bool) (j : ℕ) → j < gateCount b → has (grown b set) j ≡ true
       → (has set j ≡ true) ⊎ ((i : ℕ) × (has set i ≡ true) × (reads b i j ≡ true))
   grown-cases set j h e = go (or-cases _ _ (sym (has-grown set j h) ∙ e))
@@ -92,7 +95,8 @@ module _ (b : Block) where
           inr (r .0, and-left _ _ (r .2), and-right (has set (r .0)) _ (r .2))
 
   -- however often it grows, a set keeps what it has
-  pub grownTimes-keeps : (t : ℕ) (set : List Bool) (j : ℕ) → j < gateCount b → has set j ≡ true → has (grownTimes b t set) j ≡ true
+  pub grownTimes-keeps : (t : ℕ) (set : List Bool) (j : ℕ) → j < gateCount b → has set j ≡ true
+      → has (grownTimes b t set) j ≡ true
   unfolding grownTimes
   grownTimes-keeps zero set j h e = e
   grownTimes-keeps (suc t) set j h e = grown-keeps (grownTimes b t set) j h (grownTimes-keeps t set j h e)
@@ -114,13 +118,15 @@ module _ (b : Block) where
   unfolding size
   closed-or-more set = go (lt-or-le (size set) (size (grown b set)))
     where
-      go : (size set < size (grown b set)) ⊎ (size (grown b set) ≤ size set) → Closed b set ⊎ (size set < size (grown b set))
+      go : (size set < size (grown b set)) ⊎ (size (grown b set) ≤ size set)
+          → Closed b set ⊎ (size set < size (grown b set))
       go (inl u) = inr u
       go (inr u) = inl (λ i j hi hj e r. ⊎-elim (λ v. v) (λ v. absurd (more i j hj e r v)) (bool-cases (has set j)))
         where
           more : (i j : ℕ) → j < gateCount b → has set i ≡ true → reads b i j ≡ true → has set j ≡ false → ⊥
           more i j hj e r v =
-              let l = countBelow-less (has set) (has (grown b set)) (gateCount b) (grown-keeps set) j hj v (grown-reads set i j hj e r) in
+              let l = countBelow-less (has set) (has (grown b set)) (gateCount b) (grown-keeps set) j hj v
+              (grown-reads set i j hj e r) in
               omega arith
 
   closed-or-many : (t : ℕ) (set : List Bool) → Closed b (grownTimes b t set) ⊎ (t ≤ size (grownTimes b t set))
@@ -138,7 +144,8 @@ module _ (b : Block) where
   unfolding size
   grownTimes-closed set = go (closed-or-many (gateCount b) set)
     where
-      go : Closed b (grownTimes b (gateCount b) set) ⊎ (gateCount b ≤ size (grownTimes b (gateCount b) set)) → Closed b (grownTimes b (gateCount b) set)
+      go : Closed b (grownTimes b (gateCount b) set) ⊎ (gateCount b ≤ size (grownTimes b (gateCount b) set))
+          → Closed b (grownTimes b (gateCount b) set)
       go (inl c) = c
       go (inr l) = λ i j hi hj e r. countBelow-full (has (grownTimes b (gateCount b) set)) (gateCount b) l j hj
 
@@ -158,7 +165,8 @@ module _ (b : Block) where
   pub reaches-refl : (i : ℕ) → i < gateCount b → reaches b i i ≡ true
   unfolding reaches reach has
   reaches-refl i h =
-      grownTimes-keeps (gateCount b) (tab (eqb i) (gateCount b)) i h (getD-tab (eqb i) (gateCount b) i false h ∙ eq-eqb i i refl)
+      grownTimes-keeps (gateCount b) (tab (eqb i) (gateCount b)) i h
+      (getD-tab (eqb i) (gateCount b) i false h ∙ eq-eqb i i refl)
 
   -- what a reached gate reads is reached
   pub reaches-reads : (i j k : ℕ) → reaches b i j ≡ true → reads b j k ≡ true → k < gateCount b → reaches b i k ≡ true
@@ -178,7 +186,8 @@ module _ (b : Block) where
   pub path-reaches : (i j : ℕ) → j < gateCount b → OperandPath b i j → reaches b i j ≡ true
   path-reaches i j h p = reaches-along i (reaches-refl i (path-below p h)) p h
 
-  grown-path : (i t j : ℕ) → has (grownTimes b t (tab (eqb i) (gateCount b))) j ≡ true → OperandPath b i j × (i < gateCount b)
+  grown-path : (i t j : ℕ) → has (grownTimes b t (tab (eqb i) (gateCount b))) j ≡ true
+      → OperandPath b i j × (i < gateCount b)
   unfolding grownTimes has
   grown-path i zero j h =
       let l = has-below (tab (eqb i) (gateCount b)) j (length-tab _ (gateCount b)) h in
@@ -189,7 +198,8 @@ module _ (b : Block) where
       set : List Bool
       set = grownTimes b t (tab (eqb i) (gateCount b))
 
-      go : (has set j ≡ true) ⊎ ((k : ℕ) × (has set k ≡ true) × (reads b k j ≡ true)) → ((k : ℕ) → has set k ≡ true → OperandPath b i k × (i < gateCount b))
+      go : (has set j ≡ true) ⊎ ((k : ℕ) × (has set k ≡ true) × (reads b k j ≡ true))
+          → ((k : ℕ) → has set k ≡ true → OperandPath b i k × (i < gateCount b))
           → OperandPath b i j × (i < gateCount b)
       go (inl u) f = f j u
       go (inr u) f = let r = f (u .0) (u .1) in (path-append (r .0) (step (u .2) stay), r .1)
@@ -199,29 +209,14 @@ module _ (b : Block) where
   unfolding reaches reach
   reaches-path i j h = grown-path i (gateCount b) j h .0
 
-  -- only gates that are there reach
-  pub reaches-from : (i j : ℕ) → reaches b i j ≡ true → i < gateCount b
-  unfolding reaches reach
-  reaches-from i j h = grown-path i (gateCount b) j h .1
-
   -- what a reached gate reaches is reached
   pub reaches-trans : (i j k : ℕ) → reaches b i j ≡ true → reaches b j k ≡ true → reaches b i k ≡ true
-  reaches-trans i j k h g = path-reaches i k (reaches-below j k g) (path-append (reaches-path i j h) (reaches-path j k g))
+  reaches-trans i j k h g =
+      path-reaches i k (reaches-below j k g) (path-append (reaches-path i j h) (reaches-path j k g))
 
   -- ---- reach, recognised
 
-  closed-path : {i j : ℕ} (set : List Bool) → Closed b set → has set i ≡ true → OperandPath b i j → j < gateCount b → has set j ≡ true
+  closed-path : {i j : ℕ} (set : List Bool) → Closed b set → has set i ≡ true → OperandPath b i j → j < gateCount b
+      → has set j ≡ true
   closed-path set c e stay h = e
   closed-path set c e (step {i} {j} r p) h = closed-path set c (c i j (reads-below b i j r) (path-below p h) e r) p h
-
-  -- a closed set that has gate i has all that it reaches
-  pub reach-least : (set : List Bool) (i j : ℕ) → Closed b set → has set i ≡ true → reaches b i j ≡ true → has set j ≡ true
-  reach-least set i j c e h = closed-path set c e (reaches-path i j h) (reaches-below i j h)
-
-  -- a closed set that has gate i, and only what it reaches, is its reach
-  pub reach-is : (set : List Bool) (i : ℕ) → length set ≡ gateCount b → Closed b set → has set i ≡ true
-      → ((j : ℕ) → has set j ≡ true → reaches b i j ≡ true) → set ≡ reach b i
-  unfolding reaches has
-  reach-is set i l c e f =
-      ext-getD false set (reach b i) (l ∙ sym (length-reach i))
-      (λ j h. same-test (getD set j false) (getD (reach b i) j false) (f j) (reach-least set i j c e))

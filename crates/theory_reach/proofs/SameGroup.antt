@@ -4,13 +4,11 @@
 --   member-groupOf, groupOf-member   a group holds exactly the gates of the class
 --   groupOf-ascending, groupOf-once, groupOf-equal   it is ascending, and the same for each of its gates
 -- Assumes nothing.
-use Prim.Native.Nat.{ℕ, _≤_, _<_}
+use Prim.Native.Nat.{ℕ, _<_}
 use mathlib.Core.Path.{_≡_, sym, ap, _∙_, fun-ext}
 use mathlib.Core.Bool.{Bool, true}
-use lib.ListN.{length}
-use Rattle.prelude.specs.Lists.{keep, upTo, member, countBelow}
+use Rattle.prelude.specs.Lists.{keep, upTo, member}
 use Rattle.prelude.proofs.Tests.{and-intro, and-left, and-right, same-test}
-use Rattle.prelude.proofs.Counting.{length-keep, countBelow-le}
 use Rattle.netlist.specs.Netlist.{Block, gateCount}
 use Rattle.netlist.specs.Groups.{reaches, sameGroup, groupOf}
 use Rattle.theory_reach.specs.Orders.{Once, Ascending}
@@ -48,7 +46,7 @@ module _ (b : Block) where
       (and-right (member k (upTo (gateCount b))) _)
       (λ e. and-intro _ _ (member-upTo k _ (sameGroup-below j k e)) e)
 
-  -- the same, one way and the other
+  -- gates in one group with j are in its group, and those in its group are in one group with it
   pub groupOf-member : (j k : ℕ) → sameGroup b j k ≡ true → member k (groupOf b j) ≡ true
   groupOf-member j k h = member-groupOf j k ∙ h
 
@@ -78,12 +76,3 @@ module _ (b : Block) where
   groupOf-equal i j h =
       ap (λ (p : ℕ → Bool). keep p (upTo (gateCount b)))
       (fun-ext λ k. same-test _ _ (sameGroup-trans j i k (sameGroup-sym i j h)) (sameGroup-trans i j k h))
-
-  -- a group has as many gates as are in one group with the gate
-  pub length-groupOf : (j : ℕ) → length (groupOf b j) ≡ countBelow (sameGroup b j) (gateCount b)
-  unfolding groupOf
-  length-groupOf j = length-keep (sameGroup b j) (gateCount b)
-
-  -- at most all
-  pub length-groupOf-le : (j : ℕ) → length (groupOf b j) ≤ gateCount b
-  length-groupOf-le j = rw (length-groupOf j) (countBelow-le (sameGroup b j) (gateCount b))

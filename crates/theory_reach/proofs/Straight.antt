@@ -1,4 +1,5 @@
--- Straight blocks: every group is one gate, and the order is 0, 1, 2, .. The law that a straight block renders to itself cites it.
+-- Straight blocks: every group is one gate, and the order is 0, 1, 2, .. The law that a straight block renders to
+-- itself cites it.
 --   straight-reads, straight-inside     a straight block's gates read lower gates
 --   straight-loopless                   no gate reaches itself
 --   straight-groupOf, straight-groups   each group is one gate, in order
@@ -29,12 +30,14 @@ use Rattle.theory_reach.proofs.Order.{groups-entry}
 use Rattle.theory_reach.proofs.Build.{built-groups}
 
 -- a gate that is in a group with no other is its group
-pub groupOf-single : (b : Block) (j : ℕ) → j < gateCount b → ((k : ℕ) → sameGroup b j k ≡ true → k ≡ j) → groupOf b j ≡ j ∷ []
+pub groupOf-single : (b : Block) (j : ℕ) → j < gateCount b → ((k : ℕ) → sameGroup b j k ≡ true → k ≡ j)
+    → groupOf b j ≡ j ∷ []
 unfolding groupOf
 groupOf-single b j h f = keep-one (sameGroup b j) (gateCount b) j h (sameGroup-refl b j h) f
 
 -- without loops each group is one gate
-pub groups-single : (b : Block) → Loopless b → (g : ℕ) → g < length (groups b) → (j : ℕ) × (j < gateCount b) × (getD (groups b) g [] ≡ j ∷ [])
+pub groups-single : (b : Block) → Loopless b → (g : ℕ) → g < length (groups b)
+    → (j : ℕ) × (j < gateCount b) × (getD (groups b) g [] ≡ j ∷ [])
 groups-single b f g h =
     let e = groups-entry b g h in
     (e .0, e .1, e .2 ∙ groupOf-single b (e .0) (e .1) (λ k s. sym (f (e .0) k s)))
@@ -48,9 +51,10 @@ module _ (b : Block) (s : isStraight b ≡ true) where
   pub straight-reads : (i k : ℕ) → reads b i k ≡ true → k < i
   unfolding isStraight reads
   straight-reads i k r =
-      ltb-true k i (all-member (λ k. ltb k i) (readBy b i) (all-member _ (upTo (gateCount b)) s i (member-upTo i _ (reads-below b i k r))) k r)
+      ltb-true k i (all-member (λ k. ltb k i) (readBy b i)
+      (all-member _ (upTo (gateCount b)) s i (member-upTo i _ (reads-below b i k r))) k r)
 
-  -- which are there,
+  -- every gate that a straight block's gate reads is there
   pub straight-inside : Inside b
   straight-inside i k r = let l = straight-reads i k r in let m = reads-below b i k r in omega arith
 
@@ -59,7 +63,7 @@ module _ (b : Block) (s : isStraight b ≡ true) where
   straight-path stay = omega arith
   straight-path (step {i} {j} r p) = let l = straight-reads i j r in let m = straight-path p in omega arith
 
-  -- so not itself through another,
+  -- no gate of a straight block reaches itself through another
   pub straight-loopless : Loopless b
   unfolding sameGroup
   straight-loopless i j h =
@@ -67,7 +71,7 @@ module _ (b : Block) (s : isStraight b ≡ true) where
       let m = straight-path (reaches-path b j i (and-right (reaches b i j) _ h)) in
       omega arith
 
-  -- and is its group
+  -- a gate of a straight block is its own group
   pub straight-groupOf : (j : ℕ) → j < gateCount b → groupOf b j ≡ j ∷ []
   straight-groupOf j h = groupOf-single b j h (λ k e. sym (straight-loopless j k e))
 
@@ -88,7 +92,8 @@ module _ (b : Block) (s : isStraight b ≡ true) where
   straight-built zero h = none
   straight-built (suc t) h =
       let e : nextGate b (joined (tab (λ j. j ∷ []) t)) ≡ t = ap (nextGate b) (joined-ones t) ∙ straight-next t h in
-      let g : groupOf b (nextGate b (joined (tab (λ j. j ∷ []) t))) ≡ t ∷ [] = ap (groupOf b) e ∙ straight-groupOf t h in
+      let g : groupOf b (nextGate b (joined (tab (λ j. j ∷ []) t))) ≡ t ∷ [] =
+      ap (groupOf b) e ∙ straight-groupOf t h in
       rw g at (next (straight-built t (omega arith)) (rw e h))
 
   -- a straight block's groups are its gates, one by one

@@ -1,4 +1,5 @@
--- Conditions on a block's gates and on sets of them, which the laws of groups assume or show. Assumes nothing.
+-- Conditions on a block's gates and on sets of them, which the laws of strongly connected components ("groups") assume
+-- or show. Assumes nothing.
 use Prim.Native.Nat.{ℕ, _<_}
 use mathlib.Core.Path.{_≡_}
 use mathlib.Core.Bool.{Bool, true}

@@ -23,4 +23,5 @@ nextGate b done = least (mayBeNext b done) (gateCount b)
 -- the lists of groups that numbering one by one builds
 pub data Built (b : Block) : List (List ℕ) → Type 0 where
   none : Built b []
-  next : {gs : List (List ℕ)} → Built b gs → nextGate b (joined gs) < gateCount b → Built b (gs ++ (groupOf b (nextGate b (joined gs)) ∷ []))
+  next : {gs : List (List ℕ)} → Built b gs → nextGate b (joined gs) < gateCount b
+      → Built b (gs ++ (groupOf b (nextGate b (joined gs)) ∷ []))

@@ -1,1 +1,1 @@
-// No code: the theory of strongly connected groups: reach, the groups, and their topological order.
+// No code: the theory of strongly connected components ("groups"): reach, the components, and their topological order.

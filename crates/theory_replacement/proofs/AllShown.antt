@@ -21,9 +21,9 @@ use Rattle.theory_reach.proofs.GroupNumber.{groupNumber-same, same-groupNumber,
 use Rattle.theory_replacement.specs.Placing.{isComplete}
 use Rattle.theory_replacement.specs.Group.{boundary, isReadOutside, isShown, ports, cutOf}
 use Rattle.theory_replacement.specs.Claim.{StandsAt}
-use Rattle.theory_replacement.specs.Several.{Piece, GroupPiece, pieceOf, areDifferent, AgreesWithGroup, GroupAllowed}
-use Rattle.theory_replacement.specs.Several.{Each, replacedAll, numberAll}
-use Rattle.theory_replacement.specs.Several.{ReplacedGroups, NoLoopLeft}
+use Rattle.theory_replacement.specs.Several.{Piece, GroupPiece, pieceOf, areDifferent, AgreesWithGroup}
+use Rattle.theory_replacement.specs.Several.{GroupAllowed, Each, replacedAll, numberAll, ReplacedGroups}
+use Rattle.theory_replacement.specs.Several.{NoLoopLeft}
 use Rattle.theory_replacement.proofs.Rewired.{complete-operand}
 use Rattle.theory_replacement.proofs.Seen.{gate-there}
 use Rattle.theory_replacement.proofs.Cases.{reads-among}
@@ -86,7 +86,7 @@ module _ (b : Block) (whole : isComplete b ≡ true) where
   disjoint i k d j m m′ =
       not-both (sameGroup-trans b i j k (groupOf-same b i j m) (sameGroup-sym b k j (groupOf-same b k j m′))) d
 
-  -- and a net of one that is a gate of the other is a port of it
+  -- a net of one group that is a gate of another is a port of that one
   nets-seen : (g h : GroupPiece)
       → ((j : ℕ) → member j (groupOf b (g .gate)) ≡ true → member j (groupOf b (h .gate)) ≡ true → ⊥)
       → NetsSeen (pieceOf b g) (pieceOf b h)

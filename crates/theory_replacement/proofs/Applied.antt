@@ -17,13 +17,15 @@ use Rattle.netlist.specs.Rounds.{settingCount, settledUnder, outputValue}
 use Rattle.netlist.specs.Rounds.{outputsUnder, isExcluded}
 use Rattle.netlist.specs.Groups.{groupOf}
 use Rattle.theory_replacement.specs.Placing.{isComplete}
-use Rattle.theory_replacement.specs.Group.{sameNet, isOutsideNet, firstOnes, operandsOf, boundary, cutOf, ownBlock}
+use Rattle.theory_replacement.specs.Group.{sameNet, isOutsideNet, firstOnes, operandsOf, boundary, cutOf}
+use Rattle.theory_replacement.specs.Group.{ownBlock}
 use Rattle.theory_replacement.specs.Claim.{SameValues, AgreeWhereAllowed, AllowedAt}
 use Rattle.theory_replacement.specs.Example.{netlist, loop, straight, its-group, its-block}
 use Rattle.theory_replacement.proofs.Shown.{replaced-group}
 
 loop-agrees : AgreeWhereAllowed loop straight
-unfolding code valueOf invert isDefined row rows rowOf isNot isXor isXnor ruled parity gateValue bit fixes agrees operandValue evaluated round
+unfolding code valueOf invert isDefined row rows rowOf isNot isXor isXnor ruled parity gateValue bit fixes agrees
+    operandValue evaluated round
     afterRounds isStable rounds settled settingOf settingCount settledUnder outputValue outputsUnder isExcluded
 loop-agrees zero l e = refl
 loop-agrees (suc zero) l e = absurd (true≢false e)

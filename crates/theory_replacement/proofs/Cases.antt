@@ -28,9 +28,9 @@ use Rattle.theory_replacement.specs.Group.{isShown}
 use Rattle.theory_replacement.specs.Replaced.{outside, newNumber, behindOutside, newOperand, standIn, replaced}
 use Rattle.theory_replacement.specs.Claim.{StandsAt, FitsAt}
 use Rattle.theory_replacement.proofs.Rewired.{Among, among-later, among-below}
-use Rattle.theory_replacement.proofs.Numbers.{place-found, outside-apart, newNumber-below, newNumber-back, newNet-at}
-use Rattle.theory_replacement.proofs.Numbers.{length-replaced}
-use Rattle.theory_replacement.proofs.Numbers.{gate-outside, gate-new, outputs-replaced, node-replaced}
+use Rattle.theory_replacement.proofs.Numbers.{place-found, outside-apart, newNumber-below, newNumber-back}
+use Rattle.theory_replacement.proofs.Numbers.{newNet-at, length-replaced, gate-outside, gate-new}
+use Rattle.theory_replacement.proofs.Numbers.{outputs-replaced, node-replaced}
 use Rattle.theory_replacement.proofs.Seen.{gate-there, input-there, NewOperand, new-operand, new-node, FreeNet}
 use Rattle.theory_replacement.proofs.Seen.{free-net, free-outside, Seen, seen-operand}
 use Rattle.theory_replacement.proofs.Seen.{seen-node}

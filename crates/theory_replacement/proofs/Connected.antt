@@ -69,7 +69,7 @@ module _ (b : Block) (group : List ℕ) where
       (all-at (isOutsideNet group) (boundary b group) i (constant false)
       (all-first (isOutsideNet group) _ (keep-passes (isOutsideNet group) (operandsOf b group))) l))
 
-  -- and a gate of the group reads it
+  -- a gate of the group reads each net of its boundary
   pub boundary-read : (i k : ℕ) → i < length (boundary b group) → getD (boundary b group) i (constant false) ≡ gate k
       → (g : ℕ) × (member g group ≡ true) × (reads b g k ≡ true)
   unfolding boundary readInside

@@ -19,9 +19,8 @@ use Rattle.theory_replacement.specs.Replaced.{newNumber, behindOutside, 
 use Rattle.theory_replacement.specs.Claim.{StandsAt, FitsAt, OnLoop, WasOnLoop}
 use Rattle.theory_replacement.proofs.Rewired.{Among, among-reads}
 use Rattle.theory_replacement.proofs.Seen.{free-outside}
-use Rattle.theory_replacement.proofs.Cases.{number-injective, number-not-new, FromNew, newGate, net, FromStand, itself}
-use Rattle.theory_replacement.proofs.Cases.{shown, ReadAfter, byOutside, byNew}
-use Rattle.theory_replacement.proofs.Cases.{read-cases}
+use Rattle.theory_replacement.proofs.Cases.{number-injective, number-not-new, FromNew, newGate, net, FromStand}
+use Rattle.theory_replacement.proofs.Cases.{itself, shown, ReadAfter, byOutside, byNew, read-cases}
 
 -- number n is that of a gate that does not depend on the group
 record InFree (b : Block) (cut : Cut) (n : ℕ) : Type 0 where
@@ -30,7 +29,7 @@ record InFree (b : Block) (cut : Cut) (n : ℕ) : Type 0 where
   free : DependsOnNone b (cut .gates) old
   number : n ≡ newNumber b cut old
 
--- and a chain of reads leads there
+-- a chain of reads leads from gate k to the gate of number n, which does not depend on the group
 record FreeFrom (b : Block) (cut : Cut) (k n : ℕ) : Type 0 where
   end : InFree b cut n
   path : OperandPath b k (end .old)

@@ -29,23 +29,22 @@ use Rattle.netlist.specs.Rounds.{operandValue, settled}
 use Rattle.netlist.specs.Groups.{OperandPath, stay, step, reads}
 use Rattle.netlist.specs.Gather.{numberAt, placeIn, renumbered}
 use Rattle.theory_permutation.proofs.Groups.{member-map, map-member}
-use Rattle.theory_replacement.specs.Placing.{isComplete, nodes, rewired, inPlace, Cut, netValues, shownUnder, usesInput}
+use Rattle.theory_replacement.specs.Placing.{isComplete, nodes, rewired, inPlace, Cut, netValues, shownUnder}
+use Rattle.theory_replacement.specs.Placing.{usesInput}
 use Rattle.theory_replacement.specs.Group.{isShown}
 use Rattle.theory_replacement.specs.Replaced.{outside, newNumber, behindOutside, newOperand, standIn, replaced}
 use Rattle.theory_replacement.specs.Claim.{StandsAt, FitsAt}
 use Rattle.theory_replacement.specs.Several.{Piece, movedCut, movedPiece}
 use Rattle.theory_replacement.proofs.Rewired.{Among, among-reads, length-nodes, complete-operand, complete-node}
 use Rattle.theory_replacement.proofs.Rewired.{complete-from}
-use Rattle.theory_replacement.proofs.Numbers.{place-found, newNumber-below, newNumber-back, newNet-at, length-replaced}
-use Rattle.theory_replacement.proofs.Numbers.{gate-outside, outputs-replaced}
-use Rattle.theory_replacement.proofs.Numbers.{node-replaced}
+use Rattle.theory_replacement.proofs.Numbers.{place-found, newNumber-below, newNumber-back, newNet-at}
+use Rattle.theory_replacement.proofs.Numbers.{length-replaced, gate-outside, outputs-replaced, node-replaced}
 use Rattle.theory_replacement.proofs.Seen.{gate-there, input-there, NewOperand, new-operand, new-node, FreeNet}
 use Rattle.theory_replacement.proofs.Seen.{free-net, free-outside, Seen, seen-operand}
 use Rattle.theory_replacement.proofs.Seen.{seen-node, shown-node}
-use Rattle.theory_replacement.proofs.Cases.{number-injective, number-not-new, FromNew, newGate, net, FromStand, itself}
-use Rattle.theory_replacement.proofs.Cases.{shown, ReadAfter, byOutside, byNew}
-use Rattle.theory_replacement.proofs.Cases.{OperandAfter, ofOutside, ofNew, after-operand, stand-cases, read-cases}
-use Rattle.theory_replacement.proofs.Cases.{shown-cases}
+use Rattle.theory_replacement.proofs.Cases.{number-injective, number-not-new, FromNew, newGate, net, FromStand}
+use Rattle.theory_replacement.proofs.Cases.{itself, shown, ReadAfter, byOutside, byNew, OperandAfter, ofOutside}
+use Rattle.theory_replacement.proofs.Cases.{ofNew, after-operand, stand-cases, read-cases, shown-cases}
 use Rattle.theory_replacement.proofs.Values.{operand-kept}
 use Rattle.theory_replacement.proofs.Connected.{net-there}
 
@@ -116,10 +115,6 @@ module _ (b : Block) (rank : ℕ → ℕ) (whole : isComplete b ≡ true) (ranks
   fits = piece-fits-at b rank ranks p f
 
   -- ---- what stands for operands is there
-
-  inputs-same : inputCount after ≡ inputCount b
-  unfolding replaced
-  inputs-same = refl
 
   after-gate : (n : ℕ) → n < length (outside b cut) + gateCount new → isOperand after (gate n) ≡ true
   unfolding isOperand isNode
@@ -204,7 +199,7 @@ module _ (b : Block) (rank : ℕ → ℕ) (whole : isComplete b ≡ true) (ranks
   from-new-rank o n (newGate t is l e) = rw (e, rank-after-new t) (omega arith)
   from-new-rank o n (net i k u is l m e) = rw (e, rank-after-kept k l m) (let h = f .belowLevel i k u is in omega arith)
 
-  -- so no read raises the rank
+  -- no read of the replaced netlist raises the rank
   pub ranks-after : Ranks after rankAfter
   ranks-after n n′ r = go (read-cases b cut (p .own) new whole (f .stands) fits (f .outputs) n n′ r)
     where
@@ -256,7 +251,7 @@ module _ (b : Block) (rank : ℕ → ℕ) (whole : isComplete b ≡ true) (ranks
     unfolding standIn
     stand-constant c = refl
 
-    -- its own block's operands, in place afterwards
+    -- the operands of the other group's own block, in place afterwards
     place-moved : (o : Operand) → isOperand (q .own) o ≡ true → standIn b cut new (place o) ≡ placeAfter o
     unfolding inPlace numberAt
     place-moved (input i) h =
@@ -391,7 +386,7 @@ module _ (b : Block) (rank : ℕ → ℕ) (whole : isComplete b ≡ true) (ranks
             let h″ : rank k < g .level = g .belowLevel i k u is in
             omega arith
 
-    -- it can be replaced afterwards
+    -- the other group can be replaced afterwards
     pub moved-fits : PieceFits after rankAfter (movedPiece b p q)
     unfolding movedPiece movedCut
     moved-fits =
@@ -430,7 +425,7 @@ module _ (b : Block) (rank : ℕ → ℕ) (whole : isComplete b ≡ true) (ranks
         ∙ map-same _ (operandValue x (settled b x)) (q .cut .nets) (constant false)
         (λ i l. operand-kept b cut (p .own) new whole (f .stands) fits x agree _ (seen-net i l))
 
-    -- its two blocks show the same afterwards
+    -- the other group's two blocks show the same afterwards
     pub moved-agree : (x : List Value) → Agree b x p → Agree b x q → Agree after x (movedPiece b p q)
     unfolding movedPiece movedCut
     moved-agree x first second = rw (nets-kept x first) second

@@ -22,7 +22,8 @@ use Rattle.theory_encoding.proofs.ListFacts.{getD-map}
 use Rattle.netlist.specs.Netlist.{constant, Gate, Output, Block, gateCount, outputCount, gateOf}
 use Rattle.netlist.specs.Gather.{numberAt, placeIn, renumbered}
 use Rattle.theory_replacement.specs.Placing.{Cut, nodes, rewired}
-use Rattle.theory_replacement.specs.Replaced.{outside, newNumber, behindOutside, newNets, newOperand, standIn, replaced}
+use Rattle.theory_replacement.specs.Replaced.{outside, newNumber, behindOutside, newNets, newOperand, standIn}
+use Rattle.theory_replacement.specs.Replaced.{replaced}
 
 -- a number that is in the list has a place there, and stands at it
 pub place-found : (order : List ℕ) (j : ℕ) → member j order ≡ true
@@ -48,7 +49,7 @@ module _ (b : Block) (cut : Cut) where
       member-keep (λ j. not (member j (cut .gates))) (upTo (gateCount b)) j
       ∙ and-intro _ _ (member-upTo j (gateCount b) l) (false-not (member j (cut .gates)) m)
 
-  -- and no other is
+  -- a gate that is listed as outside is a gate and not of the group
   pub outside-apart : (j : ℕ) → member j (outside b cut) ≡ true → (j < gateCount b) × (member j (cut .gates) ≡ false)
   unfolding outside
   outside-apart j m =
@@ -105,7 +106,7 @@ module _ (b : Block) (cut : Cut) where
         gate-kept (newNumber b cut j) (newNumber-below j l m)
         ∙ ap (λ (k : ℕ). rewired (standIn b cut new) (gateOf b k)) (newNumber-back j l m)
 
-    -- and behind them
+    -- the new block's gates stand behind the outside gates
     pub gate-new : (t : ℕ) → t < gateCount new
         → gateOf (replaced b cut new) (behindOutside b cut t) ≡ rewired (newOperand b cut) (gateOf new t)
     unfolding replaced behindOutside

@@ -20,7 +20,8 @@ use Rattle.theory_permutation.proofs.Groups.{member-map, map-member}
 use Rattle.theory_replacement.specs.Placing.{isComplete, shownUnder}
 use Rattle.theory_replacement.specs.Replaced.{newNumber, replaced}
 use Rattle.theory_replacement.specs.Claim.{SameValues, OnLoop, WasOnLoop}
-use Rattle.theory_replacement.specs.Several.{Piece, movedCut, movedPiece, replacedFirst, numberFirst, isOutsideAll, Each}
+use Rattle.theory_replacement.specs.Several.{Piece, movedCut, movedPiece, replacedFirst, numberFirst}
+use Rattle.theory_replacement.specs.Several.{isOutsideAll, Each}
 use Rattle.theory_replacement.proofs.Numbers.{false-not, newNumber-below, length-replaced}
 use Rattle.theory_replacement.proofs.Cases.{number-injective}
 use Rattle.theory_replacement.proofs.Loops.{was-on-loop}

@@ -28,9 +28,8 @@ use Rattle.netlist.specs.StoredBlock.{isNode, isOperand}
 use Rattle.netlist.specs.Groups.{reads}
 use Rattle.netlist.specs.Gather.{numberAt, placeIn}
 use Rattle.theory_replacement.specs.Placing.{isComplete, nodes, rewired, inPlace}
-use Rattle.theory_replacement.specs.Group.{sameNet, isOutsideNet, firstOnes, operandsOf, NoNetTwice, boundary, isShown}
-use Rattle.theory_replacement.specs.Group.{isReadOutside, ports, cutOf, netPlace, ownOperand}
-use Rattle.theory_replacement.specs.Group.{ownBlock}
+use Rattle.theory_replacement.specs.Group.{sameNet, isOutsideNet, firstOnes, operandsOf, NoNetTwice, boundary}
+use Rattle.theory_replacement.specs.Group.{isShown, isReadOutside, ports, cutOf, netPlace, ownOperand, ownBlock}
 use Rattle.theory_replacement.specs.Claim.{StandsAt}
 use Rattle.theory_replacement.proofs.Rewired.{Among, complete-operand}
 use Rattle.theory_replacement.proofs.Numbers.{place-found}
@@ -176,7 +175,7 @@ module _ (b : Block) (group : List ℕ) where
   boundary-has j o m t n a =
       first-has o _ (keep-has (isOutsideNet group) o (operandsOf b group) t (operands-has group j o m n a))
 
-  -- and stands there once
+  -- each net of the boundary stands there once
   pub boundary-once : NoNetTwice (boundary b group)
   unfolding boundary
   boundary-once = first-once (keep (isOutsideNet group) (operandsOf b group))

@@ -60,7 +60,8 @@ module _ (x u y w : List Value) (change : Operand → Operand) where
   unfolding evaluated rewired
   evaluated-up g h = gateValue-mono (g .kind) (values-up (g .operands) h)
 
-  -- The same the other way round.
+  -- Where the value of what stands for each operand is below the operand's, the rewired gate's value is below the
+  -- gate's.
   pub evaluated-down : (g : Gate)
       → ((o : Operand) → Among o (g .operands) → Below (operandValue y w (change o)) (operandValue x u o))
       → Below (evaluated y w (rewired change g)) (evaluated x u g)
@@ -104,7 +105,7 @@ module _ (b : Block) where
       (any-from (isInput i) (gateOf b j .operands) (a .place) (constant false) (a .there)
       (rw (a .is) (eq-eqb i i refl))))
 
-  -- and those that its outputs show.
+  -- A block uses the inputs that its outputs show.
   pub node-uses : (i p : ℕ) → p < outputCount b → getD (nodes b) p (constant false) ≡ input i → usesInput b i ≡ true
   unfolding usesInput isInput nodes
   node-uses i p l e =
@@ -129,7 +130,7 @@ module _ (b : Block) where
         (and-left _ _ complete) (among-below j o a))
         (a .there))
 
-    -- and so is what the outputs show.
+    -- In a complete block what the outputs show is there.
     pub complete-node : (p : ℕ) → p < outputCount b → isOperand b (getD (nodes b) p (constant false)) ≡ true
     unfolding isComplete nodes
     complete-node p l =

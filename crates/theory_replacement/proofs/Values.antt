@@ -31,8 +31,8 @@ use Rattle.theory_fixpoint.proofs.Values.{below-of-undefined, below-of-eq, belo
 use Rattle.theory_fixpoint.proofs.ListFacts.{getD-replicate-default}
 use Rattle.theory_fixpoint.proofs.Rounds.{getD-round, evaluated-settled}
 use Rattle.theory_fixpoint.proofs.LeastState.{afterRounds-below-settled}
-use Rattle.theory_replacement.specs.Placing.{isComplete, nodes, rewired, inPlace, Cut, netValues, shownUnder, usesInput}
-use Rattle.theory_replacement.specs.Placing.{DependsOnNone}
+use Rattle.theory_replacement.specs.Placing.{isComplete, nodes, rewired, inPlace, Cut, netValues, shownUnder}
+use Rattle.theory_replacement.specs.Placing.{usesInput, DependsOnNone}
 use Rattle.theory_replacement.specs.Replaced.{newNumber, behindOutside, newNets, newOperand, standIn, replaced}
 use Rattle.theory_replacement.specs.Claim.{SameValues, StandsAt, FitsAt}
 use Rattle.theory_replacement.proofs.Rewired.{evaluated-up, evaluated-down, among-reads, length-nodes}
@@ -314,7 +314,8 @@ module _ (b : Block) (cut : Cut) (own new : Block) (whole : isComplete b ≡ tru
         (operand-up (settled new y) new-up (portNode k)
         (new-node new (fits .complete) (placeIn (cut .ports) k) (port-below k m)))
 
-    -- and at all gates outside.
+    -- In a state below the settled values, and outside the group below those of the replaced netlist, an operand's
+    -- value is below that of what stands for it.
     stand-up : (v : List Value) → ((k : ℕ) → Below (getD v k undefined) (getD (settled b x) k undefined))
         → ((k : ℕ) → k < gateCount b → member k (cut .gates) ≡ false
         → Below (getD v k undefined) (getD (settled after x) (newNumber b cut k) undefined))

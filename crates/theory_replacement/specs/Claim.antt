@@ -25,8 +25,8 @@ use Rattle.netlist.specs.Rendering.{isStraight}
 use Rattle.netlist.specs.Cover.{isSound}
 use Rattle.netlist.specs.Compare.{Accepts}
 use Rattle.netlist.specs.Gather.{numberAt}
-use Rattle.theory_replacement.specs.Placing.{isComplete, nodes, rewired, inPlace, Cut, netValues, shownUnder, usesInput}
-use Rattle.theory_replacement.specs.Placing.{DependsOnNone}
+use Rattle.theory_replacement.specs.Placing.{isComplete, nodes, rewired, inPlace, Cut, netValues, shownUnder}
+use Rattle.theory_replacement.specs.Placing.{usesInput, DependsOnNone}
 use Rattle.theory_replacement.specs.Group.{isShown, boundary, cutOf, ownBlock}
 use Rattle.theory_replacement.specs.Replaced.{newNumber, replaced}
 

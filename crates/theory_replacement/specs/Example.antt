@@ -15,7 +15,8 @@ use Rattle.theory_replacement.specs.Placing.{nodes, rewired, inPlace}
 use Rattle.theory_replacement.specs.Group.{sameNet, isOutsideNet, firstOnes, operandsOf, boundary, isShown}
 use Rattle.theory_replacement.specs.Group.{isReadOutside, ports, cutOf, netPlace, ownOperand}
 use Rattle.theory_replacement.specs.Group.{ownBlock}
-use Rattle.theory_replacement.specs.Replaced.{outside, newNumber, behindOutside, newNets, newOperand, standIn, replaced}
+use Rattle.theory_replacement.specs.Replaced.{outside, newNumber, behindOutside, newNets, newOperand, standIn}
+use Rattle.theory_replacement.specs.Replaced.{replaced}
 
 abbrev gateWith : ℕ → List Operand → Gate
 gateWith kind operands = record { kind = kind; operands = operands }
@@ -68,11 +69,13 @@ its-group = refl
 
 pub its-block : ownBlock netlist (0 ∷ 2 ∷ []) (ascii "a" ∷ ascii "n" ∷ []) (ascii "q" ∷ [])
     (record { fixed = 3; ones = 1 } ∷ []) ≡ loop
-unfolding gateOperand readBy reads sameNet isOutsideNet firstOnes operandsOf boundary isShown isReadOutside ports netPlace ownOperand rewired
+unfolding gateOperand readBy reads sameNet isOutsideNet firstOnes operandsOf boundary isShown isReadOutside ports
+    netPlace ownOperand rewired
     numberAt placeIn ownBlock
 its-block = refl
 
 pub its-replacement : replaced netlist (cutOf netlist (0 ∷ 2 ∷ [])) straight ≡ loopTakenOut
-unfolding gateOperand readBy reads sameNet isOutsideNet firstOnes operandsOf boundary isShown isReadOutside ports cutOf nodes rewired inPlace
+unfolding gateOperand readBy reads sameNet isOutsideNet firstOnes operandsOf boundary isShown isReadOutside ports cutOf
+    nodes rewired inPlace
     numberAt placeIn renumbered outside newNumber behindOutside newNets newOperand standIn replaced
 its-replacement = refl

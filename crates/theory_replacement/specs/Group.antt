@@ -19,7 +19,7 @@ use Rattle.theory_replacement.specs.Placing.{Cut, rewired}
 
 -- ---- its boundary
 
--- the same input or the same gate; constants are no nets
+-- two operands are one net: one input, or one gate; constants are no nets
 unfoldable pub sameNet : Operand → Operand → Bool
 sameNet (input i) (input k) = eqb i k
 sameNet (input i) (gate k) = false

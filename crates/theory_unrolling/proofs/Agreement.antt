@@ -19,7 +19,8 @@ use Rattle.prelude.proofs.Lists.{member-cases}
 use Rattle.netlist.specs.Values.{Value, undefined, val, isDefined}
 use Rattle.netlist.specs.Netlist.{Operand, input, gate, constant, Output, Block, inputCount, gateCount}
 use Rattle.netlist.specs.StoredBlock.{isNode, isWellFormed}
-use Rattle.netlist.specs.Rounds.{operandValue, outputValue, settingOf, settingCount, settledUnder, outputsUnder, isSettled, isExcluded}
+use Rattle.netlist.specs.Rounds.{operandValue, outputValue, settingOf, settingCount, settledUnder, outputsUnder}
+use Rattle.netlist.specs.Rounds.{isSettled, isExcluded}
 use Rattle.netlist.specs.Cover.{isSound}
 use Rattle.netlist.specs.Groups.{groups}
 use Rattle.netlist.specs.Rendering.{passes, schedule, copiedOperand, lastCopies, rendering, sweep}
@@ -34,15 +35,16 @@ use Rattle.theory_reach.proofs.Inside.{wellFormed-inside}
 use Rattle.theory_reach.proofs.Order.{groups-all}
 use Rattle.theory_unrolling.specs.Copies.{scheduleOf, groupAt, gatesBefore}
 use Rattle.theory_unrolling.proofs.Follows.{gatesBefore-next, group-follows}
-use Rattle.theory_unrolling.proofs.PassCount.{length-before, before-inside, before-below, settled-state, enough-at, passCount-enough}
+use Rattle.theory_unrolling.proofs.PassCount.{length-before, before-inside, before-below, settled-state}
+use Rattle.theory_unrolling.proofs.PassCount.{enough-at, passCount-enough}
 use Rattle.theory_unrolling.proofs.Schedule.{passes-member, scheduleOf-take, scheduleOf-all}
 use Rattle.theory_unrolling.proofs.Sound.{sound-settledAt}
 use Rattle.theory_unrolling.proofs.Run.{lastCopy-value}
 
 module _ (b : Block) where
   module _ (s : ℕ) (l : s < settingCount b) (mayCome : isExcluded b s ≡ false) where
-    -- Under a setting that may come, the passes over a group, from a state where the groups before it are above their settled values, put it
-    -- above its own: they do so from undefined, and a run keeps the order of two states.
+    -- Under a setting that may come, the passes over a group, from a state where the groups before it are above their
+    -- settled values, put it above its own: they do so from undefined, and a run keeps the order of two states.
     group-above : (t : ℕ) → t < length (groups b) → (v : List Value) → length v ≡ gateCount b
         → BelowOn (Listed (gatesBefore b t)) (settledUnder b s) v
         → BelowOn (λ k. Listed (gatesBefore b t) k ⊎ Listed (groupAt b t) k) (settledUnder b s)
@@ -52,7 +54,8 @@ module _ (b : Block) where
         below-trans
         (below-of-eq
         (ap (λ (u : List Value). getD u j undefined)
-        (sym (settled-state b group s (passCount b group) (enough-at b group (passCount b group) (passCount-enough b t there) s l mayCome)))))
+        (sym (settled-state b group s (passCount b group)
+        (enough-at b group (passCount b group) (passCount-enough b t there) s l mayCome)))))
         (run-mono-on b (settingOf (inputCount b) s) Known (passes b group)
         (λ i k m r. group-follows b t there .inside i k (passes-member b group i m) r)
         (beforePasses b group s) v (length-before b group s ∙ sym sized) start j here)
@@ -70,27 +73,33 @@ module _ (b : Block) where
     module _ (v : List Value) (sized : length v ≡ gateCount b) where
       -- After the passes over the first groups, from any start, their gates are above the settled values.
       pub groups-above : (t : ℕ) → t ≤ length (groups b)
-          → BelowOn (Listed (gatesBefore b t)) (settledUnder b s) (run b (settingOf (inputCount b) s) (scheduleOf b (take t (groups b))) v)
+          → BelowOn (Listed (gatesBefore b t)) (settledUnder b s)
+          (run b (settingOf (inputCount b) s) (scheduleOf b (take t (groups b))) v)
       groups-above zero h = λ j m. absurd (false≢true m)
       groups-above (suc t) h =
           let x = settingOf (inputCount b) s in
           let before = run b x (scheduleOf b (take t (groups b))) v in
-          let r = group-above t h before (length-run b x (scheduleOf b (take t (groups b))) v ∙ sized) (groups-above t (omega arith)) in
-          λ j m. rw (scheduleOf-take b t h, run-append b x (scheduleOf b (take t (groups b))) (passes b (groupAt b t)) v)
+          let r = group-above t h before (length-run b x (scheduleOf b (take t (groups b))) v ∙ sized)
+          (groups-above t (omega arith)) in
+          λ j m.
+          rw (scheduleOf-take b t h, run-append b x (scheduleOf b (take t (groups b))) (passes b (groupAt b t)) v)
           (r j (member-cases j (gatesBefore b t) (groupAt b t) (rw (gatesBefore-next b t h) at m)))
 
       -- After a run along the schedule, from any start, every gate is above its settled value.
       pub schedule-above : Inside b → (j : ℕ) → j < gateCount b
-          → Below (getD (settledUnder b s) j undefined) (getD (run b (settingOf (inputCount b) s) (schedule b) v) j undefined)
+          → Below (getD (settledUnder b s) j undefined)
+          (getD (run b (settingOf (inputCount b) s) (schedule b) v) j undefined)
       schedule-above inside j k =
           rw (scheduleOf-all b) at
           (groups-above (length (groups b)) (omega arith) j (rw (take-length (groups b)) (groups-all b inside j k)))
 
     -- In every block, under every setting that may come, a gate whose settled value is 0 or 1 has it at its last copy.
     pub agreement : Inside b → (j : ℕ) → j < gateCount b → let x = settingOf (inputCount b) s in
-        Below (getD (settledUnder b s) j undefined) (operandValue x (sweep (rendering b) x) (getD (lastCopies b) j (constant false)))
+        Below (getD (settledUnder b s) j undefined)
+        (operandValue x (sweep (rendering b) x) (getD (lastCopies b) j (constant false)))
     agreement inside j k =
-        below-trans (schedule-above (replicate (gateCount b) (val false)) (length-replicate (gateCount b) (val false)) inside j k)
+        below-trans (schedule-above (replicate (gateCount b) (val false)) (length-replicate (gateCount b) (val false))
+        inside j k)
         (below-of-eq (sym (lastCopy-value b (settingOf (inputCount b) s) inside j k)))
 
     -- So has an output that shows 0 or 1: the gates that it does not show may be undefined.
@@ -103,7 +112,8 @@ module _ (b : Block) where
     node-agrees w (gate j) k d =
         let x = settingOf (inputCount b) s in
         sym
-        (below-defined (getD (settledUnder b s) j undefined) (operandValue x (sweep (rendering b) x) (getD (lastCopies b) j (constant false)))
+        (below-defined (getD (settledUnder b s) j undefined)
+        (operandValue x (sweep (rendering b) x) (getD (lastCopies b) j (constant false)))
         (agreement (wellFormed-inside b w) j (ltb-true j (gateCount b) k)) d)
 
   -- what an output of the rendering shows
@@ -114,12 +124,16 @@ module _ (b : Block) where
   unfolding rendering shown
   rendering-shown = refl
 
-  -- Under a settled setting that may come the outputs' values, read from a sweep of the rendering, are the original's, output by output.
-  pub outputs-agree : isWellFormed b ≡ true → (s : ℕ) → s < settingCount b → isExcluded b s ≡ false → isSettled b s ≡ true
+  -- Under a settled setting that may come the outputs' values, read from a sweep of the rendering, are the original's,
+  -- output by output.
+  pub outputs-agree : isWellFormed b ≡ true → (s : ℕ) → s < settingCount b → isExcluded b s ≡ false
+      → isSettled b s ≡ true
       → let x = settingOf (inputCount b) s in
-      map (outputValue x (sweep (rendering b) x)) (rendering b .outputs) ≡ map (outputValue x (settledUnder b s)) (b .outputs)
+      map (outputValue x (sweep (rendering b) x)) (rendering b .outputs)
+      ≡ map (outputValue x (settledUnder b s)) (b .outputs)
   unfolding outputValue shown isSettled outputsUnder
-  outputs-agree w s l e h = ap (map (outputValue x (sweep (rendering b) x))) rendering-shown ∙ go (b .outputs) (wellFormed-parts b w .nodesThere) h
+  outputs-agree w s l e h = ap (map (outputValue x (sweep (rendering b) x))) rendering-shown
+      ∙ go (b .outputs) (wellFormed-parts b w .nodesThere) h
     where
       x : List Value
       x = settingOf (inputCount b) s
@@ -135,11 +149,15 @@ module _ (b : Block) where
       go [] k d = refl
       go (o ∷ os) k d =
           ap₂ (λ (v : Value) (vs : List Value). v ∷ vs)
-          (node-agrees s l e w (o .node) (and-left (there o) (all there os) k) (and-left (isDefined (defined o)) (all isDefined (map defined os)) d))
-          (go os (and-right (there o) (all there os) k) (and-right (isDefined (defined o)) (all isDefined (map defined os)) d))
+          (node-agrees s l e w (o .node) (and-left (there o) (all there os) k)
+          (and-left (isDefined (defined o)) (all isDefined (map defined os)) d))
+          (go os (and-right (there o) (all there os) k)
+          (and-right (isDefined (defined o)) (all isDefined (map defined os)) d))
 
   -- In a sound block they are under every setting that may come.
-  pub sound-outputs-agree : isWellFormed b ≡ true → isSound b ≡ true → (s : ℕ) → s < settingCount b → isExcluded b s ≡ false
+  pub sound-outputs-agree : isWellFormed b ≡ true → isSound b ≡ true → (s : ℕ) → s < settingCount b
+      → isExcluded b s ≡ false
       → let x = settingOf (inputCount b) s in
-      map (outputValue x (sweep (rendering b) x)) (rendering b .outputs) ≡ map (outputValue x (settledUnder b s)) (b .outputs)
+      map (outputValue x (sweep (rendering b) x)) (rendering b .outputs)
+      ≡ map (outputValue x (settledUnder b s)) (b .outputs)
   sound-outputs-agree w h s l e = outputs-agree w s l e (sound-settledAt b h s l e)

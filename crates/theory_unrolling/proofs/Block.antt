@@ -1,6 +1,7 @@
--- The rendering as a block: it is straight, has as many gates as there are copies, the original's inputs and ports, and is well-formed where
--- the original is and there is room. Render's code cites it.
---   rendering-count, rendering-inputs, rendering-nevers, rendering-ports   gates are copies; names and never lines are kept
+-- The rendering as a block: it is straight, has as many gates as there are copies, the original's inputs and ports, and
+-- is well-formed where the original is and there is room. Render's code cites it.
+--   rendering-count                                        its gates are the copies
+--   rendering-inputs, rendering-nevers, rendering-ports    names and never lines are kept
 --   rendering-straight             it is straight
 --   lastCopies-*, rendering-node   what stands for each gate in the end, and what outputs show
 --   rendering-wellFormed           it is well-formed
@@ -31,8 +32,9 @@ use Rattle.theory_reach.specs.Inside.{Inside}
 use Rattle.theory_reach.proofs.Inside.{wellFormed-inside}
 use Rattle.theory_reach.proofs.ListFacts.{all-intro}
 use Rattle.theory_unrolling.specs.Copies.{IsCopy, AreCopies, newestAt}
-use Rattle.theory_unrolling.proofs.Copies.{noCopies-areCopies, length-noCopies, length-newestAfter, newestAfter-areCopies, newestAfter-copied}
-use Rattle.theory_unrolling.proofs.Copies.{length-copies, getD-copies, copied-reads}
+use Rattle.theory_unrolling.proofs.Copies.{noCopies-areCopies, length-noCopies, length-newestAfter}
+use Rattle.theory_unrolling.proofs.Copies.{newestAfter-areCopies, newestAfter-copied, length-copies, getD-copies}
+use Rattle.theory_unrolling.proofs.Copies.{copied-reads}
 use Rattle.theory_unrolling.proofs.Schedule.{length-schedule, member-schedule, schedule-below}
 
 module _ (b : Block) where
@@ -46,13 +48,14 @@ module _ (b : Block) where
   unfolding rendering
   rendering-inputs = refl
 
-  -- its never lines,
+  -- The rendering has the original's never lines.
   pub rendering-nevers : rendering b .nevers ≡ b .nevers
   unfolding rendering
   rendering-nevers = refl
 
-  -- and its ports, in order.
-  pub rendering-ports : map (λ (o : Output). o .port) (rendering b .outputs) ≡ map (λ (o : Output). o .port) (b .outputs)
+  -- The rendering has the original's ports, in order.
+  pub rendering-ports : map (λ (o : Output). o .port) (rendering b .outputs)
+      ≡ map (λ (o : Output). o .port) (b .outputs)
   unfolding rendering
   rendering-ports = go (b .outputs)
     where
@@ -71,7 +74,8 @@ module _ (b : Block) where
       → gateOf (rendering b) j ≡ copied (newestAt b j) (gateOf b (getD (schedule b) j 0))
   unfolding rendering newestAt
   gateOf-rendering j l =
-      getD-copies b (noCopies b) 0 (schedule b) j (record { kind = 0; operands = [] }) (rw (length-copies b (noCopies b) 0 (schedule b)) at l)
+      getD-copies b (noCopies b) 0 (schedule b) j (record { kind = 0; operands = [] })
+      (rw (length-copies b (noCopies b) 0 (schedule b)) at l)
 
   newestAt-areCopies : (j : ℕ) → j < gateCount (rendering b) → AreCopies j (newestAt b j)
   unfolding newestAt
@@ -87,7 +91,8 @@ module _ (b : Block) where
       below-all (λ j. all (λ i. ltb i j) (readBy (rendering b) j)) (gateCount (rendering b))
       (λ j l. all-intro (λ i. ltb i j) (readBy (rendering b) j)
       (λ k m. lt-ltb k j
-      (copied-reads j (newestAt b j) (newestAt-areCopies j l) (gateOf b (getD (schedule b) j 0)) k (rw (gateOf-rendering j l) at m))))
+      (copied-reads j (newestAt b j) (newestAt-areCopies j l) (gateOf b (getD (schedule b) j 0)) k
+      (rw (gateOf-rendering j l) at m))))
 
   -- ---- the last copies
 
@@ -126,11 +131,14 @@ module _ (b : Block) where
     operand-fits (gate j) k = copy-fits (getD newest j (constant false)) (h j)
     operand-fits (constant c) k = refl
 
-    operands-fit : (os : List Operand) → all (isOperand b) os ≡ true → all (isOperand (rendering b)) (map (copiedOperand newest) os) ≡ true
+    operands-fit : (os : List Operand) → all (isOperand b) os ≡ true
+        → all (isOperand (rendering b)) (map (copiedOperand newest) os) ≡ true
     operands-fit [] k = refl
     operands-fit (o ∷ os) k =
-        and-intro (isOperand (rendering b) (copiedOperand newest o)) (all (isOperand (rendering b)) (map (copiedOperand newest) os))
-        (operand-fits o (and-left (isOperand b o) (all (isOperand b) os) k)) (operands-fit os (and-right (isOperand b o) (all (isOperand b) os) k))
+        and-intro (isOperand (rendering b) (copiedOperand newest o))
+        (all (isOperand (rendering b)) (map (copiedOperand newest) os))
+        (operand-fits o (and-left (isOperand b o) (all (isOperand b) os) k))
+        (operands-fit os (and-right (isOperand b o) (all (isOperand b) os) k))
 
     gate-fits : (g : Gate) → gateFits b g ≡ true → gateFits (rendering b) (copied newest g) ≡ true
     unfolding gateFits copied
@@ -140,9 +148,11 @@ module _ (b : Block) where
         (all (isOperand (rendering b)) (map (copiedOperand newest) (g .operands)))
         (and-left (isKind (g .kind) && arityFits (g .kind) (length (g .operands))) (all (isOperand b) (g .operands)) k)
         (operands-fit (g .operands)
-        (and-right (isKind (g .kind) && arityFits (g .kind) (length (g .operands))) (all (isOperand b) (g .operands)) k)))
+        (and-right (isKind (g .kind) && arityFits (g .kind) (length (g .operands)))
+        (all (isOperand b) (g .operands)) k)))
 
-  node-fits : Inside b → (o : Operand) → isNode b o ≡ true → isNode (rendering b) (copiedOperand (lastCopies b) o) ≡ true
+  node-fits : Inside b → (o : Operand) → isNode b o ≡ true
+      → isNode (rendering b) (copiedOperand (lastCopies b) o) ≡ true
   unfolding isNode copiedOperand rendering
   node-fits inside (input i) k = k
   node-fits inside (gate j) k =
@@ -162,7 +172,8 @@ module _ (b : Block) where
   unfolding rendering
   rendering-node i d e l =
       ap (λ (o : Output). o .node)
-      (getD-map (λ (o : Output). record { port = o .port; node = copiedOperand (lastCopies b) (o .node) }) (b .outputs) i e d l)
+      (getD-map (λ (o : Output). record { port = o .port; node = copiedOperand (lastCopies b) (o .node) }) (b .outputs)
+      i e d l)
 
   -- The rendering of a well-formed block is well-formed, if there are not too many copies.
   pub rendering-wellFormed : isWellFormed b ≡ true → copyCount b ≤ maxCopies → isWellFormed (rendering b) ≡ true

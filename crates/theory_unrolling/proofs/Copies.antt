@@ -1,5 +1,5 @@
--- Copies of a list of gates, and what stands for each gate after them: over a list and then another, their number, kinds, operand
--- counts and operands. Render's code and every other file of this crate cite it.
+-- Copies of a list of gates, and what stands for each gate after them: over a list and then another, their number,
+-- kinds, operand counts and operands. Render's code and every other file of this crate cite it.
 --   newestAfter-*                             what stands for each gate, after a list and another
 --   copies-append, copies-snoc, getD-copies   the copies of a list
 --   copied-kind, length-copied, getD-copied   a copy's kind and operands
@@ -7,7 +7,7 @@
 -- Assumes nothing.
 use Prim.Native.Nat.{ℕ, zero, suc, _+_, _≤_, _<_}
 use mathlib.Core.Path.{_≡_, refl, ap, _∙_}
-use mathlib.Core.Logic.{_⊎_, inl, inr, ⊎-elim}
+use mathlib.Core.Logic.{⊎-elim}
 use mathlib.Core.Bool.{Bool, true, false, false≢true}
 use mathlib.Core.List.{List, [], _∷_, _++_, map}
 use native.Mathlib.Omega.{arith}
@@ -29,12 +29,6 @@ constant-not-gate e = let z : _≡_ {A = ℕ} 0 1 = cc in omega arith
 
 -- ---- what stands for the gates
 
--- It is constant 0 or one of the copies made.
-pub isCopy-cases : (t : ℕ) (o : Operand) → IsCopy t o → (o ≡ constant false) ⊎ ((c : ℕ) × (c < t) × (o ≡ gate c))
-isCopy-cases t (input i) h = absurd h
-isCopy-cases t (gate c) h = inr (c, h, refl)
-isCopy-cases t (constant c) h = inl (ap constant h)
-
 -- more copies may be made
 pub isCopy-more : (t u : ℕ) (o : Operand) → t ≤ u → IsCopy t o → IsCopy u o
 isCopy-more t u (input i) l h = h
@@ -54,14 +48,17 @@ length-noCopies b = length-replicate (gateCount b) (constant false)
 pub set-areCopies : (t j : ℕ) (newest : List Operand) → AreCopies t newest → AreCopies (suc t) (set newest j (gate t))
 set-areCopies t j newest h k = go (after-set newest j k (gate t) (constant false))
   where
-    go : AfterSet newest j k (gate t) (constant false) → IsCopy (suc t) (getD (set newest j (gate t)) k (constant false))
+    go : AfterSet newest j k (gate t) (constant false)
+        → IsCopy (suc t) (getD (set newest j (gate t)) k (constant false))
     go (new e l q) = rw q (omega arith)
     go (old n q) = rw q (isCopy-more t (suc t) (getD newest k (constant false)) (omega arith) (h k))
 
-pub length-newestAfter : (newest : List Operand) (t : ℕ) (js : List ℕ) → length (newestAfter newest t js) ≡ length newest
+pub length-newestAfter : (newest : List Operand) (t : ℕ) (js : List ℕ)
+    → length (newestAfter newest t js) ≡ length newest
 unfolding newestAfter
 length-newestAfter newest t [] = refl
-length-newestAfter newest t (j ∷ js) = length-newestAfter (set newest j (gate t)) (suc t) js ∙ length-set newest j (gate t)
+length-newestAfter newest t (j ∷ js) =
+    length-newestAfter (set newest j (gate t)) (suc t) js ∙ length-set newest j (gate t)
 
 -- After the copies of js, what stands for a gate is constant 0 or one of the copies made.
 pub newestAfter-areCopies : (newest : List Operand) (t : ℕ) (js : List ℕ) → AreCopies t newest
@@ -70,7 +67,8 @@ unfolding newestAfter
 newestAfter-areCopies newest t [] h j = isCopy-more t (t + 0) (getD newest j (constant false)) (omega arith) (h j)
 newestAfter-areCopies newest t (i ∷ js) h j =
     let r = newestAfter-areCopies (set newest i (gate t)) (suc t) js (set-areCopies t i newest h) j in
-    isCopy-more (suc t + length js) (t + suc (length js)) (getD (newestAfter (set newest i (gate t)) (suc t) js) j (constant false)) (omega arith) r
+    isCopy-more (suc t + length js) (t + suc (length js))
+    (getD (newestAfter (set newest i (gate t)) (suc t) js) j (constant false)) (omega arith) r
 
 -- What stands for the gates after one list of copies and then another.
 pub newestAfter-append : (newest : List Operand) (t : ℕ) (js ks : List ℕ)
@@ -100,10 +98,12 @@ set-keeps newest t i j h = go (after-set newest i j (gate t) (constant false))
     go (new e l q) = (t, q)
     go (old n q) = (h .0, q ∙ h .1)
 
-newestAfter-keeps : (newest : List Operand) (t : ℕ) (js : List ℕ) (j : ℕ) → HasCopy newest j → HasCopy (newestAfter newest t js) j
+newestAfter-keeps : (newest : List Operand) (t : ℕ) (js : List ℕ) (j : ℕ) → HasCopy newest j
+    → HasCopy (newestAfter newest t js) j
 unfolding newestAfter
 newestAfter-keeps newest t [] j h = h
-newestAfter-keeps newest t (i ∷ js) j h = newestAfter-keeps (set newest i (gate t)) (suc t) js j (set-keeps newest t i j h)
+newestAfter-keeps newest t (i ∷ js) j h =
+    newestAfter-keeps (set newest i (gate t)) (suc t) js j (set-keeps newest t i j h)
 
 has-copied : (newest : List Operand) (t : ℕ) (js : List ℕ) (j : ℕ) → j < length newest → member j js ≡ true
     → HasCopy (newestAfter newest t js) j
@@ -111,7 +111,8 @@ unfolding newestAfter HasCopy
 has-copied newest t [] j l m = absurd (false≢true m)
 has-copied newest t (i ∷ js) j l m =
     ⊎-elim
-    (λ e. newestAfter-keeps (set newest i (gate t)) (suc t) js j (t, rw e (getD-set-same newest i (gate t) (constant false) (rw e at l))))
+    (λ e. newestAfter-keeps (set newest i (gate t)) (suc t) js j
+    (t, rw e (getD-set-same newest i (gate t) (constant false) (rw e at l))))
     (λ s. has-copied (set newest i (gate t)) (suc t) js j (rw length-set l) s) (member-first j i js m)
 
 -- For a gate that is copied stands a copy.
@@ -123,7 +124,8 @@ newestAfter-copied newest t js j l m = has-copied newest t js j l m
 -- ---- copies
 
 -- There is one for each gate listed.
-pub length-copies : (b : Block) (newest : List Operand) (t : ℕ) (js : List ℕ) → length (copies b newest t js) ≡ length js
+pub length-copies : (b : Block) (newest : List Operand) (t : ℕ) (js : List ℕ)
+    → length (copies b newest t js) ≡ length js
 unfolding copies
 length-copies b newest t [] = refl
 length-copies b newest t (j ∷ js) = ap suc (length-copies b (set newest j (gate t)) (suc t) js)
@@ -137,7 +139,8 @@ copies-append b newest t (j ∷ js) ks =
     let e : suc t + length js ≡ t + suc (length js) = omega arith in
     ap (λ (r : List Gate). copied newest (gateOf b j) ∷ r)
     (copies-append b (set newest j (gate t)) (suc t) js ks
-    ∙ ap (λ (u : ℕ). copies b (set newest j (gate t)) (suc t) js ++ copies b (newestAfter (set newest j (gate t)) (suc t) js) u ks) e)
+    ∙ ap (λ (u : ℕ). copies b (set newest j (gate t)) (suc t) js
+    ++ copies b (newestAfter (set newest j (gate t)) (suc t) js) u ks) e)
 
 -- One gate more at the end.
 pub copies-snoc : (b : Block) (newest : List Operand) (t : ℕ) (js : List ℕ) (j : ℕ)
@@ -160,7 +163,7 @@ pub copied-kind : (newest : List Operand) (g : Gate) → copied newest g .kind �
 unfolding copied
 copied-kind newest g = refl
 
--- and as many operands.
+-- A copy has as many operands as its gate.
 pub length-copied : (newest : List Operand) (g : Gate) → length (copied newest g .operands) ≡ length (g .operands)
 unfolding copied
 length-copied newest g = length-map (g .operands) (copiedOperand newest)
@@ -194,4 +197,5 @@ copied-reads t newest h g k m = go (g .operands) m
     go [] m = absurd (false≢true m)
     go (o ∷ os) m =
         ⊎-elim (one (copiedOperand newest o) (copiedOperand-below t newest h o)) (go os)
-        (member-cases k (gateOperand (copiedOperand newest o)) (joined (map gateOperand (map (copiedOperand newest) os))) m)
+        (member-cases k (gateOperand (copiedOperand newest o))
+        (joined (map gateOperand (map (copiedOperand newest) os))) m)

@@ -1,17 +1,16 @@
 -- The number of copies: over the groups, each one's size times its passes; and its bounds. Render cites it.
 --   copyCount-least                          at least as many copies as gates
---   copies-take                              those of the first groups are at most all
 --   copyCount-loopless, copyCount-straight   as many copies as gates where no gate reaches itself
 -- Assumes nothing.
 use Prim.Native.Nat.{ℕ, zero, suc, _*_, _≤_, _<_}
 use mathlib.Core.Path.{_≡_, refl, sym, ap, _∙_}
 use mathlib.Core.Bool.{true}
-use mathlib.Core.List.{List, [], map}
+use mathlib.Core.List.{List, []}
 use native.Mathlib.Omega.{arith}
 use native.Mathlib.Nat.{mul-suc}
-use lib.ListN.{length, getD, take, drop, take-append-drop}
+use lib.ListN.{length, getD}
 use Rattle.prelude.specs.Lists.{sum}
-use Rattle.prelude.proofs.Lists.{length-joined, sum-map-append}
+use Rattle.prelude.proofs.Lists.{length-joined}
 use Rattle.netlist.specs.Netlist.{Block, gateCount}
 use Rattle.netlist.specs.Groups.{groups}
 use Rattle.netlist.specs.Passes.{passCount, copyCount}
@@ -43,25 +42,18 @@ module _ (b : Block) where
       one : (group : List ℕ) → length group ≤ copiesOf b group
       one group = le-times (length group) (passCount b group) (passCount-some b group)
 
-  -- the copies of the first groups are at most all
-  pub copies-take : (t : ℕ) → sum (map (copiesOf b) (take t (groups b))) ≤ copyCount b
-  unfolding copyCount
-  copies-take t =
-      let e = sum-map-append (copiesOf b) (take t (groups b)) (drop t (groups b)) in
-      let f = ap (λ (l : List (List ℕ)). sum (map (copiesOf b) l)) (take-append-drop t (groups b)) in
-      omega arith
-
   -- without loops there is one copy of each gate,
   pub copyCount-loopless : Inside b → Loopless b → copyCount b ≡ gateCount b
   unfolding copyCount
   copyCount-loopless inside f =
-      ap sum (map-same (copiesOf b) length (groups b) [] one) ∙ sym (length-joined (groups b)) ∙ length-joined-groups b inside
+      ap sum (map-same (copiesOf b) length (groups b) [] one) ∙ sym (length-joined (groups b))
+      ∙ length-joined-groups b inside
     where
       one : (t : ℕ) → t < length (groups b) → copiesOf b (getD (groups b) t []) ≡ length (getD (groups b) t [])
       one t l =
           let e : length (getD (groups b) t []) ≡ 1 = rw (groups-single b f t l .2) refl in
           rw (passCount-one b t l e, e)
 
-  -- and so in a straight block
+  -- a straight block has as many copies as gates
   pub copyCount-straight : isStraight b ≡ true → copyCount b ≡ gateCount b
   copyCount-straight s = copyCount-loopless (straight-inside b s) (straight-loopless b s)

@@ -27,6 +27,8 @@ module _ (b : Block) where
         inside =
             λ j k m r. member-cases k (gatesBefore b t) (groupAt b t)
             (rw (gatesBefore-next t l) at
-            (groups-closed b (suc t) j k (rw (gatesBefore-next t l) (member-right j (gatesBefore b t) (groupAt b t) m)) r));
-        apart = λ k m n. once-apart (gatesBefore b t) (groupAt b t) (rw (gatesBefore-next t l) at (groups-numbered b (suc t) .once)) k m n;
+            (groups-closed b (suc t) j k
+            (rw (gatesBefore-next t l) (member-right j (gatesBefore b t) (groupAt b t) m)) r));
+        apart = λ k m n. once-apart (gatesBefore b t) (groupAt b t)
+            (rw (gatesBefore-next t l) at (groups-numbered b (suc t) .once)) k m n;
       }

@@ -1,6 +1,5 @@
 -- A straight block renders to itself: the record itself, so its words and its text too.
---   rendering-itself         a straight block
---   rendering-itself-words   its words
+--   rendering-itself   the law
 -- Assumes nothing.
 use Prim.Native.Nat.{ℕ, zero, suc, _≤_, _<_}
 use mathlib.Core.Path.{_≡_, refl, sym, ap, _∙_}
@@ -17,9 +16,10 @@ use Rattle.prelude.proofs.Tests.{and-left, and-right, eq-or-ne}
 use Rattle.prelude.proofs.Tab.{length-tab}
 use Rattle.prelude.proofs.Lists.{member-head, member-rest}
 use Rattle.netlist.specs.Netlist.{Operand, input, gate, constant, Gate, Output, Block, gateCount, gateOf}
-use Rattle.netlist.specs.StoredBlock.{isNode, isWellFormed, encode}
+use Rattle.netlist.specs.StoredBlock.{isNode, isWellFormed}
 use Rattle.netlist.specs.Groups.{gateOperand, readBy, reads}
-use Rattle.netlist.specs.Rendering.{isStraight, noCopies, copiedOperand, copied, copies, newestAfter, lastCopies, rendering}
+use Rattle.netlist.specs.Rendering.{isStraight, noCopies, copiedOperand, copied, copies, newestAfter, lastCopies}
+use Rattle.netlist.specs.Rendering.{rendering}
 use Rattle.theory_encoding.proofs.WellFormed.{wellFormed-parts}
 use Rattle.theory_reach.proofs.Straight.{straight-reads}
 use Rattle.theory_unrolling.proofs.Copies.{length-noCopies, length-newestAfter, newestAfter-snoc, copies-snoc}
@@ -38,16 +38,18 @@ operands-kept newest (gate j ∷ os) h =
     (ap (λ (r : List Operand). gate j ∷ r)
     (operands-kept newest os (λ k m. h k (member-rest k j (joined (map gateOperand os)) m))))
 
--- and the gate is its own copy
+-- a gate whose operands' gates stand for themselves is its own copy
 copied-kept : (newest : List Operand) (g : Gate)
     → ((k : ℕ) → member k (joined (map gateOperand (g .operands))) ≡ true → getD newest k (constant false) ≡ gate k)
     → copied newest g ≡ g
 unfolding copied
-copied-kept newest g h = ap (λ (os : List Operand). record { kind = g .kind; operands = os }) (operands-kept newest (g .operands) h)
+copied-kept newest g h =
+    ap (λ (os : List Operand). record { kind = g .kind; operands = os }) (operands-kept newest (g .operands) h)
 
 module _ (b : Block) where
   -- after gates 0 .. t - 1 each stands for itself
-  newest-upTo : (t : ℕ) → t ≤ gateCount b → (j : ℕ) → j < t → getD (newestAfter (noCopies b) 0 (upTo t)) j (constant false) ≡ gate j
+  newest-upTo : (t : ℕ) → t ≤ gateCount b → (j : ℕ) → j < t
+      → getD (newestAfter (noCopies b) 0 (upTo t)) j (constant false) ≡ gate j
   newest-upTo zero h j l = absurd (omega arith)
   newest-upTo (suc t) h j l =
       rw (newestAfter-snoc (noCopies b) 0 (upTo t) t, length-tab (λ k. k) t, zero-add)
@@ -57,9 +59,11 @@ module _ (b : Block) where
       before = newestAfter (noCopies b) 0 (upTo t)
 
       same : j ≡ t → getD (set before t (gate t)) j (constant false) ≡ gate j
-      same e = rw e (getD-set-same before t (gate t) (constant false) (rw (length-newestAfter (noCopies b) 0 (upTo t), length-noCopies b) h))
+      same e = rw e (getD-set-same before t (gate t) (constant false)
+          (rw (length-newestAfter (noCopies b) 0 (upTo t), length-noCopies b) h))
 
-      other : (j ≡ t → ⊥) → getD before j (constant false) ≡ gate j → getD (set before t (gate t)) j (constant false) ≡ gate j
+      other : (j ≡ t → ⊥) → getD before j (constant false) ≡ gate j
+          → getD (set before t (gate t)) j (constant false) ≡ gate j
       other n e = getD-set-other before t j (gate t) (constant false) n ∙ e
 
   module _ (s : isStraight b ≡ true) where
@@ -69,21 +73,25 @@ module _ (b : Block) where
     copies-upTo zero h = refl
     copies-upTo (suc t) h =
         copies-snoc b (noCopies b) 0 (upTo t) t
-        ∙ ap (λ (r : List Gate). r ++ (copied (newestAfter (noCopies b) 0 (upTo t)) (gateOf b t) ∷ [])) (copies-upTo t (omega arith))
+        ∙ ap (λ (r : List Gate). r ++ (copied (newestAfter (noCopies b) 0 (upTo t)) (gateOf b t) ∷ []))
+        (copies-upTo t (omega arith))
         ∙ ap (λ (g : Gate). take t (b .gates) ++ (g ∷ []))
-        (copied-kept (newestAfter (noCopies b) 0 (upTo t)) (gateOf b t) (λ k m. newest-upTo t (omega arith) k (straight-reads b s t k m)))
+        (copied-kept (newestAfter (noCopies b) 0 (upTo t)) (gateOf b t)
+        (λ k m. newest-upTo t (omega arith) k (straight-reads b s t k m)))
         ∙ sym (take-suc (b .gates) t (record { kind = 0; operands = [] }) h)
 
     gates-kept : rendering b .gates ≡ b .gates
     unfolding rendering
     gates-kept =
-        ap (copies b (noCopies b) 0) (schedule-straight b s) ∙ copies-upTo (gateCount b) (omega arith) ∙ take-length (b .gates)
+        ap (copies b (noCopies b) 0) (schedule-straight b s) ∙ copies-upTo (gateCount b) (omega arith)
+        ∙ take-length (b .gates)
 
     node-kept : (o : Operand) → isNode b o ≡ true → copiedOperand (lastCopies b) o ≡ o
     unfolding copiedOperand lastCopies isNode
     node-kept (input i) h = refl
     node-kept (constant c) h = refl
-    node-kept (gate j) h = rw (schedule-straight b s) (newest-upTo (gateCount b) (omega arith) j (ltb-true j (gateCount b) h))
+    node-kept (gate j) h =
+        rw (schedule-straight b s) (newest-upTo (gateCount b) (omega arith) j (ltb-true j (gateCount b) h))
 
     outputs-kept : (os : List Output) → all (λ o. isNode b (o .node)) os ≡ true
         → map (λ (o : Output). record { port = o .port; node = copiedOperand (lastCopies b) (o .node) }) os ≡ os
@@ -98,13 +106,19 @@ module _ (b : Block) where
     pub rendering-itself-of : all (λ o. isNode b (o .node)) (b .outputs) ≡ true → rendering b ≡ b
     unfolding rendering
     rendering-itself-of h =
-        ap (λ (gs : List Gate). record { inputs = b .inputs; nevers = b .nevers; gates = gs; outputs = rendering b .outputs }) gates-kept
-        ∙ ap (λ (os : List Output). record { inputs = b .inputs; nevers = b .nevers; gates = b .gates; outputs = os }) (outputs-kept (b .outputs) h)
+        ap (λ (gs : List Gate). record {
+          inputs = b .inputs;
+          nevers = b .nevers;
+          gates = gs;
+          outputs = rendering b .outputs;
+        }) gates-kept
+        ∙ ap (λ (os : List Output). record {
+          inputs = b .inputs;
+          nevers = b .nevers;
+          gates = b .gates;
+          outputs = os;
+        }) (outputs-kept (b .outputs) h)
 
   -- A straight block renders to itself,
   pub rendering-itself : isWellFormed b ≡ true → isStraight b ≡ true → rendering b ≡ b
   rendering-itself w s = rendering-itself-of s (wellFormed-parts b w .nodesThere)
-
-  -- word for word.
-  pub rendering-itself-words : isWellFormed b ≡ true → isStraight b ≡ true → encode (rendering b) ≡ encode b
-  rendering-itself-words w s = ap encode (rendering-itself w s)

@@ -12,7 +12,8 @@ use Rattle.prelude.proofs.Lists.{member-right}
 pub length-repeated : {A : Type 0} (n : ℕ) (xs : List A) → length (repeated n xs) ≡ n * length xs
 length-repeated zero xs = sym (zero-mul (length xs))
 length-repeated (suc n) xs =
-    length-append (repeated n xs) xs ∙ ap (λ (k : ℕ). k + length xs) (length-repeated n xs) ∙ sym (suc-mul n (length xs))
+    length-append (repeated n xs) xs ∙ ap (λ (k : ℕ). k + length xs) (length-repeated n xs)
+    ∙ sym (suc-mul n (length xs))
 
 pub member-repeated-from : (x n : ℕ) (xs : List ℕ) → 1 ≤ n → member x xs ≡ true → member x (repeated n xs) ≡ true
 member-repeated-from x zero xs l h = absurd (omega arith)

@@ -18,7 +18,8 @@ use lib.Dec.{eqb}
 use lib.ListN.{length, getD, List·getD-eq-default}
 use lib.Seq.{ext-getD}
 use Rattle.prelude.specs.Lists.{repeated, upTo, member, least}
-use Rattle.prelude.proofs.Tests.{bool-cases, lt-or-le, not-both, not-true-false, or-left, or-right, or-cases, or-neither}
+use Rattle.prelude.proofs.Tests.{bool-cases, lt-or-le, not-both, not-true-false, or-left, or-right, or-cases}
+use Rattle.prelude.proofs.Tests.{or-neither}
 use Rattle.prelude.proofs.Quantifiers.{all-below, below-all}
 use Rattle.prelude.proofs.Tab.{length-tab, getD-tab}
 use Rattle.prelude.proofs.Least.{least-below, least-at, least-is}
@@ -57,7 +58,8 @@ module _ (b : Block) (group : List ℕ) (s : ℕ) where
   length-before = length-tab (λ j. cond (member j group) undefined (getD (settledUnder b s) j undefined)) (gateCount b)
 
   -- Before the passes the group's gates are undefined, and every other gate is settled.
-  pub before-at : (j : ℕ) → getD (beforePasses b group s) j undefined ≡ cond (member j group) undefined (getD (settledUnder b s) j undefined)
+  pub before-at : (j : ℕ) → getD (beforePasses b group s) j undefined
+      ≡ cond (member j group) undefined (getD (settledUnder b s) j undefined)
   unfolding beforePasses settledUnder
   before-at j = go (lt-or-le j (gateCount b))
     where
@@ -66,26 +68,31 @@ module _ (b : Block) (group : List ℕ) (s : ℕ) where
       undefined-both false = refl
 
       go : (j < gateCount b) ⊎ (gateCount b ≤ j)
-          → getD (beforePasses b group s) j undefined ≡ cond (member j group) undefined (getD (settledUnder b s) j undefined)
-      go (inl l) = getD-tab (λ j. cond (member j group) undefined (getD (settledUnder b s) j undefined)) (gateCount b) j undefined l
+          → getD (beforePasses b group s) j undefined
+          ≡ cond (member j group) undefined (getD (settledUnder b s) j undefined)
+      go (inl l) = getD-tab (λ j. cond (member j group) undefined (getD (settledUnder b s) j undefined)) (gateCount b) j
+          undefined l
       go (inr l) =
           let e : getD (beforePasses b group s) j undefined ≡ undefined =
           List·getD-eq-default (beforePasses b group s) undefined {n = j} (rw length-before l) in
           let f : getD (settledUnder b s) j undefined ≡ undefined =
-          List·getD-eq-default (settledUnder b s) undefined {n = j} (rw (length-settled b (settingOf (inputCount b) s)) l) in
+          List·getD-eq-default (settledUnder b s) undefined {n = j}
+          (rw (length-settled b (settingOf (inputCount b) s)) l) in
           e ∙ undefined-both (member j group) ∙ ap (cond (member j group) undefined) (sym f)
 
   pub before-inside : (j : ℕ) → member j group ≡ true → getD (beforePasses b group s) j undefined ≡ undefined
   before-inside j m = before-at j ∙ rw m refl
 
-  pub before-outside : (j : ℕ) → member j group ≡ false → getD (beforePasses b group s) j undefined ≡ getD (settledUnder b s) j undefined
+  pub before-outside : (j : ℕ) → member j group ≡ false
+      → getD (beforePasses b group s) j undefined ≡ getD (settledUnder b s) j undefined
   before-outside j m = before-at j ∙ rw m refl
 
   -- That is below the settled values,
   pub before-below : BelowAll (beforePasses b group s) (settledUnder b s)
   before-below j = rw (before-at j) (go (member j group))
     where
-      go : (m : Bool) → Below (cond m undefined (getD (settledUnder b s) j undefined)) (getD (settledUnder b s) j undefined)
+      go : (m : Bool)
+          → Below (cond m undefined (getD (settledUnder b s) j undefined)) (getD (settledUnder b s) j undefined)
       go true = undefined-below (getD (settledUnder b s) j undefined)
       go false = below-refl (getD (settledUnder b s) j undefined)
 
@@ -93,13 +100,15 @@ module _ (b : Block) (group : List ℕ) (s : ℕ) where
   unfolding afterPasses
   length-after p = length-run b (settingOf (inputCount b) s) (repeated p group) (beforePasses b group s) ∙ length-before
 
-  -- and so is every state after.
+  -- Every state after passes is below the settled one.
   pub after-below : (p : ℕ) → BelowAll (afterPasses b group s p) (settledUnder b s)
   unfolding afterPasses settledUnder
-  after-below p = run-below-settled b (settingOf (inputCount b) s) (repeated p group) (beforePasses b group s) before-below
+  after-below p =
+      run-below-settled b (settingOf (inputCount b) s) (repeated p group) (beforePasses b group s) before-below
 
   -- Every other gate stays settled.
-  pub after-outside : (p j : ℕ) → member j group ≡ false → getD (afterPasses b group s p) j undefined ≡ getD (settledUnder b s) j undefined
+  pub after-outside : (p j : ℕ) → member j group ≡ false
+      → getD (afterPasses b group s p) j undefined ≡ getD (settledUnder b s) j undefined
   unfolding afterPasses
   after-outside p j m =
       run-elsewhere b (settingOf (inputCount b) s) (repeated p group) (beforePasses b group s) j
@@ -113,27 +122,32 @@ module _ (b : Block) (group : List ℕ) (s : ℕ) where
   settled-at p h j m =
       code-injective (getD (afterPasses b group s p) j undefined) (getD (settledUnder b s) j undefined)
       (eqb-true _ _
-      (all-member (λ j. eqb (code (getD (afterPasses b group s p) j undefined)) (code (getD (settledUnder b s) j undefined))) group h j m))
+      (all-member (λ j. eqb (code (getD (afterPasses b group s p) j undefined))
+      (code (getD (settledUnder b s) j undefined))) group h j m))
 
   pub at-settled : (p : ℕ)
-      → ((j : ℕ) → member j group ≡ true → getD (afterPasses b group s p) j undefined ≡ getD (settledUnder b s) j undefined)
+      → ((j : ℕ) → member j group ≡ true
+      → getD (afterPasses b group s p) j undefined ≡ getD (settledUnder b s) j undefined)
       → areSettled b group s p ≡ true
   unfolding areSettled
   at-settled p h =
-      all-intro (λ j. eqb (code (getD (afterPasses b group s p) j undefined)) (code (getD (settledUnder b s) j undefined))) group
+      all-intro (λ j. eqb (code (getD (afterPasses b group s p) j undefined))
+      (code (getD (settledUnder b s) j undefined))) group
       (λ j m. eq-eqb _ _ (ap code (h j m)))
 
   pub settled-state : (p : ℕ) → areSettled b group s p ≡ true → afterPasses b group s p ≡ settledUnder b s
   unfolding settledUnder
   settled-state p h =
-      ext-getD undefined (afterPasses b group s p) (settledUnder b s) (length-after p ∙ sym (length-settled b (settingOf (inputCount b) s)))
+      ext-getD undefined (afterPasses b group s p) (settledUnder b s)
+      (length-after p ∙ sym (length-settled b (settingOf (inputCount b) s)))
       (λ j l. ⊎-elim (settled-at p h j) (after-outside p j) (bool-cases (member j group)))
 
   pub state-settled : (p : ℕ) → afterPasses b group s p ≡ settledUnder b s → areSettled b group s p ≡ true
   state-settled p e = at-settled p (λ j m. ap (λ (v : List Value). getD v j undefined) e)
 
   -- A further pass is a run over the group.
-  pub after-next : (p : ℕ) → afterPasses b group s (suc p) ≡ run b (settingOf (inputCount b) s) group (afterPasses b group s p)
+  pub after-next : (p : ℕ) → afterPasses b group s (suc p)
+      ≡ run b (settingOf (inputCount b) s) group (afterPasses b group s p)
   unfolding afterPasses
   after-next p = run-append b (settingOf (inputCount b) s) (repeated p group) group (beforePasses b group s)
 
@@ -142,7 +156,8 @@ module _ (b : Block) (group : List ℕ) (s : ℕ) where
   unfolding settledUnder
   passes-keep p h =
       state-settled (suc p)
-      (after-next p ∙ ap (run b (settingOf (inputCount b) s) group) (settled-state p h) ∙ run-settled b (settingOf (inputCount b) s) group)
+      (after-next p ∙ ap (run b (settingOf (inputCount b) s) group) (settled-state p h)
+      ∙ run-settled b (settingOf (inputCount b) s) group)
 
   pub passes-keep-from : (p q : ℕ) → p ≤ q → areSettled b group s p ≡ true → areSettled b group s q ≡ true
   passes-keep-from p zero l h = let e : p ≡ 0 = omega arith in rw e at h
@@ -160,13 +175,16 @@ module _ (b : Block) (group : List ℕ) where
   at p s = isExcluded b s || areSettled b group s p
 
   -- what is enough settles the group under a setting that may come,
-  pub enough-at : (p : ℕ) → areEnough b group p ≡ true → (s : ℕ) → s < settingCount b → isExcluded b s ≡ false → areSettled b group s p ≡ true
+  pub enough-at : (p : ℕ) → areEnough b group p ≡ true → (s : ℕ) → s < settingCount b → isExcluded b s ≡ false
+      → areSettled b group s p ≡ true
   unfolding areEnough at
   enough-at p h s l e =
-      ⊎-elim (λ x. not-both x e) (λ k. k) (or-cases (isExcluded b s) (areSettled b group s p) (all-below (at p) (settingCount b) s h l))
+      ⊎-elim (λ x. not-both x e) (λ k. k)
+      (or-cases (isExcluded b s) (areSettled b group s p) (all-below (at p) (settingCount b) s h l))
 
-  -- and what does so under each is enough.
-  pub at-enough : (p : ℕ) → ((s : ℕ) → s < settingCount b → isExcluded b s ≡ false → areSettled b group s p ≡ true) → areEnough b group p ≡ true
+  -- Passes that settle a group under each setting that may come are enough.
+  pub at-enough : (p : ℕ) → ((s : ℕ) → s < settingCount b → isExcluded b s ≡ false → areSettled b group s p ≡ true)
+      → areEnough b group p ≡ true
   unfolding areEnough at
   at-enough p h = below-all (at p) (settingCount b) (λ s l. go s l (bool-cases (isExcluded b s)))
     where
@@ -182,10 +200,12 @@ module _ (b : Block) (group : List ℕ) where
   pub not-enough : (p : ℕ) → areEnough b group p ≡ false → FailsAfter b group p
   unfolding areEnough at areSettled
   not-enough p h =
-      let f : (s : ℕ) × (member s (upTo (settingCount b)) ≡ true) × (at p s ≡ false) = all-fails (at p) (upTo (settingCount b)) h in
+      let f : (s : ℕ) × (member s (upTo (settingCount b)) ≡ true) × (at p s ≡ false) =
+      all-fails (at p) (upTo (settingCount b)) h in
       let o = or-neither (isExcluded b (f .0)) (areSettled b group (f .0) p) (f .2) in
       let test : ℕ → Bool =
-      λ j. eqb (code (getD (afterPasses b group (f .0) p) j undefined)) (code (getD (settledUnder b (f .0)) j undefined)) in
+      λ j. eqb (code (getD (afterPasses b group (f .0) p) j undefined))
+      (code (getD (settledUnder b (f .0)) j undefined)) in
       let g : (j : ℕ) × (member j group ≡ true) × (test j ≡ false) = all-fails test group (o .1) in
       record {
         setting = f .0;
@@ -209,9 +229,11 @@ module _ (b : Block) (t : ℕ) (there : t < length (groups b)) where
   unfolding afterPasses settledUnder
   size-settled s =
       at-settled b (groupAt b t) s (length (groupAt b t))
-      (λ j m. below-antisym (getD (afterPasses b (groupAt b t) s (length (groupAt b t))) j undefined) (getD (settledUnder b s) j undefined)
+      (λ j m. below-antisym (getD (afterPasses b (groupAt b t) s (length (groupAt b t))) j undefined)
+      (getD (settledUnder b s) j undefined)
       (after-below b (groupAt b t) s (length (groupAt b t)) j)
-      (passes-above-settled b (settingOf (inputCount b) s) (Listed (gatesBefore b t)) (groupAt b t) (group-follows b t there)
+      (passes-above-settled b (settingOf (inputCount b) s) (Listed (gatesBefore b t)) (groupAt b t)
+      (group-follows b t there)
       (beforePasses b (groupAt b t) s) (length-before b (groupAt b t) s) earlier j m))
     where
       earlier : BelowOn (Listed (gatesBefore b t)) (settledUnder b s) (beforePasses b (groupAt b t) s)
@@ -236,7 +258,7 @@ module _ (b : Block) (t : ℕ) (there : t < length (groups b)) where
       least-at-most searched (length (groupAt b t)) (length (groupAt b t) - 1) (rw e size-enough) in
       omega arith
 
-  -- and enough.
+  -- The unrolling depth is enough.
   pub passCount-enough : areEnough b (groupAt b t) (passCount b (groupAt b t)) ≡ true
   unfolding passCount searched
   passCount-enough = let l = passCount-most in least-at searched (length (groupAt b t)) (omega arith)
@@ -253,7 +275,8 @@ module _ (b : Block) (t : ℕ) (there : t < length (groups b)) where
   passCount-one-fewer h = passCount-least (passCount b (groupAt b t) - 1) (omega arith) (omega arith)
 
   -- What is enough, when it is 1 or one fewer is not enough, is the number of passes.
-  pub passCount-from : (p : ℕ) → 1 ≤ p → areEnough b (groupAt b t) p ≡ true → (p ≡ 1) ⊎ (areEnough b (groupAt b t) (p - 1) ≡ false)
+  pub passCount-from : (p : ℕ) → 1 ≤ p → areEnough b (groupAt b t) p ≡ true
+      → (p ≡ 1) ⊎ (areEnough b (groupAt b t) (p - 1) ≡ false)
       → passCount b (groupAt b t) ≡ p
   unfolding passCount searched
   passCount-from zero h enough c = absurd (omega arith)

@@ -1,5 +1,5 @@
--- A sweep of the copies is the run of single steps along the schedule over the state that holds, for each gate, the value of its newest
--- copy, and 0 where it has none. The agreement cites it.
+-- A sweep of the copies is the run of single steps along the schedule over the state that holds, for each gate, the
+-- value of its newest copy, and 0 where it has none. The agreement cites it.
 --   evaluated-copied               a copy is evaluated as its gate is
 --   sweep-is-run, lastCopy-value   the sweep is the run, and a last copy has the run's value
 -- Assumes nothing.
@@ -8,8 +8,8 @@ use mathlib.Core.Path.{_≡_, refl, sym, ap, _∙_}
 use mathlib.Core.Bool.{true, false}
 use mathlib.Core.List.{List, [], _∷_, _++_, map}
 use native.Mathlib.Omega.{arith}
-use lib.ListN.{length, getD, set, replicate, length-append, length-set, length-replicate, List·getD-append}
-use lib.Seq.{ext-getD, getD-at}
+use lib.ListN.{length, getD, set, replicate, length-append, length-set, List·getD-append}
+use lib.Seq.{getD-at}
 use Rattle.prelude.specs.Lists.{member, joined}
 use Rattle.prelude.proofs.Lists.{member-head, member-rest, map-set, map-replicate}
 use Rattle.netlist.specs.Values.{Value, undefined, val}
@@ -17,10 +17,10 @@ use Rattle.netlist.specs.Netlist.{Operand, input, gate, constant, Gate, Block, 
 use Rattle.netlist.specs.Kinds.{gateValue}
 use Rattle.netlist.specs.Rounds.{operandValue, evaluated}
 use Rattle.netlist.specs.Groups.{gateOperand, readBy, reads}
-use Rattle.netlist.specs.Rendering.{schedule, noCopies, copiedOperand, copied, copies, newestAfter, lastCopies, rendering, sweepFrom, sweep}
+use Rattle.netlist.specs.Rendering.{schedule, noCopies, copiedOperand, copied, copies, newestAfter, lastCopies}
+use Rattle.netlist.specs.Rendering.{rendering, sweepFrom, sweep}
 use Rattle.theory_encoding.proofs.ListFacts.{getD-map}
 use Rattle.netlist.specs.Steps.{stepAt, run}
-use Rattle.theory_fixpoint.proofs.AnyOrder.{length-run}
 use Rattle.theory_reach.specs.Inside.{Inside}
 use Rattle.theory_reach.proofs.ListFacts.{map-same}
 use Rattle.theory_unrolling.specs.Copies.{IsCopy, AreCopies, valuesOf}
@@ -36,18 +36,21 @@ module _ (x found : List Value) (newest : List Operand) where
   operands-copied (input i ∷ os) h = ap (λ (r : List Value). getD x i undefined ∷ r) (operands-copied os h)
   operands-copied (constant c ∷ os) h = ap (λ (r : List Value). val c ∷ r) (operands-copied os h)
   operands-copied (gate j ∷ os) h =
-      rw (getD-map (operandValue x found) newest j (constant false) undefined (h j (member-head j (joined (map gateOperand os)))))
+      rw (getD-map (operandValue x found) newest j (constant false) undefined
+      (h j (member-head j (joined (map gateOperand os)))))
       (ap (λ (r : List Value). operandValue x found (getD newest j (constant false)) ∷ r)
       (operands-copied os (λ k m. h k (member-rest k j (joined (map gateOperand os)) m))))
 
   -- A copy has the value of its gate, evaluated from the values of what stands for the gates.
-  pub evaluated-copied : (g : Gate) → ((k : ℕ) → member k (joined (map gateOperand (g .operands))) ≡ true → k < length newest)
+  pub evaluated-copied : (g : Gate)
+      → ((k : ℕ) → member k (joined (map gateOperand (g .operands))) ≡ true → k < length newest)
       → evaluated x found (copied newest g) ≡ evaluated x (valuesOf x found newest) g
   unfolding evaluated copied
   evaluated-copied g h = ap (gateValue (g .kind)) (operands-copied (g .operands) h)
 
   -- Further values change nothing of what stands for the gates.
-  pub valuesOf-more : (more : List Value) → AreCopies (length found) newest → valuesOf x (found ++ more) newest ≡ valuesOf x found newest
+  pub valuesOf-more : (more : List Value) → AreCopies (length found) newest
+      → valuesOf x (found ++ more) newest ≡ valuesOf x found newest
   unfolding valuesOf operandValue
   valuesOf-more more h =
       map-same (operandValue x (found ++ more)) (operandValue x found) newest (constant false)
@@ -68,25 +71,30 @@ module _ (b : Block) (x : List Value) (inside : Inside b) where
   copy-is-step found newest t j e n h =
       let v : Value = evaluated x found (copied newest (gateOf b j)) in
       map-set (operandValue x (found ++ (v ∷ []))) newest j (gate t)
-      ∙ ap (λ (l : List Value). set l j (getD (found ++ (v ∷ [])) t undefined)) (valuesOf-more x found newest (v ∷ []) (rw e h))
+      ∙ ap (λ (l : List Value). set l j (getD (found ++ (v ∷ [])) t undefined))
+      (valuesOf-more x found newest (v ∷ []) (rw e h))
       ∙ ap (set (map (operandValue x found) newest) j)
       (getD-at found v [] undefined t e ∙ evaluated-copied x found newest (gateOf b j) (λ k m. rw n (inside j k m)))
 
   -- A sweep that goes on over copies is the run over the gates copied.
   pub sweepFrom-is-run : (js : List ℕ) (found : List Value) (newest : List Operand) (t : ℕ) → length found ≡ t
       → length newest ≡ gateCount b → AreCopies t newest
-      → valuesOf x (sweepFrom x found (copies b newest t js)) (newestAfter newest t js) ≡ run b x js (valuesOf x found newest)
+      → valuesOf x (sweepFrom x found (copies b newest t js)) (newestAfter newest t js)
+      ≡ run b x js (valuesOf x found newest)
   unfolding sweepFrom copies newestAfter run
   sweepFrom-is-run [] found newest t e n h = refl
   sweepFrom-is-run (j ∷ js) found newest t e n h =
-      sweepFrom-is-run js (found ++ (evaluated x found (copied newest (gateOf b j)) ∷ [])) (set newest j (gate t)) (suc t)
-      (length-append found (evaluated x found (copied newest (gateOf b j)) ∷ []) ∙ (let l : length found + 1 ≡ suc t = omega arith in l))
+      sweepFrom-is-run js (found ++ (evaluated x found (copied newest (gateOf b j)) ∷ []))
+      (set newest j (gate t)) (suc t)
+      (length-append found (evaluated x found (copied newest (gateOf b j)) ∷ [])
+      ∙ (let l : length found + 1 ≡ suc t = omega arith in l))
       (length-set newest j (gate t) ∙ n) (set-areCopies t j newest h)
       ∙ ap (run b x js) (copy-is-step found newest t j e n h)
 
-  -- A sweep of the rendering is the run of single steps along the schedule, from all 0, over the state that holds the value of each gate's
-  -- newest copy.
-  pub sweep-is-run : valuesOf x (sweep (rendering b) x) (lastCopies b) ≡ run b x (schedule b) (replicate (gateCount b) (val false))
+  -- A sweep of the rendering is the run of single steps along the schedule, from all 0, over the state that holds the
+  -- value of each gate's newest copy.
+  pub sweep-is-run : valuesOf x (sweep (rendering b) x) (lastCopies b)
+      ≡ run b x (schedule b) (replicate (gateCount b) (val false))
   unfolding sweep rendering lastCopies valuesOf noCopies operandValue
   sweep-is-run =
       sweepFrom-is-run (schedule b) [] (noCopies b) 0 refl (length-noCopies b) (noCopies-areCopies b)
@@ -95,21 +103,12 @@ module _ (b : Block) (x : List Value) (inside : Inside b) where
       start : valuesOf x [] (noCopies b) ≡ replicate (gateCount b) (val false)
       start = map-replicate (operandValue x []) (gateCount b) (constant false)
 
-  -- The same at each gate: its last copy's value is that of the gate at the end of the run.
+  -- The value of a gate's last copy in the sweep is the gate's value at the end of the run.
   pub lastCopy-value : (j : ℕ) → j < gateCount b
       → operandValue x (sweep (rendering b) x) (getD (lastCopies b) j (constant false))
       ≡ getD (run b x (schedule b) (replicate (gateCount b) (val false))) j undefined
   unfolding valuesOf
   lastCopy-value j l =
-      sym (getD-map (operandValue x (sweep (rendering b) x)) (lastCopies b) j (constant false) undefined (rw (length-lastCopies b) l))
+      sym (getD-map (operandValue x (sweep (rendering b) x)) (lastCopies b) j (constant false) undefined
+      (rw (length-lastCopies b) l))
       ∙ ap (λ (v : List Value). getD v j undefined) sweep-is-run
-
-  -- The same of any state that holds these values.
-  pub sweep-is-run-of : (v : List Value) → length v ≡ gateCount b
-      → ((j : ℕ) → j < gateCount b
-      → getD v j undefined ≡ operandValue x (sweep (rendering b) x) (getD (lastCopies b) j (constant false)))
-      → v ≡ run b x (schedule b) (replicate (gateCount b) (val false))
-  sweep-is-run-of v e h =
-      ext-getD undefined v (run b x (schedule b) (replicate (gateCount b) (val false)))
-      (e ∙ sym (length-run b x (schedule b) (replicate (gateCount b) (val false)) ∙ length-replicate (gateCount b) (val false)))
-      (λ j l. let m : j < gateCount b = rw e at l in h j m ∙ lastCopy-value j m)

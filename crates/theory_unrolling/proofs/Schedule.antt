@@ -1,11 +1,11 @@
--- The order of copying: over the first groups and one more, its length, and the gates in it. Render's code, the number of copies and the
--- agreement cite it.
+-- The order of copying: over the first groups and one more, its length, and the gates in it. Render's code, the number
+-- of copies and the agreement cite it.
 --   length-passes, member-passes   the passes over one group; over a lone gate there is one (passes-lone)
 --   scheduleOf-*                   over the first groups, and one more
 --   schedule-is, length-schedule, member-schedule, schedule-below   the whole order
 --   schedule-straight              a straight block's
 -- Assumes nothing.
-use Prim.Native.Nat.{ℕ, zero, suc, _≤_, _<_}
+use Prim.Native.Nat.{ℕ, zero, suc, _<_}
 use mathlib.Core.Path.{_≡_, refl, sym, ap, _∙_}
 use mathlib.Core.Logic.{⊎-elim}
 use mathlib.Core.Bool.{true, false≢true}
@@ -15,7 +15,7 @@ use lib.ListN.{length, getD, take, length-append}
 use lib.Seq.{take-suc, take-length}
 use Rattle.prelude.specs.Lists.{joined, member, sum, tab, upTo}
 use Rattle.prelude.proofs.Quantifiers.{member-from}
-use Rattle.prelude.proofs.Lists.{joined-append, joined-snoc, member-cases, member-left, member-right}
+use Rattle.prelude.proofs.Lists.{joined-snoc, member-cases, member-left, member-right}
 use Rattle.netlist.specs.Netlist.{Block, gateCount}
 use Rattle.netlist.specs.Groups.{groups}
 use Rattle.netlist.specs.Passes.{passCount, copyCount}
@@ -28,7 +28,7 @@ use Rattle.theory_reach.proofs.Straight.{groups-single, straight-loopless, stra
 use Rattle.theory_unrolling.specs.Copies.{scheduleOf, groupAt}
 use Rattle.theory_unrolling.proofs.ListFacts.{length-repeated, member-repeated-from}
 use Rattle.theory_unrolling.proofs.PassCount.{passCount-some, passCount-one}
-use Rattle.theory_unrolling.proofs.CopyCount.{copiesOf, copies-take}
+use Rattle.theory_unrolling.proofs.CopyCount.{copiesOf}
 
 -- ---- any groups
 
@@ -49,13 +49,11 @@ module _ (b : Block) where
   passes-member group j m = repeated-member j (passCount b group) group m
 
   -- One group more comes last.
-  pub scheduleOf-snoc : (gs : List (List ℕ)) (group : List ℕ) → scheduleOf b (gs ++ (group ∷ [])) ≡ scheduleOf b gs ++ passes b group
+  pub scheduleOf-snoc : (gs : List (List ℕ)) (group : List ℕ)
+      → scheduleOf b (gs ++ (group ∷ [])) ≡ scheduleOf b gs ++ passes b group
   unfolding scheduleOf
-  scheduleOf-snoc gs group = ap joined (map-append (passes b) gs (group ∷ [])) ∙ joined-snoc (map (passes b) gs) (passes b group)
-
-  pub scheduleOf-append : (gs hs : List (List ℕ)) → scheduleOf b (gs ++ hs) ≡ scheduleOf b gs ++ scheduleOf b hs
-  unfolding scheduleOf
-  scheduleOf-append gs hs = ap joined (map-append (passes b) gs hs) ∙ joined-append (map (passes b) gs) (map (passes b) hs)
+  scheduleOf-snoc gs group =
+      ap joined (map-append (passes b) gs (group ∷ [])) ∙ joined-snoc (map (passes b) gs) (passes b group)
 
   -- The schedule is as long as there are copies of the groups' gates.
   pub length-scheduleOf : (gs : List (List ℕ)) → length (scheduleOf b gs) ≡ sum (map (copiesOf b) gs)
@@ -79,7 +77,8 @@ module _ (b : Block) where
   unfolding scheduleOf
   scheduleOf-member [] j m = absurd (false≢true m)
   scheduleOf-member (g ∷ gs) j m =
-      ⊎-elim (λ e. member-left j g (joined gs) (passes-member g j e)) (λ e. member-right j g (joined gs) (scheduleOf-member gs j e))
+      ⊎-elim (λ e. member-left j g (joined gs) (passes-member g j e))
+      (λ e. member-right j g (joined gs) (scheduleOf-member gs j e))
       (member-cases j (passes b g) (joined (map (passes b) gs)) m)
 
 -- groups of one gate one after the other
@@ -108,10 +107,6 @@ module _ (b : Block) where
   -- With all groups it is the schedule.
   pub scheduleOf-all : scheduleOf b (take (length (groups b)) (groups b)) ≡ schedule b
   scheduleOf-all = ap (scheduleOf b) (take-length (groups b)) ∙ sym schedule-is
-
-  -- What is copied for the first t groups is part of all the copies.
-  pub length-scheduleOf-take : (t : ℕ) → length (scheduleOf b (take t (groups b))) ≤ copyCount b
-  length-scheduleOf-take t = rw (length-scheduleOf b (take t (groups b))) (copies-take b t)
 
   -- Every gate is copied.
   pub member-schedule : Inside b → (j : ℕ) → j < gateCount b → member j (schedule b) ≡ true

@@ -1,6 +1,6 @@
 -- In a sound block every setting that may come is settled. Render's code and the agreement cite it.
---   sound-at, at-sound                 sound exactly when every setting never comes or is settled
---   sound-settledAt                    so in a sound block every setting that may come is settled
+--   sound-at                           in a sound block every setting never comes or is settled
+--   sound-settledAt                    in a sound block every setting that may come is settled
 --   agrees-nothing                     every setting agrees with the assignment that fixes nothing
 -- Assumes nothing.
 use Prim.Native.Nat.{ℕ, _<_}
@@ -8,7 +8,6 @@ use mathlib.Core.Path.{_≡_, refl}
 use mathlib.Core.Bool.{true, false, not, _||_}
 use native.Mathlib.Nat.{zero-div, zero-mod}
 use lib.Dec.{eqb}
-use Rattle.prelude.proofs.Tests.{or-right}
 use Rattle.prelude.proofs.Quantifiers.{all-below, below-all}
 use Rattle.netlist.specs.Netlist.{Block, inputCount}
 use Rattle.netlist.specs.Assignments.{bit, Assignment, fixes, agrees}
@@ -39,10 +38,3 @@ module _ (b : Block) where
   pub sound-settledAt : isSound b ≡ true → (s : ℕ) → s < settingCount b → isExcluded b s ≡ false → isSettled b s ≡ true
   unfolding isSoundAt
   sound-settledAt h s l e = rw e at (sound-at h s l)
-
-  -- A block in which every setting never comes or is settled is sound.
-  pub at-sound : ((s : ℕ) → s < settingCount b → isSoundAt b s ≡ true) → isSound b ≡ true
-  unfolding isSound isSoundUnder nothing
-  at-sound h =
-      below-all (λ s. not (agrees (inputCount b) nothing s) || isSoundAt b s) (settingCount b)
-      (λ s l. or-right (not (agrees (inputCount b) nothing s)) (isSoundAt b s) (h s l))

@@ -18,7 +18,7 @@ IsCopy t (input i) = ⊥
 IsCopy t (gate c) = c < t
 IsCopy t (constant c) = c ≡ false
 
--- AreCopies: every gate of a list is stood for by one of t copies, or by constant 0
+-- for every gate of a list one of t copies stands, or constant 0
 abbrev pub AreCopies : ℕ → List Operand → Type 0
 AreCopies t newest = (j : ℕ) → IsCopy t (getD newest j (constant false))
 

@@ -1,5 +1,2 @@
 -- Mathematics of counting passes; no function of src/ is named.
-pub mod PairLaws
-pub mod GroupLaws
-pub mod PassLaws
 pub mod CountLaws

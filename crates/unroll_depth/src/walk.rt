@@ -1,10 +1,8 @@
-// The one walk over batches: each batch is decided once, the passes of its groups are counted, and its lowest setting that
+// The one walk over batches: each batch is decided once, the passes of its groups are counted, and its lowest setting
+// that
 // may come and is not settled is looked for while none is known. Group g of a block's `count` groups is
 // `members[starts[g]..starts[g + 1]]`, and `passes[g]` has its passes so far.
-use crate::Counted;
 use crate::Found;
-use crate::Turn;
-use crate::group::count_group;
 use graph_gates::GRAPH_WORDS;
 use graph_scc::words::word_of;
 use lanes_dual_rail::LANE_WORDS;
@@ -12,8 +10,11 @@ use lanes_dual_rail::words::lane_count;
 use lanes_dual_rail::words::lowest_lane;
 use lanes_masks::decided::judge_batch;
 use lanes_masks::settled::unsound_lanes;
-use op_verdict::settings::lowest_unsettled;
-use op_verdict::settings::setting_count;
+use lanes_settings::lowest::lowest_unsettled;
+use lanes_settings::setting_count;
+use unroll_passes::Counted;
+use unroll_passes::Turn;
+use unroll_passes::group::count_group;
 use words_layout::fill::fill_words;
 use words_layout::limits::MAX_GATES;
 use words_layout::offsets::gates_of;
@@ -30,7 +31,10 @@ ghost use Rattle.lanes_dual_rail.specs.Batches.{lanesOf};
 ghost use Rattle.lanes_dual_rail.specs.LaneWords.{laneSize};
 ghost use Rattle.lanes_batch.specs.Layered.{Planned};
 ghost use Rattle.lanes_masks.specs.Lanes.{Judged};
-ghost use Rattle.unroll_depth.specs.Counting.{StartsFew, Full, Counting, SameRest, Listing, BatchHeld, LowestBelow, WalkedBatch, WalkedAll, Walked};
+ghost use Rattle.unroll_passes.specs.Passes.{Listing};
+ghost use Rattle.unroll_depth.specs.Counting.{StartsFew, Full, GroupAt, GroupDone, BatchReady, LowestBelow};
+ghost use Rattle.unroll_depth.specs.Counting.{WalkReady};
+ghost use Rattle.unroll_depth.specs.Counting.{WalkedBatch, WalkedAll, Walked};
 
 // Group number `group`, for the settings of the batch at `base`, when the copies of all groups are `total`.
 struct At {
@@ -47,7 +51,8 @@ struct Batch {
     lowest: usize,
 }
 
-// Counts the passes of one group for the settings of the batch; gives the copies of all groups. A group that has as many
+// Counts the passes of one group for the settings of the batch; gives the copies of all groups. A group that has as
+// many
 // passes as gates needs no more, whatever the setting.
 fn count_at(
     words: &[u16],
@@ -59,21 +64,11 @@ fn count_at(
     lanes: &mut [u64; LANE_WORDS],
     kept: &mut [u64; LANE_WORDS],
 ) -> usize
-    requires { ⌜ BatchHeld (now words) (now graph) (at .base) (now lanes) × (at .total ≤ maxCopies) × (length (now kept) ≡ laneSize) ⌝ }
-    requires { ⌜
-        Listing (decode (now words)) (length (groups (decode (now words)))) (now members) (now starts) × (at .group < length (groups (decode (now words))))
-        × (length (now passes) ≡ maxGates)
+    requires { ⌜ GroupAt (now words) (now graph) (now members) (now starts) at (now passes) (now lanes) (now kept) ⌝ }
+    ensures { λ r. ⌜
+        GroupDone (now (words .entry)) at (now (passes .entry)) (now (lanes .entry)) (now (passes .exit))
+        (now (lanes .exit)) (now (kept .exit)) r
         ⌝ }
-    requires { ⌜
-        Counting (decode (now words)) (length (groups (decode (now words)))) (at .base) (at .group) (at .base + lanesOf (getD (now words) 0 0)) (now passes)
-        (at .total)
-        ⌝ }
-    ensures counted { λ r. ⌜
-        Counting (decode (now (words .entry))) (length (groups (decode (now (words .entry))))) (at .base) (at .group + 1)
-        (at .base + lanesOf (getD (now (words .entry)) 0 0)) (now (passes .exit)) r
-        × SameRest (length (groups (decode (now (words .entry))))) (now (passes .entry)) (now (passes .exit))
-        ⌝ }
-    ensures kept { λ r. ⌜ (now (lanes .exit) ≡ now (lanes .entry)) × (length (now (kept .exit)) ≡ laneSize) ⌝ }
 {
     let g = at.group;
     let from = starts[g] as usize;
@@ -96,10 +91,13 @@ fn count_at(
     counted.total
 }
 
-// The lowest setting found so far that may come and is not settled, or 2^n: `lowest` is that of the batches before the one
+// The lowest setting found so far that may come and is not settled, or 2^n: `lowest` is that of the batches before the
+// one
 // at `base`, whose settled values `lanes` holds.
 fn lowest_with(words: &[u16], base: usize, lowest: usize, lanes: &[u64; LANE_WORDS]) -> usize
-    requires { ⌜ Judged (now words) (getD (now words) 0 0) base (now lanes) × LowestBelow (decode (now words)) base lowest ⌝ }
+    requires { ⌜
+        Judged (now words) (getD (now words) 0 0) base (now lanes) × LowestBelow (decode (now words)) base lowest
+        ⌝ }
     requires { ⌜ base + lanesOf (getD (now words) 0 0) ≤ settingCount (decode (now words)) ⌝ }
     ensures { λ r. ⌜ LowestBelow (decode (now (words .entry))) (base + lanesOf (getD (now (words .entry)) 0 0)) r ⌝ }
 {
@@ -126,14 +124,12 @@ fn count_batch(
     lanes: &mut [u64; LANE_WORDS],
     kept: &mut [u64; LANE_WORDS],
 ) -> Found
-    requires { ⌜ BatchHeld (now words) (now graph) (batch .base) (now lanes) × (length (now kept) ≡ laneSize) ⌝ }
-    requires { ⌜ Listing (decode (now words)) (batch .groups) (now members) (now starts) × (length (now passes) ≡ maxGates) ⌝ }
     requires { ⌜
-        Counting (decode (now words)) (batch .groups) (batch .base) 0 (batch .base) (now passes) (batch .total)
-        × LowestBelow (decode (now words)) (batch .base) (batch .lowest)
+        BatchReady (now words) (now graph) (now members) (now starts) batch (now passes) (now lanes) (now kept)
         ⌝ }
     ensures { λ r. ⌜
-        WalkedBatch (decode (now (words .entry))) (batch .groups) (batch .base + lanesOf (getD (now (words .entry)) 0 0)) (now (passes .entry))
+        WalkedBatch (decode (now (words .entry))) (batch .groups)
+        (batch .base + lanesOf (getD (now (words .entry)) 0 0)) (now (passes .entry))
         (now (passes .exit)) r
         ⌝ }
     ensures { λ r. ⌜ (length (now (lanes .exit)) ≡ laneSize) × (length (now (kept .exit)) ≡ laneSize) ⌝ }
@@ -178,10 +174,8 @@ fn walk_loops(
     starts: &[u16; MAX_GATES + 1],
     passes: &mut [u16; MAX_GATES],
 ) -> Found
-    requires { ⌜ Planned (now words) (now graph) (now order) (now ends) ⌝ }
     requires { ⌜
-        Listing (decode (now words)) count (now members) (now starts) × (length (now passes) ≡ maxGates)
-        × Counting (decode (now words)) count 0 0 0 (now passes) (getD (now words) 1 0)
+        WalkReady (now words) (now graph) (now order) (now ends) count (now members) (now starts) (now passes)
         ⌝ }
     ensures { λ r. ⌜ WalkedAll (decode (now (words .entry))) count (now (passes .entry)) (now (passes .exit)) r ⌝ }
 {
@@ -229,7 +223,9 @@ fn walk_settings(
     ends: &[u16; MAX_GATES],
 ) -> Found
     requires { ⌜ Planned (now words) (now graph) (now order) (now ends) ⌝ }
-    ensures { λ r. ⌜ (r .total ≡ getD (now (words .entry)) 1 0) × (r .lowest ≡ lowestUnsettled (decode (now (words .entry)))) ⌝ }
+    ensures { λ r. ⌜
+        (r .total ≡ getD (now (words .entry)) 1 0) × (r .lowest ≡ lowestUnsettled (decode (now (words .entry))))
+        ⌝ }
 {
     let mut lanes = [0u64; LANE_WORDS];
     let lowest = lowest_unsettled(words, graph, order, ends, &mut lanes);

@@ -36,12 +36,12 @@ module _ (nodes : Nodes) (newest : List ℕ) (w : ℕ) {k : ℕ} (is : k ≡ gat
   unfolding mappedWord
   mapped-named l = rw (← is, lt-ltb k (nodes .gates) l) refl
 
-  -- and any other kept.
+  -- A word that names no gate is kept.
   pub mapped-none : nodes .gates ≤ k → mappedWord nodes newest w ≡ w
   unfolding mappedWord
   mapped-none l = rw (← is, le-ltb k (nodes .gates) l) refl
 
--- The same by the word.
+-- What a word is mapped to: an operand's word, of an input, a gate or a constant.
 module _ (nodes : Nodes) (newest : List ℕ) (w : ℕ) where
   abbrev n : ℕ
   n = nodes .inputs
@@ -72,7 +72,7 @@ module _ (ws : List ℕ) (nodes : Nodes) (e : Entry) (newest : List ℕ) where
   entry-mapped i l k =
       between (e .first) i (e .last) (mappedWord nodes newest (getD ws (e .from + i) 0)) (getD ws (e .from + i) 0) l k
 
-  -- and any other kept.
+  -- A word of an entry before `first` or from `last` on is kept.
   pub entry-kept : (i : ℕ) → (i < e .first) ⊎ (e .last ≤ i) → entryWord ws nodes e newest i ≡ getD ws (e .from + i) 0
   unfolding entryWord
   entry-kept i h =

@@ -9,7 +9,8 @@ ghost use lib.Seq.{sets};
 ghost use Rattle.netlist.specs.StoredBlock.{gateSize};
 ghost use Rattle.words_layout.specs.Bounds.{nodeRoom};
 ghost use Rattle.prelude.specs.Lists.{tab};
-ghost use Rattle.unroll_emission.specs.Words.{mappedWord, entryWord, entryWords, copyWords, wordFrom, EntryRoom, GateRoom};
+ghost use Rattle.unroll_emission.specs.Words.{mappedWord, entryWord, entryWords, copyWords, wordFrom, EntryRoom};
+ghost use Rattle.unroll_emission.specs.Words.{GateRoom};
 
 // The five words of a gate or an output: where they stand, and which of them are mapped, from `first` on and below
 // `last`.
@@ -19,7 +20,8 @@ pub struct Entry {
     pub last: usize,
 }
 
-// The word of what stands now for what `w` names: a gate's newest copy, or the same input or constant.
+// The word of what stands for the node that `w` names while copies are made: the newest copy of a gate; an input or a
+// constant stands for itself.
 fn mapped(w: u16, nodes: Nodes, newest: &[u16]) -> u16
     requires { ⌜ (nodes .inputs + nodes .gates ≤ nodeRoom) × (nodes .gates ≤ length (now newest)) ⌝ }
     ensures { λ r. ⌜ r ≡ mappedWord nodes (now (newest .entry)) w ⌝ }
@@ -33,7 +35,8 @@ fn mapped(w: u16, nodes: Nodes, newest: &[u16]) -> u16
 
 // Word `i` of the five words of a gate's or an output's entry, mapped where it names a node.
 fn entry_word(words: &[u16], nodes: Nodes, entry: Entry, newest: &[u16], i: usize) -> u16
-    requires { ⌜ (entry .from + i < length (now words)) × (nodes .inputs + nodes .gates ≤ nodeRoom) × (nodes .gates ≤ length (now newest)) ⌝ }
+    requires { ⌜ (entry .from + i < length (now words)) × (nodes .inputs + nodes .gates ≤ nodeRoom)
+        × (nodes .gates ≤ length (now newest)) ⌝ }
     ensures { λ r. ⌜ r ≡ entryWord (now (words .entry)) nodes entry (now (newest .entry)) i ⌝ }
 {
     let w = words[entry.from + i];
@@ -55,7 +58,8 @@ pub fn copy_entry(
     to: usize,
 )
     requires { ⌜ EntryRoom (now words) nodes (entry .from) (now newest) (now out) to 1 ⌝ }
-    ensures { λ r. ⌜ now (out .exit) ≡ sets (now (out .entry)) to (entryWords (now (words .entry)) nodes entry (now (newest .entry))) ⌝ }
+    ensures { λ r. ⌜ now (out .exit)
+        ≡ sets (now (out .entry)) to (entryWords (now (words .entry)) nodes entry (now (newest .entry))) ⌝ }
 {
     let mut i = 0;
     while i < GATE_SIZE {
@@ -68,7 +72,9 @@ pub fn copy_entry(
 // Writes gate `j` at place `t`, its operands mapped.
 pub fn write_gate(words: &[u16], nodes: Nodes, j: usize, t: usize, newest: &[u16], out: &mut [u16])
     requires { ⌜ (j < nodes .gates) × GateRoom (now words) nodes (t + 1) (now newest) (now out) ⌝ }
-    ensures { λ r. ⌜ now (out .exit) ≡ sets (now (out .entry)) (nodes .start + gateSize * t) (copyWords (now (words .entry)) nodes j (now (newest .entry))) ⌝ }
+    ensures { λ r.
+        ⌜ now (out .exit) ≡ sets (now (out .entry)) (nodes .start + gateSize * t)
+        (copyWords (now (words .entry)) nodes j (now (newest .entry))) ⌝ }
 {
     let from = nodes.start + GATE_SIZE * j;
     let count = words[from] as usize / 8;

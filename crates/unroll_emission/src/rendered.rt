@@ -23,7 +23,8 @@ ghost use Rattle.prelude.specs.Lists.{tab, joined, placed};
 ghost use Rattle.netlist.specs.Limits.{maxInputs, maxNevers, maxGates, maxOutputs};
 ghost use Rattle.netlist.specs.StoredBlock.{gateSize, decode, encode};
 ghost use Rattle.netlist.specs.Rendering.{rendering};
-ghost use Rattle.unroll_emission.specs.Words.{tableAfter, copyWords, copyAt, shownAt, EntryRoom, GateRoom, Order, CopyReady};
+ghost use Rattle.unroll_emission.specs.Words.{tableAfter, copyWords, copyAt, shownAt, EntryRoom, GateRoom, Order};
+ghost use Rattle.unroll_emission.specs.Words.{CopyReady};
 
 // Writes the head: the four counts.
 fn write_header(n: usize, total: usize, k: usize, l: usize, out: &mut [u16])
@@ -39,7 +40,9 @@ fn write_header(n: usize, total: usize, k: usize, l: usize, out: &mut [u16])
 // Writes copy `t`, which is of gate `j`, and makes it the newest of its gate.
 fn copy_gate(words: &[u16], nodes: Nodes, j: usize, t: usize, newest: &mut [u16], out: &mut [u16])
     requires { ⌜ (j < nodes .gates) × GateRoom (now words) nodes (t + 1) (now newest) (now out) ⌝ }
-    ensures { λ r. ⌜ now (out .exit) ≡ sets (now (out .entry)) (nodes .start + gateSize * t) (copyWords (now (words .entry)) nodes j (now (newest .entry))) ⌝ }
+    ensures { λ r.
+        ⌜ now (out .exit) ≡ sets (now (out .entry)) (nodes .start + gateSize * t)
+        (copyWords (now (words .entry)) nodes j (now (newest .entry))) ⌝ }
     ensures { λ r. ⌜ now (newest .exit) ≡ set (now (newest .entry)) j (nodes .inputs + t) ⌝ }
 {
     write_gate(words, nodes, j, t, newest, out);
@@ -60,7 +63,8 @@ fn copy_gates(
         now (out .exit) ≡ sets (now (out .entry)) (nodes .start)
         (joined (tab (copyAt (now (words .entry)) nodes (now (order .entry)) (now (newest .entry))) total))
         ⌝ }
-    ensures { λ r. ⌜ now (newest .exit) ≡ tableAfter (nodes .inputs) (now (order .entry)) (now (newest .entry)) total ⌝ }
+    ensures { λ r.
+        ⌜ now (newest .exit) ≡ tableAfter (nodes .inputs) (now (order .entry)) (now (newest .entry)) total ⌝ }
 {
     let mut t = 0;
     while t < total {
@@ -69,7 +73,7 @@ fn copy_gates(
     }
 }
 
-// Writes the `k` outputs, each at what stands for its node in the end.
+// Writes the `k` outputs, each showing the last copy of the gate that it showed.
 pub fn copy_outputs(
     words: &[u16],
     nodes: Nodes,
@@ -79,7 +83,8 @@ pub fn copy_outputs(
     to: usize,
 )
     requires { ⌜ EntryRoom (now words) nodes (nodes .start + gateSize * nodes .gates) (now newest) (now out) to k ⌝ }
-    ensures { λ r. ⌜ now (out .exit) ≡ sets (now (out .entry)) to (joined (tab (shownAt (now (words .entry)) nodes (now (newest .entry))) k)) ⌝ }
+    ensures { λ r. ⌜ now (out .exit)
+        ≡ sets (now (out .entry)) to (joined (tab (shownAt (now (words .entry)) nodes (now (newest .entry))) k)) ⌝ }
 {
     let from = nodes.start + GATE_SIZE * nodes.gates;
     let mut o = 0;

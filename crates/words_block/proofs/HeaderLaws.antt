@@ -37,7 +37,7 @@ header-limits ws h =
       nevers = leb-true (getD ws 3 0) maxNevers (and-right (long && n && m && k) lines h5);
     }
 
--- and of the length
+-- what the rule of the head says of the length
 pub header-length : (ws : List ℕ) → headerRule ws ≡ true
     → length ws ≡ outputsAt (getD ws 0 0) (getD ws 3 0) (getD ws 1 0) + outputSize * getD ws 2 0
 unfolding headerRule

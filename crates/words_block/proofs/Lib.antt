@@ -1,1 +1,2 @@
+-- Laws on a block's head.
 mod HeaderLaws

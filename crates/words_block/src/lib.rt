@@ -1,5 +1,6 @@
-// The test for a malformed ("torn") block, the readers of a block's header, and the test for a straight block.
-// Every operation that takes a block calls `check_words` first. No function reads past the end of the words.
+// Two tests of a stored block: are the words malformed (refusal 6), and is the block straight, which is in topological
+// order by gate number (refusal 10)? Every operation that takes a block calls `check_words` first. No function reads
+// past the end of the words.
 use netlist::Refusal;
 use words_layout::offsets;
 use words_refusals::Test;
@@ -75,7 +76,7 @@ pub fn check_words(words: &[u16]) -> Test
     refuse_if(!is_intact(words), Refusal::MalformedBlock)
 }
 
-// Refusal 10, of a block that is not torn: do all gates read only inputs, constants and lower gates?
+// Refusal 10, of a block that is not malformed: do all gates read only inputs, constants and lower gates?
 pub fn check_straight(words: &[u16]) -> Test
     requires { ⌜ isMalformed (now words) ≡ false ⌝ }
     ensures { λ r. ⌜ r ≡ testOf (not (isStraight (decode (now (words .entry))))) NotStraight ⌝ }

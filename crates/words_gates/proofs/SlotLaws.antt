@@ -25,7 +25,7 @@ module _ (ws : List ℕ) (nodes at count : ℕ) where
   pub used : (i : ℕ) → i < count → operandRule nodes (getD ws (at + (i + 1)) 0) ≡ slotRule ws nodes at count i
   used i l = let e : at + (i + 1) ≡ at + 1 + i = omega arith in rw (lt-ltb i count l, e)
 
-  -- and where it has not
+  -- the rule of a word behind the operand count: it is 0
   pub unused : (i : ℕ) → count ≤ i → eqb (getD ws (at + (i + 1)) 0) 0 ≡ slotRule ws nodes at count i
   unused i l = let e : at + (i + 1) ≡ at + 1 + i = omega arith in rw (le-ltb i count l, e)
 

@@ -1,5 +1,5 @@
--- A block that is not torn is straight exactly when each gate keeps its rule with only the inputs and the lower gates
--- as nodes.
+-- A block that is not malformed is straight exactly when each gate keeps its rule with only the inputs and the lower
+-- gates as nodes.
 -- Assumes nothing.
 use mathlib.Core.Path.{_≡_, refl, sym, ap, _∙_}
 use mathlib.Core.Logic.{⊎-elim}

@@ -1,20 +1,8 @@
-// Filling: one value in the first elements of a slice.
+// One value stored in the first words of a slice.
 ghost use mathlib.Core.Path.{_≡_};
 ghost use Prim.Native.Nat.{_≤_};
 ghost use lib.ListN.{length, replicate};
 ghost use Rattle.prelude.specs.Lists.{placed};
-
-// Stores `value` in the first `count` bytes.
-pub fn fill_bytes(bytes: &mut [u8], count: usize, value: u8)
-    requires { ⌜ count ≤ length (now bytes) ⌝ }
-    ensures { λ r. ⌜ now (bytes .exit) ≡ placed (replicate count value) (now (bytes .entry)) ⌝ }
-{
-    let mut i = 0;
-    while i < count {
-        bytes[i] = value;
-        i += 1;
-    }
-}
 
 // Stores `value` in the first `count` words.
 pub fn fill_words(words: &mut [u16], count: usize, value: u16)

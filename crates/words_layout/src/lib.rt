@@ -1,6 +1,6 @@
-// What every crate on blocks shares: the limits, where the parts of a stored block stand, the words of constants, the
-// kinds, the test of masks, and the readers and fillers of slices (SPECIFICATION 1.5, 2, 3.2 and 4.1). No algorithms
-// stand here.
+// The layout of a stored block, for every crate that has words: the limits, the offsets of its parts, the words of
+// constants, the table of kinds, masks of inputs and of values, and words of a slice read and filled (SPECIFICATION
+// 1.5, 2, 3.2 and 4.1).
 pub mod bytes;
 pub mod fill;
 pub mod kinds;

@@ -21,7 +21,7 @@ pub const MAX_OUTPUTS: usize = 16;
 // The bytes of a name.
 pub const MAX_NAME: usize = 8;
 
-// The levels of an expression.
+// How deep brackets are nested in an expression.
 pub const MAX_DEPTH: usize = 8;
 
 // Numbers that follow from the limits above.

@@ -8,8 +8,7 @@ ghost use Prim.Native.Nat.{_≤_};
 ghost use Rattle.words_layout.specs.Bounds.{maxWord};
 ghost use Rattle.words_layout.specs.Nodes.{gateNamed, nodesOf};
 
-// What every search and sweep of a block goes by: how many inputs and gates it has, and where the first gate's words
-// start.
+// How many inputs and gates a block has, and where the first gate's words start.
 pub struct Nodes {
     pub inputs: usize,
     pub gates: usize,
@@ -20,7 +19,7 @@ pub const CONSTANT_0: usize = 65534;
 
 pub const CONSTANT_1: usize = 65535;
 
-// What a table of gates holds where it has no gate: no gate has this number.
+// The mark of no gate in a table of gate numbers: above every gate's number.
 pub const NONE: usize = 65535;
 
 // The gate that a word names in a block of n inputs and m gates, or m where it names none.

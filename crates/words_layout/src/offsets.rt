@@ -85,7 +85,9 @@ pub fn gates_at(words: &[u16]) -> usize
 
 // The first output's first word in a block.
 pub fn outputs_at(words: &[u16]) -> usize
-    ensures { λ r. ⌜ r ≡ outputsAt (getD (now (words .entry)) 0 0) (getD (now (words .entry)) 3 0) (getD (now (words .entry)) 1 0) ⌝ }
+    ensures { λ r.
+        ⌜ r ≡ outputsAt (getD (now (words .entry)) 0 0) (getD (now (words .entry)) 3 0)
+        (getD (now (words .entry)) 1 0) ⌝ }
 {
     outputs_behind(inputs_of(words), nevers_of(words), gates_of(words))
 }

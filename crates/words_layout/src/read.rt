@@ -1,5 +1,4 @@
-// Words and bytes of a slice, read with a default past the end, as the definitions read them; and words that are known
-// to be there.
+// Words of a slice, read with 0 past the end, as the definitions read them; and words that are known to be there.
 ghost use mathlib.Core.Path.{_≡_};
 ghost use Prim.Native.Nat.{_<_};
 ghost use lib.ListN.{length, getD};
@@ -15,17 +14,10 @@ pub fn word_at(words: &[u16], i: usize) -> usize
     }
 }
 
-// The word at `i`, which is one of the slice's.
+// The word at `i`, which is below the slice's length.
 pub fn word_in(words: &[u16], i: usize) -> usize
     requires { ⌜ i < length (now words) ⌝ }
     ensures { λ r. ⌜ r ≡ getD (now (words .entry)) i 0 ⌝ }
 {
     words[i] as usize
-}
-
-// The value at `i`, or 2: undefined.
-pub fn value_at(values: &[u8], i: usize) -> u8
-    ensures { λ r. ⌜ r ≡ getD (now (values .entry)) i 2 ⌝ }
-{
-    if i < values.len() { values[i] } else { 2 }
 }

@@ -4,9 +4,10 @@ ghost use Prim.Native.Nat.{_≤_};
 ghost use lib.ListN.{length, take};
 ghost use Rattle.prelude.specs.Lists.{trimmed};
 
-// How many bytes are left without the zeros at the end.
+// The length of the bytes without the zeros at their end.
 pub fn trimmed_length(bytes: &[u8]) -> usize
-    ensures { λ r. ⌜ (r ≤ length (now (bytes .entry))) × (take r (now (bytes .entry)) ≡ trimmed (now (bytes .entry))) ⌝ }
+    ensures { λ r.
+        ⌜ (r ≤ length (now (bytes .entry))) × (take r (now (bytes .entry)) ≡ trimmed (now (bytes .entry))) ⌝ }
 {
     let mut count = bytes.len();
     while 0 < count {

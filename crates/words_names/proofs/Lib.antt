@@ -1,1 +1,2 @@
+-- Laws on the words of names.
 pub mod NameLaws

@@ -1,4 +1,5 @@
-// The names of inputs and the ports: each legal, none twice.
+// The rules of a block's names, of inputs and of ports (SPECIFICATION 2.2, 2.4): each is legal and padded by zeros, and
+// none stands twice.
 use words_layout::bytes::is_letter;
 use words_layout::bytes::is_name_byte;
 use words_layout::limits::MAX_NAME;

@@ -101,7 +101,7 @@ unfolding testOf
 failed-true true why e k = refl
 failed-true false why e k = absurd (miss (1 ∷ []) 0 tt (rw e at k))
 
--- the same for a condition that tells a place
+-- a test of a condition that tells a place has passed where there is none
 pub passed-none : (p : Option ℕ) (why : ℕ → Refusal) {t : Test} → t ≡ testAt p why → t ≡ Passed → p ≡ none
 unfolding testAt
 passed-none (some place) why e f = let z : _≡_ {A = ℕ} 0 1 = cc in absurd (omega arith)

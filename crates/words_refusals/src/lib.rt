@@ -27,14 +27,14 @@ pub fn refuse_if(holds: bool, why: Refusal) -> Test
     }
 }
 
-// Refusal 11: does a slice of `room` elements hold a result of `needed`?
+// Refusal 11: is a slice of `room` elements too short for a result of `needed`?
 pub fn test_room(room: usize, needed: usize) -> Test
     ensures { λ r. ⌜ r ≡ testOf (ltb room needed) NoRoom ⌝ }
 {
     refuse_if(room < needed, Refusal::NoRoom)
 }
 
-// What an operation answers when this test failed.
+// The answer of an operation whose test of a condition gave this.
 pub fn refusal(test: Test) -> Answer
     ensures { λ r. ⌜ r ≡ refusalOf test ⌝ }
 {

@@ -1,22 +1,21 @@
 //! A reader of tables of lookup cells: five decimal words a cell, each cell on a line of its own, and the comments that tell pins and ports.
 
-use super::circuit::{Circuit, Function, Gate, Reads};
-use super::cursor::{bytes, Bytes, Cursor};
-use super::nets::{Net, ONE, ZERO};
+use super::circuit::{Circuit, Function, Reads};
+use super::cursor::{Cursor, Letters, ONES};
+use super::nets::{Label, Net, ONE, ZERO};
 
 /// What names are made of.
-const LETTERS: Bytes = bytes(&[(b'!', 254)]);
+static LETTERS: Letters = Letters::of(&[(b'!', 254)]);
 
-/// The operand words of the constants.
-const CONSTANT_ZERO: usize = 65_534;
-const CONSTANT_ONE: usize = 65_535;
+/// The operand words of the constants, of which most cells have the first, with the blank behind it.
+const CONSTANT_ZERO: &[u8; 6] = b"65534 ";
+const CONSTANT_ONE: u32 = 65_535;
 
-/// The circuit of a table; a cell reads pins, constants and cells before it.
-pub fn read(text: &[u8]) -> Result<Circuit<'_>, String> {
+/// Reads a table; a cell reads pins, constants and cells before it.
+pub fn read(text: &[u8], circuit: &mut Circuit) -> Result<(), String> {
     let mut table = Table {
         text: Cursor::of(text),
-        circuit: Circuit::of(text),
-        nodes: Vec::with_capacity(text.len() / 16),
+        circuit,
         inputs: false,
         outputs: None,
     };
@@ -31,92 +30,111 @@ pub fn read(text: &[u8]) -> Result<Circuit<'_>, String> {
             format!("line {line} is no line of such a table, or out of its place")
         })?;
     }
-    match (table.inputs, table.outputs) {
-        (true, Some(count)) if count == table.circuit.ports.len() => table.circuit.whole(false),
-        (true, Some(count)) => {
-            let ports = table.circuit.ports.len();
-            Err(format!("{count} outputs are told, and {ports} follow"))
-        }
-        _ => Err("it does not tell its inputs or its outputs".to_string()),
+    let (inputs, outputs, ports) = (table.inputs, table.outputs, circuit.ports.len());
+    match outputs.filter(|_| inputs) {
+        Some(count) if count as usize == ports => circuit.whole(text, false),
+        Some(count) => Err(format!("{count} outputs are told, and {ports} follow")),
+        None => Err("it does not tell its inputs or its outputs".to_string()),
     }
 }
 
+/// Pins and cells are the nets behind the constants, in order.
 struct Table<'a> {
     text: Cursor<'a>,
-    circuit: Circuit<'a>,
-    /// The nets of pins and cells, by number.
-    nodes: Vec<Net>,
+    circuit: &'a mut Circuit,
     /// Whether the pins were told.
     inputs: bool,
     /// How many ports were told to follow.
-    outputs: Option<usize>,
+    outputs: Option<u32>,
 }
 
-impl<'a> Table<'a> {
+impl Table<'_> {
     /// Takes a comment: one that tells pins or ports, or any other.
     fn comment(&mut self) -> Option<()> {
         if self.text.takes(b"inputs ") {
-            let (count, new) = (self.number()?, !std::mem::replace(&mut self.inputs, true));
+            let (count, new) = (
+                number(&mut self.text)?,
+                !std::mem::replace(&mut self.inputs, true),
+            );
             while self.text.takes(b" ") {
-                let name = self.text.name(&LETTERS)?;
-                let pin = self.circuit.nets.of(name);
-                self.circuit.pins.push(pin);
-                self.nodes.push(pin);
+                let pin = self.circuit.nets.take(&mut self.text, &LETTERS)?;
+                self.circuit.push_pin(pin);
             }
-            (new && count == self.nodes.len()).then_some(())?;
+            (new && self.net(count).is_none()).then_some(())?;
+            (count as usize == self.circuit.pins.len()).then_some(())?;
         } else if self.text.takes(b"outputs ") {
-            let count = self.number()?;
+            let count = number(&mut self.text)?;
             self.outputs.replace(count).is_none().then_some(())?;
         } else if self.text.takes(b"output ") {
             self.outputs?;
-            let port = self.text.name(&LETTERS)?.text;
-            let port = String::from_utf8_lossy(port).into_owned();
-            self.text.must(b" ")?;
-            let number = self.number()?;
-            let net = *self.nodes.get(number)?;
-            let mut known = self.circuit.ports.iter();
-            known.all(|(known, _)| *known != port).then_some(())?;
-            self.circuit.ports.push((port, net));
+            self.port()?;
         } else {
-            self.text.skip(|byte| byte != b'\n');
+            self.text.pass_line();
+            return Some(());
         }
         self.text.must(b"\n")
+    }
+
+    /// Takes a port's name, which no port before it has, and the number of what it shows.
+    fn port(&mut self) -> Option<()> {
+        let (name, text) = (self.text.name(&LETTERS)?, self.text.text());
+        let port = Label::before(&self.text, name);
+        self.text.must(b" ")?;
+        let number = number(&mut self.text)?;
+        let net = self.net(number)?;
+        let mut known = self.circuit.ports.iter();
+        known
+            .all(|(known, _)| known.bytes(text) != name)
+            .then_some(())?;
+        self.circuit.ports.push((port, net));
+        Some(())
     }
 
     /// Takes a cell: four operands and the truth word. Of the last operands that are the constant 0 only rows with a 0 are met.
     fn cell(&mut self) -> Option<()> {
         (self.inputs && self.outputs.is_none()).then_some(())?;
-        let mut reads = Reads::none();
+        let (mut text, mut reads) = (self.text, Reads::none());
         for _ in 0..4 {
-            let net = match self.number()? {
-                CONSTANT_ZERO => ZERO,
+            if text.takes(CONSTANT_ZERO) {
+                reads.push(ZERO)?;
+                continue;
+            }
+            let net = match number(&mut text)? {
                 CONSTANT_ONE => ONE,
-                number => *self.nodes.get(number)?,
+                number => self.net(number)?,
             };
             reads.push(net)?;
-            self.text.must(b" ")?;
+            text.must(b" ")?;
         }
-        let table = u16::try_from(self.number()?).ok()?;
-        self.text.must(b"\n")?;
-        while reads.all().last() == Some(&ZERO) {
-            reads.drop_last();
-        }
+        let table = u16::try_from(number(&mut text)?).ok()?;
+        text.must(b"\n")?;
+        self.text = text;
+        reads.drop_last(ZERO);
         let net = self.circuit.nets.unnamed();
-        let function = Function::of_table(table, reads.all().len());
-        self.circuit.gates.push(Gate::of(function, net, reads));
-        self.nodes.push(net);
+        let function = Function::of_table(table, reads.count());
+        self.circuit.push(function, net, reads);
         Some(())
     }
 
-    /// A decimal number of at most six digits.
-    fn number(&mut self) -> Option<usize> {
-        let (mut number, mut digits) = (0, 0);
-        while let Some(digit @ b'0'..=b'9') = self.text.next() {
-            self.text.several(1)?;
-            number = 10 * number + usize::from(digit - b'0');
-            digits += 1;
-            (digits <= 6).then_some(())?;
-        }
-        (digits > 0).then_some(number)
+    /// The net of a pin or a cell, if there is one of this number by now.
+    fn net(&self, number: u32) -> Option<Net> {
+        let net = number + ONE + 1;
+        ((net as usize) < self.circuit.nets.count()).then_some(net)
     }
+}
+
+/// A decimal number of at most six digits.
+#[inline(always)]
+fn number(text: &mut Cursor) -> Option<u32> {
+    let digits = text.eight() ^ (ONES * u64::from(b'0'));
+    // A byte's highest bit is set where it is more than 9.
+    let others = ((digits & (ONES * 0x7F)) + ONES * 0x76) | digits;
+    let length = (others & ONES << 7).trailing_zeros() / 8;
+    (1..=6).contains(&length).then_some(())?;
+    text.pass(length as usize);
+    // With zeros before them eight digits, of which pairs, then fours, then all become one number.
+    let pairs = (digits << (64 - 8 * length)).wrapping_mul(10 << 8 | 1) >> 8;
+    let fours = (pairs & 0x00FF_00FF_00FF_00FF).wrapping_mul(100 << 16 | 1) >> 16;
+    let all = (fours & 0x0000_FFFF_0000_FFFF).wrapping_mul(10_000 << 32 | 1) >> 32;
+    Some(all as u32)
 }

@@ -1,7 +1,7 @@
 //! A circuit as a reader finds it: pins, never lines, gates and ports, all by their nets.
 
-use super::nets::{Net, Nets, ONE, ZERO};
-use std::mem::replace;
+use super::cursor::key_of;
+use super::nets::{Label, Net, Nets, ONE, ZERO};
 
 const MOST_READS: usize = 4;
 
@@ -19,17 +19,27 @@ pub enum Function {
 /// The table of `xor` over four operands, whose beginnings are those over fewer.
 const PARITY: u16 = 0x6996;
 
+/// The words that netlists and Verilog have for gates, as keys.
+const NOT: u64 = key_of(b"not");
+const AND: u64 = key_of(b"and");
+const NAND: u64 = key_of(b"nand");
+const OR: u64 = key_of(b"or");
+const NOR: u64 = key_of(b"nor");
+const XOR: u64 = key_of(b"xor");
+const XNOR: u64 = key_of(b"xnor");
+
 impl Function {
-    /// By the word that netlists and Verilog have for it; `not` has one operand, the others two to four.
-    pub fn of_word(word: &[u8], operands: usize) -> Option<Function> {
-        let function = match word {
-            b"not" => return (operands == 1).then_some(Function::And(true)),
-            b"and" => Function::And(false),
-            b"nand" => Function::And(true),
-            b"or" => Function::Or(false),
-            b"nor" => Function::Or(true),
-            b"xor" => Function::Xor(false),
-            b"xnor" => Function::Xor(true),
+    /// By its word's key; `not` has one operand, the others two to four.
+    #[inline]
+    pub fn of_word(key: u64, operands: usize) -> Option<Function> {
+        let function = match key {
+            NOT => return (operands == 1).then_some(Function::And(true)),
+            AND => Function::And(false),
+            NAND => Function::And(true),
+            OR => Function::Or(false),
+            NOR => Function::Or(true),
+            XOR => Function::Xor(false),
+            XNOR => Function::Xor(true),
             _ => return None,
         };
         (2..=MOST_READS).contains(&operands).then_some(function)
@@ -52,6 +62,17 @@ impl Function {
     }
 }
 
+#[derive(Debug, Clone, Copy)]
+pub struct Gate {
+    pub function: Function,
+    /// The net that it drives.
+    pub net: Net,
+    /// Where it reads fewer than four, the last are the constant that changes nothing.
+    pub reads: [Net; MOST_READS],
+    /// Whether it reads more than two.
+    pub wide: bool,
+}
+
 /// What a gate reads, in order: at most four nets.
 #[derive(Debug, Clone, Copy)]
 pub struct Reads {
@@ -68,43 +89,38 @@ impl Reads {
     }
 
     /// None where there are four already.
+    #[inline(always)]
     pub fn push(&mut self, read: Net) -> Option<()> {
         *self.list.get_mut(self.count)? = read;
         self.count += 1;
         Some(())
     }
 
-    pub fn drop_last(&mut self) {
-        self.count -= 1;
-    }
-
-    pub fn all(&self) -> &[Net] {
-        &self.list[..self.count]
-    }
-}
-
-#[derive(Debug, Clone, Copy)]
-pub struct Gate {
-    pub function: Function,
-    /// The net that it drives.
-    pub net: Net,
-    /// Where it reads fewer than four, the last are the constant that changes nothing.
-    pub reads: [Net; MOST_READS],
-}
-
-impl Gate {
-    pub fn of(function: Function, net: Net, reads: Reads) -> Gate {
-        let neutral = match function {
-            Function::And(_) => ONE,
-            _ => ZERO,
-        };
-        let mut list = reads.list;
-        list[reads.count..].fill(neutral);
-        Gate {
-            function,
-            net,
-            reads: list,
+    /// Leaves out the last of which each is this net.
+    pub fn drop_last(&mut self, net: Net) {
+        while self.count > 0 && self.list[self.count - 1] == net {
+            self.count -= 1;
         }
+    }
+
+    pub fn count(&self) -> usize {
+        self.count
+    }
+
+    /// All four, the last of which are the constant that changes nothing.
+    #[inline(always)]
+    fn filled(mut self, function: Function) -> [Net; MOST_READS] {
+        if let Function::And(_) = function {
+            for place in 1..MOST_READS {
+                if place >= self.count {
+                    self.list[place] = ONE;
+                }
+            }
+            if self.count == 0 {
+                self.list[0] = ONE;
+            }
+        }
+        self.list
     }
 }
 
@@ -115,56 +131,72 @@ pub struct Never {
     pub ones: u32,
 }
 
-#[derive(Debug)]
-pub struct Circuit<'a> {
-    pub nets: Nets<'a>,
+#[derive(Debug, Default)]
+pub struct Circuit {
+    pub nets: Nets,
     pub pins: Vec<Net>,
     pub nevers: Vec<Never>,
     pub gates: Vec<Gate>,
     /// Each port, and the net that it shows.
-    pub ports: Vec<(String, Net)>,
-    /// Whether each gate stands behind all that it reads.
-    pub straight: bool,
+    pub ports: Vec<(Label, Net)>,
+    /// Whether a gate reads what is not driven above it.
+    pub loops: bool,
+    /// The first net that is driven a second time.
+    twice: Option<Net>,
 }
 
-impl<'a> Circuit<'a> {
-    /// Nothing yet of this text.
-    pub fn of(text: &'a [u8]) -> Circuit<'a> {
-        Circuit {
-            nets: Nets::none(),
-            pins: Vec::new(),
-            nevers: Vec::new(),
-            gates: Vec::with_capacity(text.len() / 16),
-            ports: Vec::new(),
-            straight: true,
+impl Circuit {
+    /// Nothing yet, in the room that there is.
+    pub fn begin(&mut self) {
+        self.nets.begin();
+        self.pins.clear();
+        self.nevers.clear();
+        self.gates.clear();
+        self.ports.clear();
+        (self.loops, self.twice) = (false, None);
+    }
+
+    /// Notes a net that a gate drives, or a setting.
+    #[inline]
+    pub fn drive(&mut self, net: Net) {
+        if self.nets.drive(net) {
+            self.twice.get_or_insert(net);
         }
     }
 
-    /// It, if each net that is read or shown is driven, none is twice and, where there may be no loops, each gate reads only what is driven
-    /// above it.
-    pub fn whole(mut self, loops: bool) -> Result<Circuit<'a>, String> {
-        let mut driven = vec![false; self.nets.count()];
-        let mut twice = None;
-        let mut drive = |driven: &mut [bool], net: Net| {
-            if replace(&mut driven[net as usize], true) {
-                twice.get_or_insert(net);
-            }
-        };
-        let given = [ZERO, ONE].iter().chain(&self.pins);
-        given.for_each(|&net| drive(&mut driven, net));
-        for gate in &self.gates {
-            self.straight &= gate.reads.iter().all(|&read| driven[read as usize]);
-            drive(&mut driven, gate.net);
+    #[inline(always)]
+    pub fn push(&mut self, function: Function, net: Net, reads: Reads) {
+        let (reads, wide) = (reads.filled(function), reads.count > 2);
+        let driven = |place: usize| self.nets.is_driven(reads[place]);
+        if !(driven(0) && driven(1) && (!wide || driven(2) && driven(3))) {
+            self.loops = true;
+            reads.iter().for_each(|&read| self.nets.read(read));
         }
-        let mut read = self.gates.iter().flat_map(|gate| &gate.reads);
-        let mut shown = self.ports.iter().map(|(_, net)| net);
-        let open = |net: &&Net| !driven[**net as usize];
-        let name = |net: Net| self.nets.name(net);
-        match (twice, read.find(open).or_else(|| shown.find(open))) {
+        self.drive(net);
+        self.gates.push(Gate {
+            function,
+            net,
+            reads,
+            wide,
+        });
+    }
+
+    pub fn push_pin(&mut self, pin: Net) {
+        self.drive(pin);
+        self.pins.push(pin);
+    }
+
+    /// Nothing, if each net that is read or shown is driven, none is twice and, where there may be no loops, each gate reads only what is
+    /// driven above it.
+    pub fn whole(&self, text: &[u8], loops: bool) -> Result<(), String> {
+        let mut shown = self.ports.iter().map(|&(_, net)| net);
+        let shown = shown.find(|&net| !self.nets.is_driven(net));
+        let name = |net: Net| self.nets.label(net).told(text);
+        match (self.twice, self.nets.open().or(shown)) {
             (Some(net), _) => Err(format!("{} is driven twice", name(net))),
-            (None, Some(&net)) => Err(format!("nothing drives {}", name(net))),
-            _ if !loops && !self.straight => Err("a gate reads itself or one below it".to_string()),
-            _ => Ok(self),
+            (None, Some(net)) => Err(format!("nothing drives {}", name(net))),
+            _ if !loops && self.loops => Err("a gate reads itself or one below it".to_string()),
+            _ => Ok(()),
         }
     }
 }

@@ -1,19 +1,20 @@
 //! A reader of netlist texts, by the grammar of docs/SPECIFICATION.md 1.
 
-use super::circuit::{Circuit, Function, Gate, Never, Reads};
-use super::cursor::{bytes, Bytes, Cursor};
-use super::nets::{Name, Net, ONE, ZERO};
+use super::circuit::{Circuit, Function, Never, Reads};
+use super::cursor::{Cursor, Letters};
+use super::nets::{Label, Net, ONE, ZERO};
 
 const NAME_BYTES: usize = 8;
 const DEPTH: usize = 8;
 /// What names and words are made of.
-const LETTERS: Bytes = bytes(&[(b'a', b'z'), (b'0', b'9'), (b'_', b'_')]);
+static LETTERS: Letters =
+    Letters::of(&[(b'0', b'9'), (b'_', b'_'), (b'a', b'z')]).named(NAME_BYTES);
 
-/// The circuit of a text; `loops`: whether a gate may read itself or a gate below it.
-pub fn read(text: &[u8], loops: bool) -> Result<Circuit<'_>, String> {
+/// Reads a text; `loops`: whether a gate may read itself or a gate below it.
+pub fn read(text: &[u8], loops: bool, circuit: &mut Circuit) -> Result<(), String> {
     let mut reader = Reader {
         text: Cursor::of(text),
-        circuit: Circuit::of(text),
+        circuit,
     };
     let mut part = 0;
     while !reader.text.is_at_end() {
@@ -24,34 +25,35 @@ pub fn read(text: &[u8], loops: bool) -> Result<Circuit<'_>, String> {
             format!("line {line} is no line of a netlist, or out of its place")
         })?;
     }
-    let ports = &reader.circuit.ports;
-    let twice = |(index, port): &(usize, &(String, Net))| {
-        ports[..*index].iter().any(|(name, _)| *name == port.0)
+    let ports = &circuit.ports;
+    let twice = |(index, (port, _)): &(usize, &(Label, Net))| {
+        let name = port.bytes(text);
+        let mut before = ports[..*index].iter();
+        before.any(|(other, _)| other.bytes(text) == name)
     };
     if let Some((_, (port, _))) = ports.iter().enumerate().find(twice) {
-        return Err(format!("the port {port} stands there twice"));
+        return Err(format!("the port {} stands there twice", port.told(text)));
     }
-    reader.circuit.whole(loops)
+    circuit.whole(text, loops)
 }
 
 struct Reader<'a> {
     text: Cursor<'a>,
-    circuit: Circuit<'a>,
+    circuit: &'a mut Circuit,
 }
 
-impl<'a> Reader<'a> {
+impl Reader<'_> {
     /// Takes a line, and tells in which of the four parts of a text it stands.
     fn line(&mut self) -> Option<usize> {
         let part = if self.text.takes(b"(gate ") {
-            let name = self.name()?;
-            let net = self.circuit.nets.of(name);
+            let net = self.net()?;
             self.text.must(b" (")?;
             self.expression(net, 1)?;
             2
         } else if self.text.takes(b"(in ") {
-            let pin = self.plain()?;
-            let pin = self.circuit.nets.of(pin);
-            self.circuit.pins.push(pin);
+            self.plain()?;
+            let pin = self.net()?;
+            self.circuit.push_pin(pin);
             0
         } else if self.text.takes(b"(never") {
             let never = self.never()?;
@@ -59,10 +61,11 @@ impl<'a> Reader<'a> {
             1
         } else {
             self.text.must(b"(out ")?;
-            let port = String::from_utf8_lossy(self.plain()?.text).into_owned();
+            self.plain()?;
+            let port = self.text.name(&LETTERS)?;
+            let port = Label::before(&self.text, port);
             self.text.must(b" ")?;
-            let shown = self.name()?;
-            let shown = self.circuit.nets.of(shown);
+            let shown = self.net()?;
             self.circuit.ports.push((port, shown));
             3
         };
@@ -74,8 +77,7 @@ impl<'a> Reader<'a> {
     fn never(&mut self) -> Option<Never> {
         let mut never = Never { fixed: 0, ones: 0 };
         while self.text.takes(b" (") {
-            let name = self.name()?;
-            let net = self.circuit.nets.of(name);
+            let net = self.net()?;
             let pin = self.circuit.pins.iter().position(|&pin| pin == net)?;
             let bit = 1_u32
                 .checked_shl(pin as u32)
@@ -92,41 +94,46 @@ impl<'a> Reader<'a> {
 
     /// An expression behind its bracket: a gate that drives this net; its inner ones come before it.
     fn expression(&mut self, net: Net, depth: usize) -> Option<()> {
-        let word = self.text.name(&LETTERS)?.text;
+        let mut text = self.text;
+        let (word, length) = text.key(&LETTERS)?;
+        text.pass(length);
         let mut reads = Reads::none();
-        while self.text.takes(b" ") {
-            reads.push(self.operand(depth)?)?;
+        while text.takes(b" ") {
+            reads.push(match text.next()? {
+                b'(' => {
+                    text.pass(1);
+                    self.text = text;
+                    let net = self.inner(depth)?;
+                    text = self.text;
+                    net
+                }
+                b'0' => text.must(b"0").map(|()| ZERO)?,
+                b'1' => text.must(b"1").map(|()| ONE)?,
+                _ => self.circuit.nets.take(&mut text, &LETTERS)?,
+            })?;
         }
-        self.text.must(b")")?;
-        let function = Function::of_word(word, reads.all().len())?;
-        self.circuit.gates.push(Gate::of(function, net, reads));
+        text.must(b")")?;
+        self.text = text;
+        let function = Function::of_word(word, reads.count())?;
+        self.circuit.push(function, net, reads);
         Some(())
     }
 
-    fn operand(&mut self, depth: usize) -> Option<Net> {
-        match self.text.next()? {
-            b'(' => {
-                self.text.must(b"(")?;
-                let net = self.circuit.nets.unnamed();
-                (depth < DEPTH).then(|| self.expression(net, depth + 1))??;
-                Some(net)
-            }
-            b'0' => self.text.must(b"0").map(|()| ZERO),
-            b'1' => self.text.must(b"1").map(|()| ONE),
-            _ => {
-                let name = self.name()?;
-                Some(self.circuit.nets.of(name))
-            }
-        }
+    /// An operand that is an expression, behind its bracket.
+    #[inline(never)]
+    fn inner(&mut self, depth: usize) -> Option<Net> {
+        let net = self.circuit.nets.unnamed();
+        (depth < DEPTH).then(|| self.expression(net, depth + 1))??;
+        Some(net)
     }
 
-    /// The name of an input or a port.
-    fn plain(&mut self) -> Option<Name<'a>> {
-        self.name().filter(|name| name.text[0] != b'_')
+    /// Nothing, if the name that stands here may be an input's or a port's.
+    fn plain(&self) -> Option<()> {
+        (self.text.next() != Some(b'_')).then_some(())
     }
 
-    fn name(&mut self) -> Option<Name<'a>> {
-        let name = self.text.name(&LETTERS)?;
-        (name.text.len() <= NAME_BYTES && !name.text[0].is_ascii_digit()).then_some(name)
+    #[inline(always)]
+    fn net(&mut self) -> Option<Net> {
+        self.circuit.nets.take(&mut self.text, &LETTERS)
     }
 }

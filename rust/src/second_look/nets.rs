@@ -1,5 +1,7 @@
 //! The nets of a text by number, so that a name is looked up once where it stands.
 
+use super::cursor::{key_of, Cursor, Letters};
+use std::borrow::Cow;
 use std::mem::replace;
 
 /// A net's number. The first two are the constants', which no name leads to.
@@ -8,118 +10,229 @@ pub type Net = u32;
 pub const ZERO: Net = 0;
 pub const ONE: Net = 1;
 
-/// A name of a text, which has no byte 0, and its key: of fewer than eight bytes these; a longer one has the mark, and something of each byte.
-#[derive(Debug, Clone, Copy)]
-pub struct Name<'a> {
-    pub text: &'a [u8],
-    key: u64,
+/// A name by its place in the text, or a bit of a vector of this name.
+#[derive(Debug, Clone, Copy, Default)]
+pub struct Label {
+    start: usize,
+    length: usize,
+    bit: Option<u16>,
 }
 
-/// Stands in no name of fewer than eight bytes.
-const MARK: u64 = 1 << 63;
-
-impl<'a> Name<'a> {
-    /// With the key that its bytes give, one after the other.
-    pub fn of(text: &'a [u8], key: u64) -> Name<'a> {
-        let key = if text.len() < 8 { key } else { key | MARK };
-        Name { text, key }
+impl Label {
+    /// Of the name that the cursor has just gone past.
+    pub fn before(text: &Cursor, name: &[u8]) -> Label {
+        Label {
+            start: text.place() - name.len(),
+            length: name.len(),
+            bit: None,
+        }
     }
 
-    pub fn key_with(key: u64, byte: u8) -> u64 {
-        key.rotate_left(8) ^ u64::from(byte)
+    /// In the text that it was found in.
+    pub fn bytes<'a>(&self, text: &'a [u8]) -> Cow<'a, [u8]> {
+        let name = &text[self.start..][..self.length];
+        match self.bit {
+            None => Cow::Borrowed(name),
+            Some(bit) => Cow::Owned([name, format!("[{bit}]").as_bytes()].concat()),
+        }
     }
+
+    pub fn told(&self, text: &[u8]) -> String {
+        String::from_utf8_lossy(&self.bytes(text)).into_owned()
+    }
+}
+
+/// What is known of a net by now.
+#[derive(Debug, Clone, Copy, PartialEq, Eq)]
+enum State {
+    New,
+    /// Read, and not driven.
+    Open,
+    Driven,
 }
 
 /// A table with open addressing.
-#[derive(Debug)]
-pub struct Nets<'a> {
-    /// By number: a name of the text, or a bit of a vector of this name.
-    names: Vec<(&'a [u8], Option<u16>)>,
-    /// Nets by their keys; the constant 0 where there is none. A power of two, and more than twice as many as there are names.
+#[derive(Debug, Default)]
+pub struct Nets {
+    /// By number; constants and inner gates have no label.
+    known: Vec<(Label, State)>,
+    /// How many are open.
+    open: usize,
+    /// Nets by their keys, which are 0 where there is none. A power of two, and more than twice as many as there are names.
     slots: Vec<(u64, Net)>,
 }
 
 /// Slots at first.
 const SLOTS: usize = 512;
 
-impl<'a> Nets<'a> {
-    /// The constants alone.
-    pub fn none() -> Nets<'a> {
-        let mut names: Vec<(&[u8], _)> = Vec::with_capacity(SLOTS / 2);
-        names.extend([(&b"0"[..], None), (b"1", None)]);
-        Nets {
-            names,
-            slots: vec![(0, ZERO); SLOTS],
+/// The key of a long name, which others may have too: the first byte of no short name's is 0.
+fn long_key(name: &[u8]) -> u64 {
+    let with = |key: u64, byte: &u8| key.rotate_left(8) ^ u64::from(*byte);
+    name.iter().fold(0, with) << 8 | 1 << 63
+}
+
+impl Nets {
+    /// The constants alone, in the room that there is.
+    pub fn begin(&mut self) {
+        self.known.clear();
+        self.known.resize(2, (Label::default(), State::Driven));
+        self.open = 0;
+        self.slots.clear();
+        self.slots.resize(SLOTS, (0, ZERO));
+    }
+
+    /// The net of the name that stands here. A short name that is known is legal, so that only new ones are looked at byte by byte.
+    #[inline(always)]
+    pub fn take(&mut self, text: &mut Cursor, letters: &Letters) -> Option<Net> {
+        let (net, length) = match text.key(letters) {
+            Some((key, length)) => match self.find(key) {
+                (_, Some(net)) => (net, length),
+                (slot, None) if letters.are_all(key, length) => {
+                    (self.put(text.place(), slot, key, length), length)
+                }
+                _ => self.take_any(*text, letters)?,
+            },
+            None => self.take_any(*text, letters)?,
+        };
+        text.pass(length);
+        Some(net)
+    }
+
+    /// The net of a short key, or the slot where it would be put.
+    #[inline(always)]
+    fn find(&self, key: u64) -> (usize, Option<Net>) {
+        let mut slot = self.slot(key);
+        loop {
+            let (known, net) = self.slots[slot];
+            if known == 0 {
+                return (slot, None);
+            }
+            if known == key {
+                return (slot, Some(net));
+            }
+            slot = (slot + 1) & (self.slots.len() - 1);
         }
     }
 
-    /// The net of this name.
-    pub fn of(&mut self, name: Name<'a>) -> Net {
-        let mut slot = self.slot(name.key);
+    /// The net of a name of any length that stands here, and its length.
+    #[inline(never)]
+    fn take_any(&mut self, mut text: Cursor, letters: &Letters) -> Option<(Net, usize)> {
+        let name = text.name(letters)?;
+        Some((self.named(&text, name, name.len() <= 8), name.len()))
+    }
+
+    /// Puts the name of this length at a place into a slot, by its key.
+    #[inline(never)]
+    fn put(&mut self, start: usize, slot: usize, key: u64, length: usize) -> Net {
+        let label = Label {
+            start,
+            length,
+            bit: None,
+        };
+        let net = self.further(label);
+        self.slots[slot] = (key, net);
+        if 2 * self.known.len() > self.slots.len() {
+            self.grow();
+        }
+        net
+    }
+
+    /// The net of the name that the cursor has just gone past; `short`: whether its bytes are its key, which only a name is found by that
+    /// stands there as it is.
+    pub fn named(&mut self, text: &Cursor, name: &[u8], short: bool) -> Net {
+        let whole = text.text();
+        let is_it = |net: Net| self.label(net).bytes(whole) == name;
+        let key = if short { key_of(name) } else { long_key(name) };
+        let slot = self.search(key, |net| short || is_it(net));
+        match self.slots[slot] {
+            (0, _) => self.put(text.place() - name.len(), slot, key, name.len()),
+            (_, net) => net,
+        }
+    }
+
+    /// The slot of this key whose net is the one that is looked for, or where it would be put.
+    fn search(&self, key: u64, is_it: impl Fn(Net) -> bool) -> usize {
+        let mut slot = self.slot(key);
         loop {
-            let (key, net) = self.slots[slot];
-            if net == ZERO {
-                let net = self.further(name.text, None);
-                self.slots[slot] = (name.key, net);
-                self.grow();
-                return net;
-            }
-            if key == name.key && (key & MARK == 0 || self.is(net, name.text)) {
-                return net;
+            let (other, net) = self.slots[slot];
+            if other == 0 || other == key && is_it(net) {
+                return slot;
             }
             slot = (slot + 1) & (self.slots.len() - 1);
         }
     }
 
     /// Where the search for a key begins: a place that depends on all of its bits.
+    #[inline]
     fn slot(&self, key: u64) -> usize {
         (key.wrapping_mul(0x9E37_79B9_7F4A_7C15) >> 32) as usize & (self.slots.len() - 1)
     }
 
-    /// Doubles the slots where half of them may be taken.
+    /// Doubles the slots, of which half may be taken.
+    #[inline(never)]
     fn grow(&mut self) {
-        if 2 * self.names.len() <= self.slots.len() {
-            return;
-        }
         let larger = vec![(0, ZERO); 2 * self.slots.len()];
         for (key, net) in replace(&mut self.slots, larger) {
-            let mut slot = self.slot(key);
-            while net != ZERO && self.slots[slot].1 != ZERO {
-                slot = (slot + 1) & (self.slots.len() - 1);
-            }
-            if net != ZERO {
+            if key != 0 {
+                let slot = self.search(key, |_| false);
                 self.slots[slot] = (key, net);
             }
         }
     }
 
-    fn is(&self, net: Net, name: &[u8]) -> bool {
-        self.names[net as usize].0 == name
-    }
-
     /// A net that no name leads to: a bit of a vector.
     pub fn bit(&mut self, vector: Net, bit: u16) -> Net {
-        let (name, _) = self.names[vector as usize];
-        self.further(name, Some(bit))
+        let bit = Some(bit);
+        self.further(Label {
+            bit,
+            ..self.label(vector)
+        })
     }
 
     /// A net that has no name at all.
     pub fn unnamed(&mut self) -> Net {
-        self.further(b"(an inner gate)", None)
+        self.further(Label::default())
     }
 
-    fn further(&mut self, name: &'a [u8], bit: Option<u16>) -> Net {
-        self.names.push((name, bit));
-        self.names.len() as Net - 1
+    fn further(&mut self, label: Label) -> Net {
+        self.known.push((label, State::New));
+        self.known.len() as Net - 1
     }
 
-    pub fn name(&self, net: Net) -> String {
-        let (name, bit) = self.names[net as usize];
-        let bit = bit.map(|bit| format!("[{bit}]"));
-        String::from_utf8_lossy(name).into_owned() + &bit.unwrap_or_default()
+    pub fn label(&self, net: Net) -> Label {
+        self.known[net as usize].0
     }
 
     pub fn count(&self) -> usize {
-        self.names.len()
+        self.known.len()
+    }
+
+    #[inline(always)]
+    pub fn is_driven(&self, net: Net) -> bool {
+        self.known[net as usize].1 == State::Driven
+    }
+
+    /// Notes that a gate reads it.
+    pub fn read(&mut self, net: Net) {
+        let state = &mut self.known[net as usize].1;
+        if *state == State::New {
+            *state = State::Open;
+            self.open += 1;
+        }
+    }
+
+    /// Notes that something drives it; whether something did already.
+    #[inline(always)]
+    pub fn drive(&mut self, net: Net) -> bool {
+        let state = replace(&mut self.known[net as usize].1, State::Driven);
+        self.open -= usize::from(state == State::Open);
+        state == State::Driven
+    }
+
+    /// One that is read and not driven.
+    pub fn open(&self) -> Option<Net> {
+        let mut nets = self.known.iter();
+        let open = nets.position(|(_, state)| *state == State::Open);
+        open.filter(|_| self.open > 0).map(|net| net as Net)
     }
 }

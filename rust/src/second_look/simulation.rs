@@ -2,13 +2,12 @@
 
 use super::circuit::{Circuit, Function, Gate, Never};
 use super::nets::{Net, ONE, ZERO};
-use super::{Difference, Shown};
-use std::mem::replace;
-use std::ops::Range;
+use super::order::Order;
+use super::Shown;
 
 /// More pins than a netlist may have, and few enough to try every setting.
-const MOST_PINS: usize = 16;
-const LANES: usize = 64;
+pub const MOST_PINS: usize = 16;
+pub const LANES: usize = 64;
 
 /// In lane s of a pin's word stands its value under the s-th of 64 settings, for the pins that change within them.
 const PATTERNS: [u64; 6] = [
@@ -20,25 +19,29 @@ const PATTERNS: [u64; 6] = [
     0xFFFF_FFFF_0000_0000,
 ];
 
-/// A node's values: in which lanes it is 0, and in which it is 1; in the others it is undefined.
+/// A node's values: in which lanes it may be 1, and in which it is 1; it is undefined where it may be 1 and is not.
 #[derive(Debug, Clone, Copy, PartialEq, Eq)]
-struct Values {
-    zero: u64,
+#[repr(align(16))]
+pub struct Values {
+    may: u64,
     one: u64,
 }
 
-const UNDEFINED: Values = Values { zero: 0, one: 0 };
+const UNDEFINED: Values = Values {
+    may: u64::MAX,
+    one: 0,
+};
 
 impl Values {
     fn of(one: u64) -> Values {
-        Values { zero: !one, one }
+        Values { may: one, one }
     }
 
     fn inverted(self, inverted: bool) -> Values {
         match inverted {
             true => Values {
-                zero: self.one,
-                one: self.zero,
+                may: !self.one,
+                one: !self.may,
             },
             false => self,
         }
@@ -46,79 +49,36 @@ impl Values {
 
     fn and(self, other: Values) -> Values {
         Values {
-            zero: self.zero | other.zero,
+            may: self.may & other.may,
             one: self.one & other.one,
         }
     }
 
     fn or(self, other: Values) -> Values {
         Values {
-            zero: self.zero & other.zero,
+            may: self.may | other.may,
             one: self.one | other.one,
         }
     }
 
     fn xor(self, other: Values) -> Values {
         Values {
-            zero: self.zero & other.zero | self.one & other.one,
-            one: self.zero & other.one | self.one & other.zero,
+            may: self.may & !other.one | !self.one & other.may,
+            one: self.one & !other.may | !self.may & other.one,
         }
     }
 
-    fn lane(self, lane: u32) -> Shown {
-        match (self.zero >> lane & 1, self.one >> lane & 1) {
-            (1, 0) => Shown::Zero,
-            (0, 1) => Shown::One,
+    /// The lanes in which two differ.
+    pub fn differ(self, other: Values) -> u64 {
+        self.may ^ other.may | self.one ^ other.one
+    }
+
+    pub fn lane(self, lane: u32) -> Shown {
+        match (self.may >> lane & 1, self.one >> lane & 1) {
+            (0, _) => Shown::Zero,
+            (_, 1) => Shown::One,
             _ => Shown::Undefined,
         }
-    }
-}
-
-/// Both show the same at every port, under every setting that no never line of the first excludes; else the lowest setting is told, and
-/// there the first port. Both have the same pins and as many ports.
-pub fn same(ours: &Circuit, theirs: &Circuit) -> Result<(), Difference> {
-    let pins = ours.pins.len();
-    if pins > MOST_PINS {
-        return Err(Difference::TooManyPins(pins));
-    }
-    let (mut left, mut right) = (Simulation::of(ours), Simulation::of(theirs));
-    for first in (0..1 << pins).step_by(LANES) {
-        let come = settings_that_come(pins, first, &ours.nevers);
-        if come == 0 {
-            continue;
-        }
-        left.settle(first);
-        right.settle(first);
-        let both = ours.ports.iter().zip(&theirs.ports);
-        let both: Vec<_> = both
-            .map(|(a, b)| (left.value(a.1), right.value(b.1)))
-            .collect();
-        let lanes = both
-            .iter()
-            .map(|(a, b)| (a.zero ^ b.zero | a.one ^ b.one) & come);
-        let lane = lanes
-            .fold(0, |lanes, differ| lanes | differ)
-            .trailing_zeros();
-        if lane < u64::BITS {
-            return Err(told(ours, first + lane as usize, lane, &both));
-        }
-    }
-    Ok(())
-}
-
-/// The first port that differs in this lane.
-fn told(ours: &Circuit, setting: usize, lane: u32, both: &[(Values, Values)]) -> Difference {
-    let shown = both.iter().map(|(a, b)| (a.lane(lane), b.lane(lane)));
-    let mut shown = shown.zip(&ours.ports).filter(|((a, b), _)| a != b);
-    let ((original, written), (port, _)) = shown.next().expect("a port differs");
-    let pins = ours.pins.iter().enumerate();
-    Difference::Value {
-        setting: pins
-            .map(|(pin, &net)| (ours.nets.name(net), setting >> pin & 1 == 1))
-            .collect(),
-        port: port.to_string(),
-        written,
-        original,
     }
 }
 
@@ -132,7 +92,7 @@ fn pin_values(pin: usize, first: usize) -> Values {
 }
 
 /// The lanes of settings that there are and that no never line excludes.
-fn settings_that_come(pins: usize, first: usize, nevers: &[Never]) -> u64 {
+pub fn settings_that_come(pins: usize, first: usize, nevers: &[Never]) -> u64 {
     let there = match pins < PATTERNS.len() {
         true => (1 << (1 << pins)) - 1,
         false => u64::MAX,
@@ -149,69 +109,83 @@ fn settings_that_come(pins: usize, first: usize, nevers: &[Never]) -> u64 {
         .fold(there, |lanes, never| lanes & !excluded(never))
 }
 
-/// A circuit's gates in an order of evaluation, and the values of its nets.
-struct Simulation<'a> {
-    circuit: &'a Circuit<'a>,
-    gates: Vec<Gate>,
-    /// Where in the order loops close; each gate before and behind them stands behind all that it reads.
-    loops: Range<usize>,
+/// The values of a circuit's nets under 64 settings.
+#[derive(Debug, Default)]
+pub struct Simulation {
     values: Vec<Values>,
+    /// What the nets that close loops had before the last sweep.
+    before: Vec<Values>,
 }
 
-impl Simulation<'_> {
-    fn of<'a>(circuit: &'a Circuit<'a>) -> Simulation<'a> {
-        let gates = match circuit.straight {
-            true => circuit.gates.clone(),
-            false => ordered(circuit),
-        };
-        Simulation {
-            circuit,
-            loops: where_loops_close(circuit, &gates),
-            gates,
-            values: vec![UNDEFINED; circuit.nets.count()],
-        }
+impl Simulation {
+    /// For so many nets, in the room that there is.
+    pub fn begin(&mut self, nets: usize) {
+        self.values.clear();
+        self.values.resize(nets, UNDEFINED);
+        self.values[ZERO as usize] = Values::of(0);
+        self.values[ONE as usize] = Values::of(u64::MAX);
     }
 
-    fn value(&self, net: Net) -> Values {
+    pub fn value(&self, net: Net) -> Values {
         self.values[net as usize]
     }
 
-    /// The settled values under the 64 settings from `first` on.
-    fn settle(&mut self, first: usize) {
-        let Range { start, end } = self.loops;
-        self.values.fill(UNDEFINED);
-        self.values[ZERO as usize] = Values::of(0);
-        self.values[ONE as usize] = Values::of(u64::MAX);
-        for (pin, &net) in self.circuit.pins.iter().enumerate() {
+    /// Puts the pins to the 64 settings from `first` on.
+    pub fn set(&mut self, circuit: &Circuit, first: usize) {
+        for (pin, &net) in circuit.pins.iter().enumerate() {
             self.values[net as usize] = pin_values(pin, first);
         }
-        self.sweep(0..start);
-        while self.sweep(start..end) {}
-        self.sweep(end..self.gates.len());
     }
 
-    /// Evaluates these gates once; whether any of them has changed.
-    fn sweep(&mut self, gates: Range<usize>) -> bool {
-        let mut changed = 0;
-        for gate in &self.gates[gates] {
-            let value = evaluated(gate, &self.values);
-            let kept = &mut self.values[gate.net as usize];
-            changed |= kept.zero ^ value.zero | kept.one ^ value.one;
-            *kept = value;
+    /// The settled values of gates with loops. The nets that close them are all that a sweep reads of the one before it, so nothing changes
+    /// any more as soon as these do not.
+    pub fn settle(&mut self, order: &Order) {
+        let [before, within, behind] = order.parts();
+        self.sweep(before);
+        self.before.clear();
+        self.before.resize(order.closing.len(), UNDEFINED);
+        let values = &mut self.values;
+        let closing = order.closing.iter();
+        closing.for_each(|&net| values[net as usize] = UNDEFINED);
+        loop {
+            self.sweep(within);
+            let mut changed = 0;
+            for (&net, before) in order.closing.iter().zip(&mut self.before) {
+                changed |= before.differ(self.values[net as usize]);
+                *before = self.values[net as usize];
+            }
+            if changed == 0 {
+                break;
+            }
         }
-        changed != 0
+        self.sweep(behind);
+    }
+
+    /// Evaluates these gates once, in their order.
+    pub fn sweep(&mut self, gates: &[Gate]) {
+        for gate in gates {
+            self.values[gate.net as usize] = evaluated(gate, &self.values);
+        }
     }
 }
 
 /// A gate's values from those of what it reads.
+#[inline(always)]
 fn evaluated(gate: &Gate, values: &[Values]) -> Values {
     let value = |operand: usize| values[gate.reads[operand] as usize];
-    let [a, b, c, d] = [value(0), value(1), value(2), value(3)];
+    let of = |rule: fn(Values, Values) -> Values, inverted: bool| {
+        let two = rule(value(0), value(1));
+        let all = match gate.wide {
+            true => rule(rule(two, value(2)), value(3)),
+            false => two,
+        };
+        all.inverted(inverted)
+    };
     match gate.function {
-        Function::And(inverted) => a.and(b).and(c).and(d).inverted(inverted),
-        Function::Or(inverted) => a.or(b).or(c).or(d).inverted(inverted),
-        Function::Xor(inverted) => a.xor(b).xor(c).xor(d).inverted(inverted),
-        Function::Table(table) => by_table(table, [a, b, c, d]),
+        Function::And(inverted) => of(Values::and, inverted),
+        Function::Or(inverted) => of(Values::or, inverted),
+        Function::Xor(inverted) => of(Values::xor, inverted),
+        Function::Table(table) => by_table(table, [value(0), value(1), value(2), value(3)]),
     }
 }
 
@@ -219,77 +193,19 @@ fn evaluated(gate: &Gate, values: &[Values]) -> Values {
 fn by_table(table: u16, reads: [Values; 4]) -> Values {
     let (mut may_be_zero, mut may_be_one) = (0, 0);
     for row in 0..16 {
-        let other = |(operand, value): (usize, &Values)| match row >> operand & 1 {
-            0 => value.one,
-            _ => value.zero,
+        let can = |(operand, value): (usize, &Values)| match row >> operand & 1 {
+            0 => !value.one,
+            _ => value.may,
         };
-        let others = reads.iter().enumerate().map(other);
-        let met = others.fold(u64::MAX, |met, other| met & !other);
+        let reads = reads.iter().enumerate().map(can);
+        let met = reads.fold(u64::MAX, |met, can| met & can);
         match table >> row & 1 {
             0 => may_be_zero |= met,
             _ => may_be_one |= met,
         }
     }
     Values {
-        zero: !may_be_one,
+        may: may_be_one,
         one: !may_be_zero,
     }
-}
-
-/// The gates that the ports need, in an order in which each stands behind what it reads, but where a loop closes.
-fn ordered(circuit: &Circuit) -> Vec<Gate> {
-    let mut drivers: Vec<Option<&Gate>> = vec![None; circuit.nets.count()];
-    for gate in &circuit.gates {
-        drivers[gate.net as usize] = Some(gate);
-    }
-    let mut order = Vec::with_capacity(circuit.gates.len());
-    // The gates that wait, each with the number of its operands that have been followed.
-    let mut waiting: Vec<(&Gate, usize)> = Vec::new();
-    for (_, shown) in &circuit.ports {
-        // Taken, so that no gate is begun twice.
-        waiting.extend(drivers[*shown as usize].take().map(|gate| (gate, 0)));
-        while let Some((gate, followed)) = waiting.last_mut() {
-            match gate.reads.get(*followed) {
-                Some(&read) => {
-                    *followed += 1;
-                    waiting.extend(drivers[read as usize].take().map(|gate| (gate, 0)));
-                }
-                None => {
-                    order.push(**gate);
-                    waiting.pop();
-                }
-            }
-        }
-    }
-    order
-}
-
-/// From the first gate that reads a net which is driven there or later to the last gate that drives such a net.
-fn where_loops_close(circuit: &Circuit, gates: &[Gate]) -> Range<usize> {
-    if circuit.straight {
-        return 0..0;
-    }
-    #[derive(Clone, Copy, PartialEq)]
-    enum Net {
-        Open,
-        Read,
-        Driven,
-    }
-    let mut nets = vec![Net::Open; circuit.nets.count()];
-    let given = [ZERO, ONE].iter().chain(&circuit.pins);
-    given.for_each(|&net| nets[net as usize] = Net::Driven);
-    let mut closed: Option<Range<usize>> = None;
-    for (place, gate) in gates.iter().enumerate() {
-        for &read in &gate.reads {
-            if nets[read as usize] != Net::Driven {
-                nets[read as usize] = Net::Read;
-                closed.get_or_insert(place..place);
-            }
-        }
-        let net = replace(&mut nets[gate.net as usize], Net::Driven);
-        if let (Net::Read, Some(closed)) = (net, &mut closed) {
-            closed.end = place + 1;
-        }
-    }
-    closed.unwrap_or(0..0)
 }

@@ -1,26 +1,42 @@
 //! A reader of Verilog modules as they are written here: declarations of ports and wires, gates of Verilog's own, and assignments of a net.
 
-use super::circuit::{Circuit, Function, Gate, Reads};
-use super::cursor::{bytes, Bytes, Cursor};
+use super::circuit::{Circuit, Function, Reads};
+use super::cursor::{key_of, Cursor, Letters};
 use super::nets::{Net, ONE, ZERO};
+use std::ops::Range;
 
-/// What words are made of, and what names are that are escaped.
-const LETTERS: Bytes = bytes(&[(b'a', b'z'), (b'A', b'Z'), (b'0', b'9'), (b'_', b'_')]);
-const ESCAPED: Bytes = bytes(&[(b'!', 254)]);
+/// What words and numbers are made of.
+static WORDS: Letters = Letters::of(&[(b'0', b'9'), (b'A', b'Z'), (b'_', b'_'), (b'a', b'z')]);
+/// What names are made of, and what those are that are escaped.
+static LETTERS: Letters =
+    Letters::of(&[(b'0', b'9'), (b'A', b'Z'), (b'_', b'_'), (b'a', b'z')]).named(usize::MAX);
+static ESCAPED: Letters = Letters::of(&[(b'!', 254)]);
 
-/// The circuit of a module; `loops`: whether a gate may read its own net or one that is driven below it.
-pub fn read(text: &[u8], loops: bool) -> Result<Circuit<'_>, String> {
+/// Words that begin a statement, as keys.
+const INPUT: u64 = key_of(b"input");
+const OUTPUT: u64 = key_of(b"output");
+const WIRE: u64 = key_of(b"wire");
+const ASSIGN: u64 = key_of(b"assign");
+
+/// Reads a module; `loops`: whether a gate may read its own net or one that is driven below it.
+pub fn read(
+    text: &[u8],
+    loops: bool,
+    circuit: &mut Circuit,
+    room: &mut Room,
+) -> Result<(), String> {
+    room.listed.clear();
+    room.declared.clear();
     let mut module = Module {
         text: Cursor::of(text),
-        listed: Vec::new(),
-        declared: Vec::new(),
-        circuit: Circuit::of(text),
+        room,
+        circuit,
     };
     module.whole().ok_or_else(|| {
         let line = module.text.line_of(module.text.place());
         format!("what stands in line {line} is no part of such a module")
     })?;
-    module.circuit(loops)
+    module.ports(loops)
 }
 
 /// What a name is declared as.
@@ -39,188 +55,190 @@ struct Declared {
     width: Option<u16>,
 }
 
-struct Module<'a> {
-    text: Cursor<'a>,
+impl Declared {
+    fn nets(self) -> Range<Net> {
+        self.first..self.first + Net::from(self.width.unwrap_or(1))
+    }
+}
+
+/// What a module declares, in room that stays from one to the next.
+#[derive(Default)]
+pub struct Room {
     listed: Vec<Net>,
     /// By the number of the name.
     declared: Vec<Option<Declared>>,
-    circuit: Circuit<'a>,
 }
 
-impl<'a> Module<'a> {
-    /// Takes the whole module.
+struct Module<'a> {
+    text: Cursor<'a>,
+    room: &'a mut Room,
+    circuit: &'a mut Circuit,
+}
+
+impl Module<'_> {
+    /// Takes the whole module, a statement a line.
     fn whole(&mut self) -> Option<()> {
-        self.skip();
         while self.text.takes(b"//") {
-            self.text.skip(|byte| byte != b'\n');
-            self.skip();
+            self.text.pass_line();
         }
-        (self.word()? == b"module").then_some(())?;
+        self.text.must(b"module ")?;
         self.name()?;
-        self.sign(b"(")?;
-        if self.text.next() != Some(b')') {
-            self.listed = self.list(Self::name)?;
+        self.text.must(b" (")?;
+        if !self.text.takes(b");\n") {
+            self.list(|module| {
+                let name = module.name()?;
+                module.room.listed.push(name);
+                Some(())
+            })?;
+            self.text.must(b");\n")?;
         }
-        self.sign(b")")?;
-        self.sign(b";")?;
-        loop {
-            match self.word()? {
-                b"endmodule" => return self.text.is_at_end().then_some(()),
-                b"input" => self.declaration(Role::Input)?,
-                b"output" => self.declaration(Role::Output)?,
-                b"wire" => self.declaration(Role::Wire)?,
-                b"assign" => self.assignment()?,
-                word => self.gate(word)?,
+        while self.text.takes(b"  ") {
+            let (word, length) = self.text.key(&WORDS)?;
+            self.text.pass(length);
+            match word {
+                INPUT => self.declaration(Role::Input)?,
+                OUTPUT => self.declaration(Role::Output)?,
+                WIRE => self.declaration(Role::Wire)?,
+                ASSIGN => self.assignment()?,
+                _ => self.gate(word)?,
             }
-            self.sign(b";")?;
+            self.text.must(b";\n")?;
         }
+        self.text.must(b"endmodule\n")?;
+        self.text.is_at_end().then_some(())
     }
 
     fn assignment(&mut self) -> Option<()> {
+        self.text.must(b" ")?;
         let net = self.net()?;
-        self.sign(b"=")?;
+        self.text.must(b" = ")?;
         let mut reads = Reads::none();
         reads.push(self.operand()?)?;
-        let gate = Gate::of(Function::And(false), net, reads);
-        self.circuit.gates.push(gate);
+        self.circuit.push(Function::And(false), net, reads);
         Some(())
     }
 
     /// A gate: behind its word its net and what it reads.
-    fn gate(&mut self, word: &[u8]) -> Option<()> {
-        self.sign(b"(")?;
+    fn gate(&mut self, word: u64) -> Option<()> {
+        self.text.must(b" (")?;
         let net = self.net()?;
         let mut reads = Reads::none();
-        while self.is_sign(b",") {
+        while self.text.takes(b", ") {
             reads.push(self.operand()?)?;
         }
-        self.sign(b")")?;
-        let function = Function::of_word(word, reads.all().len())?;
-        self.circuit.gates.push(Gate::of(function, net, reads));
+        self.text.must(b")")?;
+        let function = Function::of_word(word, reads.count())?;
+        self.circuit.push(function, net, reads);
         Some(())
     }
 
     /// Names behind `input`, `output` or `wire`; a vector has its range before the name.
     fn declaration(&mut self, role: Role) -> Option<()> {
+        self.text.must(b" ")?;
         let mut width = None;
-        if self.is_sign(b"[") {
+        if self.text.takes(b"[") {
             width = Some(self.number()?.checked_add(1)?);
-            self.sign(b":")?;
-            (self.number()? == 0).then_some(())?;
-            self.sign(b"]")?;
+            self.text.must(b":0] ")?;
         }
-        for name in self.list(Self::name)? {
-            let bits = 0..width.unwrap_or(0);
-            let nets: Vec<Net> = bits.map(|bit| self.circuit.nets.bit(name, bit)).collect();
-            let first = nets.first().copied().unwrap_or(name);
-            let new = Declared { role, first, width };
-            self.declared.resize(self.circuit.nets.count(), None);
-            let known = self.declared[name as usize].replace(new);
-            known.is_none().then_some(())?;
+        self.list(|module| module.declare(role, width))
+    }
+
+    /// A name that is declared, with a net for each bit of a vector.
+    fn declare(&mut self, role: Role, width: Option<u16>) -> Option<()> {
+        let name = self.name()?;
+        let mut bits = (0..width.unwrap_or(0)).map(|bit| self.circuit.nets.bit(name, bit));
+        let first = bits.next().unwrap_or(name);
+        bits.for_each(drop);
+        let new = Declared { role, first, width };
+        if role == Role::Input {
+            new.nets().for_each(|net| self.circuit.drive(net));
+        }
+        if self.room.declared.len() < self.circuit.nets.count() {
+            let more = 2 * self.circuit.nets.count();
+            self.room.declared.resize(more, None);
+        }
+        let known = self.room.declared[name as usize].replace(new);
+        known.is_none().then_some(())
+    }
+
+    /// Parts with commas between them.
+    fn list(&mut self, mut part: impl FnMut(&mut Self) -> Option<()>) -> Option<()> {
+        part(self)?;
+        while self.text.takes(b", ") {
+            part(self)?;
         }
         Some(())
     }
 
-    /// Parts with commas between them.
-    fn list<T>(&mut self, part: impl Fn(&mut Self) -> Option<T>) -> Option<Vec<T>> {
-        let mut parts = vec![part(self)?];
-        while self.is_sign(b",") {
-            parts.push(part(self)?);
-        }
-        Some(parts)
-    }
-
+    #[inline(always)]
     fn operand(&mut self) -> Option<Net> {
-        for (constant, net) in [(b"1'b0", ZERO), (b"1'b1", ONE)] {
-            if self.is_sign(constant) {
-                return Some(net);
-            }
+        if self.text.next() != Some(b'1') {
+            return self.net();
         }
-        self.net()
+        let one = self.text.takes(b"1'b1");
+        (one || self.text.takes(b"1'b0")).then_some(if one { ONE } else { ZERO })
     }
 
     /// A net that is declared: a name's, or a bit of a vector.
+    #[inline(always)]
     fn net(&mut self) -> Option<Net> {
         let name = self.name()? as usize;
-        let Declared { first, width, .. } = (*self.declared.get(name)?)?;
+        let Declared { first, width, .. } = (*self.room.declared.get(name)?)?;
         let Some(width) = width else {
             return Some(first);
         };
-        self.sign(b"[")?;
+        self.text.must(b"[")?;
         let bit = self.number().filter(|&bit| bit < width)?;
-        self.sign(b"]")?;
+        self.text.must(b"]")?;
         Some(first + Net::from(bit))
     }
 
     /// A name, escaped or not.
+    #[inline(always)]
     fn name(&mut self) -> Option<Net> {
-        let escaped = self.text.takes(b"\\");
-        let name = match escaped {
-            true => self.text.name(&ESCAPED)?,
-            false => self.text.name(&LETTERS)?,
-        };
-        let blank = self.text.next().is_some_and(|byte| byte == b' ');
-        self.skip();
-        let taken = if escaped {
-            blank
-        } else {
-            !name.text[0].is_ascii_digit()
-        };
-        taken.then(|| self.circuit.nets.of(name))
+        match self.text.takes(b"\\") {
+            true => self.escaped(),
+            false => self.circuit.nets.take(&mut self.text, &LETTERS),
+        }
+    }
+
+    /// A name behind the sign that escapes it, and before the blank that ends it. Its bytes are its key where it may stand there without.
+    fn escaped(&mut self) -> Option<Net> {
+        let name = self.text.name(&ESCAPED)?;
+        let plain = name.iter().all(|byte| LETTERS.has(*byte)) && LETTERS.may_be(name);
+        let short = plain && name.len() <= 8;
+        let net = self.circuit.nets.named(&self.text, name, short);
+        self.text.must(b" ")?;
+        Some(net)
     }
 
     fn number(&mut self) -> Option<u16> {
-        let word = std::str::from_utf8(self.word()?).ok()?;
-        word.parse().ok()
-    }
-
-    /// Letters, digits and `_`, at least one.
-    fn word(&mut self) -> Option<&'a [u8]> {
-        let word = self.text.name(&LETTERS)?;
-        self.skip();
-        Some(word.text)
-    }
-
-    /// Goes past a sign and the blanks behind it, if it stands here.
-    fn is_sign<const N: usize>(&mut self, sign: &[u8; N]) -> bool {
-        let here = self.text.takes(sign);
-        if here {
-            self.skip();
-        }
-        here
-    }
-
-    fn sign<const N: usize>(&mut self, sign: &[u8; N]) -> Option<()> {
-        self.is_sign(sign).then_some(())
-    }
-
-    /// Goes past blanks.
-    fn skip(&mut self) {
-        self.text.skip(|byte| byte.is_ascii_whitespace());
+        let digits = std::str::from_utf8(self.text.name(&WORDS)?).ok()?;
+        digits.parse().ok()
     }
 
     /// The ports in the order in which the module lists them, the bits of a vector from 0 on.
-    fn circuit(mut self, loops: bool) -> Result<Circuit<'a>, String> {
-        for name in self.listed {
-            let declared = self.declared.get_mut(name as usize).and_then(Option::take);
-            let port = declared.filter(|declared| declared.role != Role::Wire);
-            let Some(Declared { role, first, width }) = port else {
-                let name = self.circuit.nets.name(name);
+    fn ports(self, loops: bool) -> Result<(), String> {
+        let (circuit, text) = (self.circuit, self.text.text());
+        let Room { listed, declared } = self.room;
+        for &mut name in listed {
+            let named = declared.get_mut(name as usize).and_then(Option::take);
+            let Some(port) = named.filter(|declared| declared.role != Role::Wire) else {
+                let name = circuit.nets.label(name).told(text);
                 return Err(format!("{name} is declared as no port, or listed twice"));
             };
-            let bits = first..first + Net::from(width.unwrap_or(1));
-            match role {
-                Role::Input => self.circuit.pins.extend(bits),
+            match port.role {
+                Role::Input => circuit.pins.extend(port.nets()),
                 _ => {
-                    let named = bits.map(|net| (self.circuit.nets.name(net), net));
-                    self.circuit.ports.extend(named);
+                    let named = port.nets().map(|net| (circuit.nets.label(net), net));
+                    circuit.ports.extend(named);
                 }
             }
         }
-        let mut left = self.declared.iter().flatten();
+        let mut left = declared.iter().flatten();
         if left.any(|declared| declared.role != Role::Wire) {
             return Err("a port is declared that is not listed".to_string());
         }
-        self.circuit.whole(loops)
+        circuit.whole(text, loops)
     }
 }

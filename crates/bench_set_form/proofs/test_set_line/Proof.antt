@@ -3,7 +3,7 @@ use borrow.Author.Needs.{needs}
 use Rattle.bench_set_form.proofs.test_set_line.Statement.{statement}
 use Rattle.bench_set_form.proofs.test_set_line.Tie as tie
 use mathlib.Core.Path.{sym, _∙_}
-use Rattle.text_recogniser.proofs.Continues.{stuck-short}
+use Rattle.text_scan.proofs.Continues.{stuck-short}
 use Rattle.bench_set_form.proofs.LineSteps.{line-passed, line-failed, shortens-set-line}
 
 sub-t7 : tie.Need-sub-t7

@@ -1,4 +1,5 @@
--- `cover_entries` meets its contract: where every setting is settled the cover is one entry; else it is found with tables for few inputs, or for the most.
+-- `cover_entries` meets its contract: where every setting is settled the cover is one entry; else it is found with
+-- tables for few inputs, or for the most.
 -- Assumes nothing.
 use mathlib.Core.Path.{sym, _∙_}
 use Rattle.cover_implicants.proofs.TableCover.{everywhere-written}
@@ -12,7 +13,8 @@ everywhere c =
     let branch = written .before .before in
     let tested = branch .before in
     let start = tested .before .before .before in
-    everywhere-written (start .args .settled .now) (start .args .n) (sym (tested .are-all-settled .ensures) ∙ branch .if1 .taken)
+    everywhere-written (start .args .settled .now) (start .args .n)
+    (sym (tested .are-all-settled .ensures) ∙ branch .if1 .taken)
     (written .write-nothing .ensures)
 
 pub cover-entries-spec : {M : Type 1} → statement M

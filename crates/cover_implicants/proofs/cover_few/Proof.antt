@@ -1,14 +1,14 @@
 -- `cover_few` meets its contract: its tables are long enough for few inputs. Assumes nothing.
 use native.Mathlib.Nat.{pow-le-pow-right}
 use native.Mathlib.Omega.{arith}
-use Rattle.cover_implicants.specs.Tables.{fewInputs}
+use Rattle.theory_cover.specs.Tables.{fewInputs}
 use borrow.Author.Needs.{needs}
 use Rattle.cover_implicants.proofs.cover_few.Statement.{statement}
 use Rattle.cover_implicants.proofs.cover_few.Tie as tie
 
 cover-within-requires : tie.Need-cover-within-requires
 cover-within-requires c κs =
-    let start = c .before .before .before .before .before in
+    let start : tie.Start = search in
     let n = start .args .n in (
       omega (arith, start .pre .0),
       start .pre .1,

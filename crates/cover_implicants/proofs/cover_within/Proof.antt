@@ -1,4 +1,5 @@
--- `cover_within` meets its contract: the tables are right, so the entries that they show are the cover. Assumes nothing.
+-- `cover_within` meets its contract: the tables are right, so the entries that they show are the cover. Assumes
+-- nothing.
 use native.Mathlib.Omega.{arith}
 use Rattle.cover_implicants.proofs.Dropping.{minimal-counted}
 use Rattle.cover_implicants.proofs.Joining.{filled-all}
@@ -9,16 +10,15 @@ use Rattle.cover_implicants.proofs.cover_within.Tie as tie
 
 keep-minimal-requires : tie.Need-keep-minimal-requires
 keep-minimal-requires c κs =
-    let sounded = c .before .before .before in
-    let start = sounded .before .before .before .before .before .before .before .before .before .before in
+    let sounded : tie.After-fill-sound = search in
+    let start : tie.Start = search in
     (start .pre .0, filled-all (sounded .fill-sound .ensures), sounded .fill-sound .ensures .room)
 
 write-entries-requires : tie.Need-write-entries-requires
 write-entries-requires c κs =
-    let minimal = c .before .before .before .before .before in
-    let sounded = minimal .before .before .before .before in
-    let weighed = sounded .before .before .before .before in
-    let start = weighed .before .before .before .before .before .before in (
+    let minimal : tie.After-keep-minimal = search in
+    let sounded : tie.After-fill-sound = search in
+    let weighed : tie.After-fill-weights = search in (
       weighed .fill-weights .ensures,
       filled-all (sounded .fill-sound .ensures),
       omega (arith, minimal .keep-minimal .kept .1 .1 .0, sounded .fill-sound .ensures .room),
@@ -28,8 +28,8 @@ write-entries-requires c κs =
 returns : tie.Need-returns
 returns c =
     let written = c .before .before in
-    let minimal = written .before .before .before .before .before .before in
-    let sounded = minimal .before .before .before .before in
+    let minimal : tie.After-keep-minimal = search in
+    let sounded : tie.After-fill-sound = search in
     cover-written (sounded .fill-sound .ensures) (minimal .keep-minimal .ensures) (written .write-entries .ensures)
 
 pub cover-within-spec : {M : Type 1} → statement M

@@ -5,7 +5,10 @@ use Rattle.exports.proofs.unloop_gather.Statement.{statement}
 use Rattle.exports.proofs.unloop_gather.Tie as tie
 
 returns : tie.Need-returns
-returns c = gather-reply (c .before .before .before .before .before .gather .ensures) (c .reply-of .ensures)
+returns c =
+    let g : tie.After-gather = search in
+    gather-reply (g .gather .ensures) (c .reply-of .ensures)
 
 pub unloop-gather-spec : {M : Type 1} → statement M
-unloop-gather-spec = tie.close (tie.spec (λ c κs. search needs) (λ c κs. search needs) (λ c. search needs) (λ c. search needs) returns)
+unloop-gather-spec =
+    tie.close (tie.spec (λ c κs. search needs) (λ c κs. search needs) (λ c. search needs) (λ c. search needs) returns)

@@ -1,6 +1,7 @@
--- `exports::unloop_sheet` meets its contract: a walk of its MIR, by hand. The borrow of the records is opened once, before the loop, and closed once, after it.
--- A turn takes one record out of the row, calls `advance` and `answer` with it, and puts what they leave in its place. All that the proof knows of the five
--- functions that are called is that they meet their contracts. What the turns come to is in Walked of `op_sheet`. Assumes nothing.
+-- `exports::unloop_sheet` meets its contract: a walk of its MIR, by hand. The borrow of the records is opened once,
+-- before the loop, and closed once, after it. A turn takes one record out of the row, calls `advance` and `answer` with
+-- it, and puts what they leave in its place. All that the proof knows of the five functions that are called is that
+-- they meet their contracts. What the turns come to is in Walked of `op_sheet`. Assumes nothing.
 use mathlib.Core.Path.{_≡_, refl, sym, _∙_, ap, subst}
 use Prim.Native.Nat.{ℕ, zero, suc, _+_, _-_, _*_, _%_, _≤_, _<_, _^_}
 use native.Mathlib.Nat.{add-zero, add-suc, suc-add, zero-add, lt-suc-self, lt-irrefl}
@@ -22,9 +23,11 @@ use prog.Wp.{Heap, Out, Env, Calls, Loops, Wp, WpFn, Tables, afterSeq, afterBloc
 use ghost.Atoms.{Atoms, sem}
 use contract.Monad.{Fun, fact, factI}
 use contract.Running.{givenOf, tables, tablesOf}
-use types.Kit.{Given, Item, Step, step, prop, ‵, raw, _⊛_, ⋆, some, later, anyQ, atRet, _$_, _∵_, !, qed, by, move, keep, drop, use1, use2, split}
+use types.Kit.{Given, Item, Step, step, prop, ‵, raw, _⊛_, ⋆, some, later, anyQ, atRet, _$_, _∵_, !, qed, by, move}
+use types.Kit.{keep, drop, use1, use2, split}
 use types.Kit.{join, pick, rewrite, fsplit, fjoin, suffices, frame, await, done}
-use types.Run.{look, look-raw, init, store, store-raw, forget, stop, hop, fld, from, load, lit, of-opd, bin, and-then, no-more, assigns, assigns-last, land}
+use types.Run.{look, look-raw, init, store, store-raw, forget, stop, hop, fld, from, load, lit, of-opd, bin, and-then}
+use types.Run.{no-more, assigns, assigns-last, land}
 use types.Run.{stays, leaves-loop, exec, returns, enter, alloc1, alloc0, params1, pass1, pass0, free1, free0}
 use types.Part.{whole, sub, look-in}
 use sound.Loop.{loop-rule}
@@ -36,7 +39,8 @@ use denote.Memory.{mem, pointee}
 use denote.Plain.{uint-makes, uint-lawful, uint-tells}
 use denote.Builtin.{u16, usize}
 use denote.Ref.{RefT, now}
-use denote.Slice.{sliceTy, sliceVal, ShrSlice, MutSlice, Room, heres, codedHoleys, at-slice, slice-vals, shr-slice-tells, mut-slice-tells}
+use denote.Slice.{sliceTy, sliceVal, ShrSlice, MutSlice, Room, heres, codedHoleys, at-slice, slice-vals}
+use denote.Slice.{shr-slice-tells, mut-slice-tells}
 use denote.Slice.{shr-slice-lawful, shr-slice-copy}
 use denote.Lend.{Held}
 use denote.Index.{place-is, row, elem-out, elem-put, opens-slice, closes-slice}
@@ -49,7 +53,8 @@ use denote.Triple.Clauses.{ensured, lasts}
 use denote.Triple.Entry.{onEntry}
 use denote.Triple.Spec.{Meets, tripleOf}
 use denote.Triple.Table.{entered, cited}
-use denote.Triple.Walked.{says, Stays, stay-slice, stay-none-slice, walkOf, AllGo, goes-slice, goes-none-slice, Walks, ends-at, walked, walk-meets}
+use denote.Triple.Walked.{says, Stays, stay-slice, stay-none-slice, walkOf, AllGo, goes-slice, goes-none-slice, Walks}
+use denote.Triple.Walked.{ends-at, walked, walk-meets}
 use denote.Exit.{yes}
 use Rattle.netlist.specs.declared.Record.{Record}
 use Rattle.netlist.specs.declared.Reply.{Reply}
@@ -59,7 +64,8 @@ use Rattle.netlist.specs.Sheet.{sheet}
 use Rattle.op_sheet.specs.declared.turns.Batch.{Batch}
 use Rattle.op_sheet.specs.Side.{Room as BatchRoom}
 use Rattle.op_sheet.specs.Order.{sizeAt, readsAt, recordAt, BatchAdvanced, Answerable, turned}
-use Rattle.op_sheet.proofs.Walked.{before, length-before, before-none, BatchAt, batch-first, turn-whole, turns-fit, turn-place, turn-record, turn-answers}
+use Rattle.op_sheet.proofs.Walked.{before, length-before, before-none, BatchAt, batch-first, turn-whole, turns-fit}
+use Rattle.op_sheet.proofs.Walked.{turn-place, turn-record, turn-answers}
 use Rattle.op_sheet.proofs.Walked.{turn-batch, turns-all}
 use Rattle.netlist.proofs.Record as R
 use Rattle.netlist.proofs.Record.Laws as R′
@@ -106,10 +112,12 @@ one-more : (i : ℕ) → i + 1 ≡ suc i
 one-more i = add-suc i zero ∙ ap suc (add-zero i)
 
 -- a goal P ∗ (⌜φ⌝ ∗ ⌜ψ⌝): both are shown, and P is left
-says-both : {M : Type 1} {𝓤 : URA M} {H : Heap 𝓤} {A : Atoms 𝓤} {K : Type 0} {W : Given 𝓤 H A} {Γ : List (Item 𝓤)} → K → {φ ψ : Type 0} {P : SProp 𝓤} → φ → ψ
+says-both : {M : Type 1} {𝓤 : URA M} {H : Heap 𝓤} {A : Atoms 𝓤} {K : Type 0} {W : Given 𝓤 H A} {Γ : List (Item 𝓤)} → K
+    → {φ ψ : Type 0} {P : SProp 𝓤} → φ → ψ
     → Step K W Γ (prop P) Γ (prop (sep 𝓤 P (sep 𝓤 (fact 𝓤 φ) (fact 𝓤 ψ))))
 says-both {𝓤 = 𝓤} t {φ} {ψ} {P} a c = step (λ s. record {
-  prf = via 𝓤 (sep 𝓤 P (fact 𝓤 ψ)) ((says t c $ s) .prf) (monoR 𝓤 P (via 𝓤 (sep 𝓤 (emp 𝓤) (fact 𝓤 ψ)) (emp∗ 𝓤 (fact 𝓤 ψ))
+  prf =
+      via 𝓤 (sep 𝓤 P (fact 𝓤 ψ)) ((says t c $ s) .prf) (monoR 𝓤 P (via 𝓤 (sep 𝓤 (emp 𝓤) (fact 𝓤 ψ)) (emp∗ 𝓤 (fact 𝓤 ψ))
       (monoL 𝓤 (fact 𝓤 ψ) (factI 𝓤 φ (emp 𝓤) a))));
 })
 
@@ -139,8 +147,10 @@ function = record {
   outlives = [];
   params = 2;
   locals = local P′.mir valueLocal ∷ local words valueLocal ∷ local lent valueLocal
-      ∷ local P′.mir valueLocal ∷ local word valueLocal ∷ local word valueLocal ∷ local B′.mir valueLocal ∷ local word valueLocal ∷ local word valueLocal
-      ∷ local R′.mir valueLocal ∷ local word valueLocal ∷ local tyBool valueLocal ∷ local word valueLocal ∷ local tyPtr valueLocal ∷ local R′.mir valueLocal
+      ∷ local P′.mir valueLocal ∷ local word valueLocal ∷ local word valueLocal ∷ local B′.mir valueLocal
+      ∷ local word valueLocal ∷ local word valueLocal
+      ∷ local R′.mir valueLocal ∷ local word valueLocal ∷ local tyBool valueLocal ∷ local word valueLocal
+      ∷ local tyPtr valueLocal ∷ local R′.mir valueLocal
       ∷ local tyPtr valueLocal ∷ [];
   body = parts.t-1;
 }
@@ -170,8 +180,10 @@ module _ {M : Type 1} (𝓤 : URA M) (H : Heap 𝓤) (A : Atoms 𝓤) (at-mem : 
   abbrev Answered : Contract 𝓤
   Answered = tripleOf 𝓤 H A answered.signature (answered.spec 𝓤 H A at-mem run)
 
-module _ {M : Type 1} (𝓤 : URA M) (H : Heap 𝓤) (A : Atoms 𝓤) (W : Given 𝓤 H A) (at-mem : Memory → SProp 𝓤) (run : Routine → Fun 𝓤)
-    (κ κ′ : Lft) (q q′ : Share) (s : RefT (List ℕ)) (b o : ℕ) (γ : GName) (rs : List Record) (fits : Room Row (length rs)) where
+module _ {M : Type 1} (𝓤 : URA M) (H : Heap 𝓤) (A : Atoms 𝓤) (W : Given 𝓤 H A) (at-mem : Memory → SProp 𝓤)
+    (run : Routine → Fun 𝓤)
+    (κ κ′ : Lft) (q q′ : Share) (s : RefT (List ℕ)) (b o : ℕ) (γ : GName) (rs : List Record)
+    (fits : Room Row (length rs)) where
   abbrev ws : List ℕ
   ws = now s
 
@@ -212,24 +224,32 @@ module _ {M : Type 1} (𝓤 : URA M) (H : Heap 𝓤) (A : Atoms 𝓤) (W : Given
 
   handed-started : ent 𝓤 (onEntry 𝓤 H A started.signature (κ, tt) (q, tt) (s, (n, tt)) (v ∷ [], (vint w64 n ∷ [], tt)))
       (Started 𝓤 H A at-mem run .pre to-started)
-  handed-started = qed W (Alive ∷ ‵ (owns (ShrSlice (named 0) κ u16 ∷ usize ∷ []) (s, (n, tt)) (v ∷ [], (vint w64 n ∷ [], tt))) ∷ []) ∵ join ! $ frame ! $
+  handed-started =
+      qed W (Alive ∷ ‵ (owns (ShrSlice (named 0) κ u16 ∷ usize ∷ []) (s, (n, tt)) (v ∷ [], (vint w64 n ∷ [], tt))) ∷ [])
+      ∵ join ! $ frame ! $
       done !
 
   goes-started : ent 𝓤 (⋆ 𝓤 H A (Alive ∷ ‵ Own ∷ [])) (sep 𝓤 (Started 𝓤 H A at-mem run .pre to-started) (sem 𝓤 H A Own))
   goes-started =
-      qed W (Alive ∷ ‵ Own ∷ []) ∵ move ! (1 ∷ []) $ use1 W (‵ Own ⊛ ‵ Own) (shr-slice-copy 𝓤 H A W (named 0) κ u16 .twice s (v ∷ [])) $ split ! $
-      move ! (1 ∷ 2 ∷ 0 ∷ []) $ nothing ! $ owned ! usize (Is usize) (uint-makes 𝓤 H A W w64) n _ (refl, fits .0) $ fjoin ! $ move ! (1 ∷ 0 ∷ []) $ fjoin ! $
+      qed W (Alive ∷ ‵ Own ∷ [])
+      ∵ move ! (1 ∷ []) $ use1 W (‵ Own ⊛ ‵ Own) (shr-slice-copy 𝓤 H A W (named 0) κ u16 .twice s (v ∷ [])) $ split ! $
+      move ! (1 ∷ 2 ∷ 0 ∷ []) $ nothing ! $ owned ! usize (Is usize) (uint-makes 𝓤 H A W w64) n _ (refl, fits .0) $
+      fjoin ! $ move ! (1 ∷ 0 ∷ []) $ fjoin ! $
       move ! (1 ∷ 0 ∷ []) $
       use2 W (raw (Started 𝓤 H A at-mem run .pre to-started)) handed-started $ frame ! $ done !
 
-  said-started : (r : Reply) → ent 𝓤 (ensured 𝓤 H A started.ended (started.clauses 𝓤 H A at-mem run) (κ, tt) (s, (n, tt)) tt r)
+  said-started : (r : Reply)
+      → ent 𝓤 (ensured 𝓤 H A started.ended (started.clauses 𝓤 H A at-mem run) (κ, tt) (s, (n, tt)) tt r)
       (fact 𝓤 (Shows (answerOf (sheet ws n)) r))
-  said-started r = exE 𝓤 _ (λ ls. snd∗ 𝓤 (sem 𝓤 H A (lasts started.ended (κ, tt) (s, (n, tt)) ls)) (fact 𝓤 (Shows (answerOf (sheet ws n)) r)))
+  said-started r =
+      exE 𝓤 _ (λ ls. snd∗ 𝓤 (sem 𝓤 H A (lasts started.ended (κ, tt) (s, (n, tt)) ls))
+      (fact 𝓤 (Shows (answerOf (sheet ws n)) r)))
 
   abbrev to-made : Made 𝓤 H A at-mem run .Ghost
   to-made = ((tt, tt, tt, tt, tt), tt)
 
-  said-made : (x : Batch) → ent 𝓤 (ensured 𝓤 H A made.ended (made.clauses 𝓤 H A at-mem run) tt tt tt x) (fact 𝓤 (BatchRoom x))
+  said-made : (x : Batch)
+      → ent 𝓤 (ensured 𝓤 H A made.ended (made.clauses 𝓤 H A at-mem run) tt tt tt x) (fact 𝓤 (BatchRoom x))
   said-made x = exE 𝓤 _ (λ ls. snd∗ 𝓤 (sem 𝓤 H A (lasts made.ended tt tt ls)) (fact 𝓤 (BatchRoom x)))
 
   handed-made : ent 𝓤 (⋆ 𝓤 H A (‵ ftrue ∷ ‵ ftrue ∷ [])) (Made 𝓤 H A at-mem run .pre to-made)
@@ -239,13 +259,19 @@ module _ {M : Type 1} (𝓤 : URA M) (H : Heap 𝓤) (A : Atoms 𝓤) (W : Given
     abbrev to-placed : Placed 𝓤 H A at-mem run .Ghost
     to-placed = ((tt, tt, tt, (c, (t, tt)), (vint w64 c ∷ [], (vint w64 t ∷ [], tt))), tt)
 
-    handed-placed : t < 2 * c → ent 𝓤 (⋆ 𝓤 H A (‵ ftrue ∷ ‵ (owns (usize ∷ usize ∷ []) (c, (t, tt)) (vint w64 c ∷ [], (vint w64 t ∷ [], tt))) ∷ []))
+    handed-placed : t < 2 * c
+        → ent 𝓤 (⋆ 𝓤 H A (‵ ftrue ∷ ‵ (owns (usize ∷ usize ∷ []) (c, (t, tt)) (vint w64 c ∷ [], (vint w64 t ∷ [], tt)))
+        ∷ []))
         (Placed 𝓤 H A at-mem run .pre to-placed)
     handed-placed small =
-        qed W (‵ ftrue ∷ ‵ (owns (usize ∷ usize ∷ []) (c, (t, tt)) (vint w64 c ∷ [], (vint w64 t ∷ [], tt))) ∷ []) ∵ says ! small $ join ! $ done !
+        qed W (‵ ftrue ∷ ‵ (owns (usize ∷ usize ∷ []) (c, (t, tt)) (vint w64 c ∷ [], (vint w64 t ∷ [], tt))) ∷ [])
+        ∵ says ! small $ join ! $ done !
 
-    said-placed : (i : ℕ) → ent 𝓤 (ensured 𝓤 H A placed.ended (placed.clauses 𝓤 H A at-mem run) tt (c, (t, tt)) tt i) (fact 𝓤 (i ≡ recordAt c t))
-    said-placed i = exE 𝓤 _ (λ ls. snd∗ 𝓤 (sem 𝓤 H A (lasts placed.ended tt (c, (t, tt)) ls)) (fact 𝓤 (i ≡ recordAt c t)))
+    said-placed : (i : ℕ)
+        → ent 𝓤 (ensured 𝓤 H A placed.ended (placed.clauses 𝓤 H A at-mem run) tt (c, (t, tt)) tt i)
+        (fact 𝓤 (i ≡ recordAt c t))
+    said-placed i =
+        exE 𝓤 _ (λ ls. snd∗ 𝓤 (sem 𝓤 H A (lasts placed.ended tt (c, (t, tt)) ls)) (fact 𝓤 (i ≡ recordAt c t)))
 
     -- the two calls with the record and the batch
     module _ (c-fits : c < 2 ^ 64) (t-fits : t < 2 ^ 64) (z : Record) (was : Is Row z (R′.lowered z ∷ [])) (x : Batch)
@@ -259,13 +285,18 @@ module _ {M : Type 1} (𝓤 : URA M) (H : Heap 𝓤) (A : Atoms 𝓤) (W : Given
       abbrev Owned : Fml
       Owned = owns (ShrSlice (named 0) κ u16 ∷ usize ∷ usize ∷ Row ∷ B.the-row ∷ []) args vals
 
-      gathers : (P : SProp 𝓤) → ent 𝓤 (⋆ 𝓤 H A (Alive ∷ ‵ Owned ∷ [])) P → ent 𝓤 (⋆ 𝓤 H A (Alive ∷ ‵ Own ∷ [])) (sep 𝓤 P (sem 𝓤 H A Own))
+      gathers : (P : SProp 𝓤) → ent 𝓤 (⋆ 𝓤 H A (Alive ∷ ‵ Owned ∷ [])) P
+          → ent 𝓤 (⋆ 𝓤 H A (Alive ∷ ‵ Own ∷ [])) (sep 𝓤 P (sem 𝓤 H A Own))
       gathers P handed =
-          qed W (Alive ∷ ‵ Own ∷ []) ∵ move ! (1 ∷ []) $ use1 W (‵ Own ⊛ ‵ Own) (shr-slice-copy 𝓤 H A W (named 0) κ u16 .twice s (v ∷ [])) $ split ! $
-          move ! (1 ∷ 2 ∷ 0 ∷ []) $ nothing ! $ owned ! B.the-row (Is B.the-row) (LL.makes B.the-type B′.the-plain 𝓤 H A) x _ had $ fjoin ! $
+          qed W (Alive ∷ ‵ Own ∷ [])
+          ∵ move ! (1 ∷ []) $ use1 W (‵ Own ⊛ ‵ Own) (shr-slice-copy 𝓤 H A W (named 0) κ u16 .twice s (v ∷ [])) $
+          split ! $
+          move ! (1 ∷ 2 ∷ 0 ∷ []) $ nothing ! $ owned ! B.the-row (Is B.the-row)
+          (LL.makes B.the-type B′.the-plain 𝓤 H A) x _ had $ fjoin ! $
           owned ! Row (Is Row) (LL.makes R.the-type R′.the-plain 𝓤 H A) z _ was $ fjoin ! $
           owned ! usize (Is usize) (uint-makes 𝓤 H A W w64) t _ (refl, t-fits) $ fjoin ! $
-          owned ! usize (Is usize) (uint-makes 𝓤 H A W w64) c _ (refl, c-fits) $ fjoin ! $ move ! (1 ∷ 0 ∷ []) $ fjoin ! $ move ! (1 ∷ 0 ∷ []) $
+          owned ! usize (Is usize) (uint-makes 𝓤 H A W w64) c _ (refl, c-fits) $ fjoin ! $ move ! (1 ∷ 0 ∷ []) $
+          fjoin ! $ move ! (1 ∷ 0 ∷ []) $
           use2 W (raw P) handed $ frame ! $ done !
 
       abbrev to-advances : Advances 𝓤 H A at-mem run .Ghost
@@ -274,23 +305,31 @@ module _ {M : Type 1} (𝓤 : URA M) (H : Heap 𝓤) (A : Atoms 𝓤) (W : Given
       goes-advances : isMalformed ws ≡ false → t < 2 * c → BatchRoom x
           → ent 𝓤 (⋆ 𝓤 H A (Alive ∷ ‵ Own ∷ [])) (sep 𝓤 (Advances 𝓤 H A at-mem run .pre to-advances) (sem 𝓤 H A Own))
       goes-advances whole-block small room =
-          gathers (Advances 𝓤 H A at-mem run .pre to-advances) (qed W (Alive ∷ ‵ Owned ∷ []) ∵ says ! (whole-block, small, room) $ join ! $ done !)
+          gathers (Advances 𝓤 H A at-mem run .pre to-advances)
+          (qed W (Alive ∷ ‵ Owned ∷ []) ∵ says ! (whole-block, small, room) $ join ! $ done !)
 
-      said-advances : (y : Batch) → ent 𝓤 (ensured 𝓤 H A advanced.ended (advanced.clauses 𝓤 H A at-mem run) (κ, tt) args tt y)
+      said-advances : (y : Batch)
+          → ent 𝓤 (ensured 𝓤 H A advanced.ended (advanced.clauses 𝓤 H A at-mem run) (κ, tt) args tt y)
           (fact 𝓤 (BatchAdvanced ws c t z x y))
-      said-advances y = exE 𝓤 _ (λ ls. snd∗ 𝓤 (sem 𝓤 H A (lasts advanced.ended (κ, tt) args ls)) (fact 𝓤 (BatchAdvanced ws c t z x y)))
+      said-advances y =
+          exE 𝓤 _ (λ ls. snd∗ 𝓤 (sem 𝓤 H A (lasts advanced.ended (κ, tt) args ls))
+          (fact 𝓤 (BatchAdvanced ws c t z x y)))
 
       abbrev to-answered : Answered 𝓤 H A at-mem run .Ghost
       to-answered = (((κ, tt), (q, tt), tt, args, vals), tt)
 
-      goes-answered : t < 2 * c → (readsAt c t ≡ false → Answerable ws (t % 128 - sizeAt c t) (z .fixed) (z .ones) (x .shown))
+      goes-answered : t < 2 * c
+          → (readsAt c t ≡ false → Answerable ws (t % 128 - sizeAt c t) (z .fixed) (z .ones) (x .shown))
           → ent 𝓤 (⋆ 𝓤 H A (Alive ∷ ‵ Own ∷ [])) (sep 𝓤 (Answered 𝓤 H A at-mem run .pre to-answered) (sem 𝓤 H A Own))
       goes-answered small shows-it =
-          gathers (Answered 𝓤 H A at-mem run .pre to-answered) (qed W (Alive ∷ ‵ Owned ∷ []) ∵ says-both ! small shows-it $ join ! $ done !)
+          gathers (Answered 𝓤 H A at-mem run .pre to-answered)
+          (qed W (Alive ∷ ‵ Owned ∷ []) ∵ says-both ! small shows-it $ join ! $ done !)
 
-      said-answered : (y : Record) → ent 𝓤 (ensured 𝓤 H A answered.ended (answered.clauses 𝓤 H A at-mem run) (κ, tt) args tt y)
+      said-answered : (y : Record)
+          → ent 𝓤 (ensured 𝓤 H A answered.ended (answered.clauses 𝓤 H A at-mem run) (κ, tt) args tt y)
           (fact 𝓤 (y ≡ turned ws c t z))
-      said-answered y = exE 𝓤 _ (λ ls. snd∗ 𝓤 (sem 𝓤 H A (lasts answered.ended (κ, tt) args ls)) (fact 𝓤 (y ≡ turned ws c t z)))
+      said-answered y =
+          exE 𝓤 _ (λ ls. snd∗ 𝓤 (sem 𝓤 H A (lasts answered.ended (κ, tt) args ls)) (fact 𝓤 (y ≡ turned ws c t z)))
 
   module _ (r : Reply) (is : Is P.the-row r (P′.lowered r ∷ [])) (said : Shows (answerOf (sheet ws n)) r) where
     -- the list before turn t, and how many turns there are
@@ -307,21 +346,29 @@ module _ {M : Type 1} (𝓤 : URA M) (H : Heap 𝓤) (A : Atoms 𝓤) (W : Given
     count-fits = LL.owed P.the-type P′.the-laws r _ is .1 .0 .1
 
     last-fits : last < 2 ^ 64
-    last-fits = let h : n * 10 < 2 ^ 63 = fits .1 in let g : r .count ≤ n = turns-fit ws rs r said in omega (arith, h, g)
+    last-fits =
+        let h : n * 10 < 2 ^ 63 = fits .1 in let g : r .count ≤ n = turns-fit ws rs r said in omega (arith, h, g)
 
-    exits : ent 𝓤 (⋆ 𝓤 H A (‵ (fobs γ (codedHoleys Row .code (heres Row (after last)))) ∷ ‵ (fbor κ′ (Held Row (length (after last)) b o γ))
+    exits : ent 𝓤 (⋆ 𝓤 H A (‵ (fobs γ (codedHoleys Row .code (heres Row (after last))))
+        ∷ ‵ (fbor κ′ (Held Row (length (after last)) b o γ))
         ∷ ‵ (flft κ′ q′) ∷ Alive ∷ ‵ Own ∷ [])) (Post (P′.lowered r))
     exits =
-        qed W (‵ (fobs γ (codedHoleys Row .code (heres Row (after last)))) ∷ ‵ (fbor κ′ (Held Row (length (after last)) b o γ)) ∷ ‵ (flft κ′ q′)
+        qed W (‵ (fobs γ (codedHoleys Row .code (heres Row (after last))))
+        ∷ ‵ (fbor κ′ (Held Row (length (after last)) b o γ)) ∷ ‵ (flft κ′ q′)
         ∷ Alive ∷ ‵ Own ∷ []) ∵
-        suffices ! _ (ends-at 𝓤 H A f.ended stayed (f.clauses 𝓤 H A at-mem run) W (((κ, (κ′, tt)), (q, (q′, tt)), tt, x, at), tt) (P′.lowered r) r
+        suffices ! _ (ends-at 𝓤 H A f.ended stayed (f.clauses 𝓤 H A at-mem run) W
+        (((κ, (κ′, tt)), (q, (q′, tt)), tt, x, at), tt) (P′.lowered r) r
         (tt, (after last, tt)) (tt, (length-after last, tt))) $
         says-both ! said (turns-all ws rs r said) $
         -- the tokens
-        nothing ! $ move ! (4 ∷ []) $ split ! $ move ! (1 ∷ []) $ drop ! $ move ! (4 ∷ 1 ∷ []) $ join ! $ move ! (1 ∷ 0 ∷ []) $ join ! $ frame ! $
+        nothing ! $ move ! (4 ∷ []) $ split ! $ move ! (1 ∷ []) $ drop ! $ move ! (4 ∷ 1 ∷ []) $ join ! $
+        move ! (1 ∷ 0 ∷ []) $ join ! $ frame ! $
         -- [obs; the borrow; what the block owns]
-        fjoin ! $ pureI ! (at-slice Row (lentAt (after last)) (v′ ∷ [])) (tt, (tt, tt))
-        (ap (λ (m : ℕ). sliceVal (b, o) m ∷ []) (sym (length-after last)), subst (Room Row) (sym (length-after last)) fits) $ fjoin ! $
+        fjoin ! $ pureI ! (at-slice Row (lentAt (after last)) (v′ ∷ [])) (tt, (tt, tt)) (
+          ap (λ (m : ℕ). sliceVal (b, o) m ∷ []) (sym (length-after last)),
+          subst (Room Row) (sym (length-after last))
+              fits,
+        ) $ fjoin ! $
         nothing ! $ move ! (1 ∷ 0 ∷ []) $ fjoin ! $ move ! (1 ∷ 0 ∷ []) $ fjoin ! $
         owned ! P.the-row (Is P.the-row) (LL.makes P.the-type P′.the-plain 𝓤 H A) r _ is $ move ! (1 ∷ 0 ∷ []) $ done !
 
@@ -360,23 +407,32 @@ module _ {M : Type 1} (𝓤 : URA M) (H : Heap 𝓤) (A : Atoms 𝓤) (W : Given
       Λ = 𝓣 .Λ
 
       abbrev En : Env 𝓤 H
-      En = (P′.mir, l₀) ∷ (words, l₁) ∷ (lent, l₂) ∷ (P′.mir, l₃) ∷ (word, l₄) ∷ (word, l₅) ∷ (B′.mir, l₆) ∷ (word, l₇) ∷ (word, l₈) ∷ (R′.mir, l₉) ∷
+      En =
+          (P′.mir, l₀) ∷ (words, l₁) ∷ (lent, l₂) ∷ (P′.mir, l₃) ∷ (word, l₄) ∷ (word, l₅) ∷ (B′.mir, l₆) ∷ (word, l₇)
+          ∷ (word, l₈) ∷ (R′.mir, l₉) ∷
           (word, l₁₀) ∷ (tyBool, l₁₁) ∷ (word, l₁₂) ∷ (tyPtr, l₁₃) ∷ (R′.mir, l₁₄) ∷ (tyPtr, l₁₅) ∷ []
 
       -- what no turn changes
       abbrev Frame : List (Item 𝓤)
-      Frame = ‵ (fat fullShare words l₁ 0 v) ∷ ‵ (fat fullShare lent l₂ 0 v′) ∷ ‵ (fat fullShare P′.mir l₃ 0 (P′.lowered r))
+      Frame =
+          ‵ (fat fullShare words l₁ 0 v) ∷ ‵ (fat fullShare lent l₂ 0 v′) ∷ ‵ (fat fullShare P′.mir l₃ 0 (P′.lowered r))
           ∷ ‵ (fat fullShare word l₄ 0 (vint w64 (r .count))) ∷ ‵ (fat fullShare word l₅ 0 (vint w64 last))
           ∷ ‵ (fat fullShare word l₁₀ 0 (vint w64 n)) ∷ ‵ (froom P′.mir l₀ 0) ∷ ‵ (fobor κ′ q′ (Held Row n b o γ))
           ∷ ‵ (fobs γ (codedHoleys Row .code (heres Row rs))) ∷ ‵ (fauth γ (codedHoleys Row .code (heres Row rs)))
-          ∷ ‵ (fdies P′.mir l₀) ∷ ‵ (fdies words l₁) ∷ ‵ (fdies lent l₂) ∷ ‵ (fdies P′.mir l₃) ∷ ‵ (fdies word l₄) ∷ ‵ (fdies word l₅) ∷ ‵ (fdies B′.mir l₆)
-          ∷ ‵ (fdies word l₇) ∷ ‵ (fdies word l₈) ∷ ‵ (fdies R′.mir l₉) ∷ ‵ (fdies word l₁₀) ∷ ‵ (fdies tyBool l₁₁) ∷ ‵ (fdies word l₁₂)
+          ∷ ‵ (fdies P′.mir l₀) ∷ ‵ (fdies words l₁) ∷ ‵ (fdies lent l₂) ∷ ‵ (fdies P′.mir l₃) ∷ ‵ (fdies word l₄)
+          ∷ ‵ (fdies word l₅) ∷ ‵ (fdies B′.mir l₆)
+          ∷ ‵ (fdies word l₇) ∷ ‵ (fdies word l₈) ∷ ‵ (fdies R′.mir l₉) ∷ ‵ (fdies word l₁₀) ∷ ‵ (fdies tyBool l₁₁)
+          ∷ ‵ (fdies word l₁₂)
           ∷ ‵ (fdies tyPtr l₁₃) ∷ ‵ (fdies R′.mir l₁₄) ∷ ‵ (fdies tyPtr l₁₅) ∷ []
 
-      -- before turn t: the records before it, the lifetime's token, what the block owns, t, the batch, and room for what a turn uses
+      -- before turn t: the records before it, the lifetime's token, what the block owns, t, the batch, and room for
+      -- what a turn uses
       abbrev At : ℕ → Batch → List (Item 𝓤)
-      At t x = ‵ (row Row fullShare (after t) b o) ∷ Alive ∷ ‵ Own ∷ ‵ (fat fullShare word l₇ 0 (vint w64 t)) ∷ ‵ (fat fullShare B′.mir l₆ 0 (B′.lowered x))
-          ∷ ‵ (froom tyBool l₁₁ 0) ∷ ‵ (froom word l₈ 0) ∷ ‵ (froom R′.mir l₉ 0) ∷ ‵ (froom word l₁₂ 0) ∷ ‵ (froom tyPtr l₁₃ 0) ∷ ‵ (froom R′.mir l₁₄ 0)
+      At t x =
+          ‵ (row Row fullShare (after t) b o) ∷ Alive ∷ ‵ Own ∷ ‵ (fat fullShare word l₇ 0 (vint w64 t))
+          ∷ ‵ (fat fullShare B′.mir l₆ 0 (B′.lowered x))
+          ∷ ‵ (froom tyBool l₁₁ 0) ∷ ‵ (froom word l₈ 0) ∷ ‵ (froom R′.mir l₉ 0) ∷ ‵ (froom word l₁₂ 0)
+          ∷ ‵ (froom tyPtr l₁₃ 0) ∷ ‵ (froom R′.mir l₁₄ 0)
           ∷ ‵ (froom tyPtr l₁₅ 0) ∷ Frame
 
       -- the batch is as it is to be
@@ -406,7 +462,8 @@ module _ {M : Type 1} (𝓤 : URA M) (H : Heap 𝓤) (A : Atoms 𝓤) (W : Given
         abbrev advancing : Is Row (z t small) (R′.lowered (z t small) ∷ []) → Advances 𝓤 H A at-mem run .Ghost
         advancing was = to-advances (r .count) t count-fits (turn-fits t small) (z t small) was x (held .had)
 
-        abbrev answering : Is Row (z t small) (R′.lowered (z t small) ∷ []) → (y : Batch) → Is B.the-row y (B′.lowered y ∷ [])
+        abbrev answering : Is Row (z t small) (R′.lowered (z t small) ∷ []) → (y : Batch)
+            → Is B.the-row y (B′.lowered y ∷ [])
             → Answered 𝓤 H A at-mem run .Ghost
         answering was y had = to-answered (r .count) t count-fits (turn-fits t small) (z t small) was y had
 
@@ -415,18 +472,24 @@ module _ {M : Type 1} (𝓤 : URA M) (H : Heap 𝓤) (A : Atoms 𝓤) (W : Given
         unfolding afterTurn
         more k =
             qed W (At t x) ∵ exec ! C Λ En parts.turn-1 (anyQ (afterTurn 𝓤 H X Left)) $
-            assigns ! (bin ! (load ! (from ! (stop !)) (look ! 3 refl)) (load ! (from ! (stop !)) (look ! 16 refl)) tt) (from ! (stop !))
+            assigns ! (bin ! (load ! (from ! (stop !)) (look ! 3 refl)) (load ! (from ! (stop !)) (look ! 16 refl)) tt)
+            (from ! (stop !))
             (init ! 5 refl (tt, tt)) $
-            rewrite ! 5 (λ (y : Bool). ‵ (fat fullShare tyBool l₁₁ 0 (vbool y))) (holds (ltb t last) (lt→ltb t last small)) refl $
+            rewrite ! 5 (λ (y : Bool). ‵ (fat fullShare tyBool l₁₁ 0 (vbool y)))
+            (holds (ltb t last) (lt→ltb t last small)) refl $
             stays ! (load ! (from ! (stop !)) (look ! 5 refl)) $
             -- the place of the turn
-            nothing ! $ nothing ! $ owned ! usize (Is usize) (uint-makes 𝓤 H A W w64) t _ (refl, turn-fits t small) $ fjoin ! $
-            owned ! usize (Is usize) (uint-makes 𝓤 H A W w64) (r .count) _ (refl, count-fits) $ fjoin ! $ move ! (1 ∷ 0 ∷ []) $
+            nothing ! $ nothing ! $ owned ! usize (Is usize) (uint-makes 𝓤 H A W w64) t _ (refl, turn-fits t small) $
+            fjoin ! $
+            owned ! usize (Is usize) (uint-makes 𝓤 H A W w64) (r .count) _ (refl, count-fits) $ fjoin ! $
+            move ! (1 ∷ 0 ∷ []) $
             use2 W (raw (Placed 𝓤 H A at-mem run .pre (to-placed (r .count) t))) (handed-placed (r .count) t small) $
             calls-at ! (fmOf 𝓤 H (W .laws) 𝓣) (Placed 𝓤 H A at-mem run) known-placed (to-placed (r .count) t)
-            (and-then ! (load ! (from ! (stop !)) (look ! 16 refl)) (and-then ! (load ! (from ! (stop !)) (look ! 4 refl)) (no-more !))) (λ u.
+            (and-then ! (load ! (from ! (stop !)) (look ! 16 refl))
+            (and-then ! (load ! (from ! (stop !)) (look ! 4 refl)) (no-more !))) (λ u.
             use1 W (later (some (λ (i : ℕ). (‵ ftrue ⊛ ‵ (usize .own i (u ∷ []))) ⊛ raw
-            (ensured 𝓤 H A placed.ended (placed.clauses 𝓤 H A at-mem run) tt (r .count, (t, tt)) tt i)))) (id⊢ 𝓤 _) $ await ! tt $ pick ! (λ i.
+            (ensured 𝓤 H A placed.ended (placed.clauses 𝓤 H A at-mem run) tt (r .count, (t, tt)) tt i)))) (id⊢ 𝓤 _) $
+            await ! tt $ pick ! (λ i.
             split ! $ move ! (1 ∷ []) $ use1 W (raw (fact 𝓤 (i ≡ at-place t small))) (said-placed (r .count) t i) $
             heard ! (i ≡ at-place t small) (λ e. split ! $ drop ! $
             peeks ! usize (Is usize) (shows 𝓤 H A usize) i (u ∷ []) (λ num.
@@ -434,44 +497,58 @@ module _ {M : Type 1} (𝓤 : URA M) (H : Heap 𝓤) (A : Atoms 𝓤) (W : Given
             rewrite ! 7 (λ (w : Val). ‵ (fat fullShare word l₈ 0 w)) (ap only (uint-tells w64 i (u ∷ []) num)) refl $
             rewrite ! 7 (λ (j : ℕ). ‵ (fat fullShare word l₈ 0 (vint w64 j))) e refl $ drop ! $
             -- the record there is taken out of the row, and read
-            assigns ! (bin ! (load ! (from ! (stop !)) (look ! 6 refl)) (lit ! tt) (record { fits = far t small })) (from ! (stop !))
+            assigns ! (bin ! (load ! (from ! (stop !)) (look ! 6 refl)) (lit ! tt) (record { fits = far t small }))
+            (from ! (stop !))
             (init ! 8 refl (tt, record { fits = far t small })) $
-            assigns ! (bin ! (load ! (from ! (fld ! refl (stop !))) (look-in ! 13 (sub ! 0 refl (whole !)))) (load ! (from ! (stop !)) (look ! 8 refl)) tt)
+            assigns ! (bin ! (load ! (from ! (fld ! refl (stop !))) (look-in ! 13 (sub ! 0 refl (whole !))))
+            (load ! (from ! (stop !)) (look ! 8 refl)) tt)
             (from ! (stop !)) (init ! 9 refl (tt, tt)) $
-            rewrite ! 9 (λ (p : ℕ). ‵ (fat fullShare tyPtr l₁₃ 0 (vptr b p))) (sym (place-is 10 o (at-place t small))) refl $
-            elem-out ! Row (Is Row) (shows 𝓤 H A Row) (LL.vals R.the-type R′.the-laws) (LL.tells R.the-type R′.the-laws) fullShare (after t)
+            rewrite ! 9 (λ (p : ℕ). ‵ (fat fullShare tyPtr l₁₃ 0 (vptr b p))) (sym (place-is 10 o (at-place t small)))
+            refl $
+            elem-out ! Row (Is Row) (shows 𝓤 H A Row) (LL.vals R.the-type R′.the-laws) (LL.tells R.the-type R′.the-laws)
+            fullShare (after t)
             (at-place t small) zeros b o (within t small) (λ was.
-            assigns ! (of-opd ! (load ! (from ! (hop ! (look ! 11 refl) (stop !))) (look-raw ! 0 refl))) (from ! (stop !))
+            assigns ! (of-opd ! (load ! (from ! (hop ! (look ! 11 refl) (stop !))) (look-raw ! 0 refl)))
+            (from ! (stop !))
             (init ! 12 refl (LL.lawful R.the-type R′.the-laws 𝓤 H A W .typed (z t small) _ was .0)) $
             assigns ! (of-opd ! (load ! (from ! (stop !)) (look ! 12 refl))) (from ! (stop !))
             (init ! 9 refl (LL.lawful R.the-type R′.the-laws 𝓤 H A W .typed (z t small) _ was .0)) $
             -- the batch goes on
             move ! (3 ∷ 4 ∷ []) $ use2 W (raw (Advances 𝓤 H A at-mem run .pre (advancing was)) ⊛ ‵ Own)
-            (goes-advances (r .count) t count-fits (turn-fits t small) (z t small) was x (held .had) (turn-whole ws rs r said t small) small
+            (goes-advances (r .count) t count-fits (turn-fits t small) (z t small) was x (held .had)
+            (turn-whole ws rs r said t small) small
             (held .state .room)) $ split ! $
             calls-at ! (fmOf 𝓤 H (W .laws) 𝓣) (Advances 𝓤 H A at-mem run) known-advances (advancing was)
-            (and-then ! (load ! (from ! (stop !)) (look ! 14 refl)) (and-then ! (load ! (from ! (stop !)) (look ! 17 refl))
-            (and-then ! (load ! (from ! (stop !)) (look ! 5 refl)) (and-then ! (load ! (from ! (stop !)) (look ! 9 refl))
+            (and-then ! (load ! (from ! (stop !)) (look ! 14 refl))
+            (and-then ! (load ! (from ! (stop !)) (look ! 17 refl))
+            (and-then ! (load ! (from ! (stop !)) (look ! 5 refl))
+            (and-then ! (load ! (from ! (stop !)) (look ! 9 refl))
             (and-then ! (load ! (from ! (stop !)) (look ! 6 refl)) (no-more !)))))) (λ u.
             use1 W (later (some (λ (y : Batch). (Alive ⊛ ‵ (B.the-row .own y (u ∷ []))) ⊛ raw
-            (ensured 𝓤 H A advanced.ended (advanced.clauses 𝓤 H A at-mem run) (κ, tt) (s, (r .count, (t, (z t small, (x, tt))))) tt y)))) (id⊢ 𝓤 _) $
+            (ensured 𝓤 H A advanced.ended (advanced.clauses 𝓤 H A at-mem run) (κ, tt)
+            (s, (r .count, (t, (z t small, (x, tt))))) tt y)))) (id⊢ 𝓤 _) $
             await ! tt $ pick ! (λ y.
             split ! $ move ! (1 ∷ []) $ use1 W (raw (fact 𝓤 (BatchAdvanced ws (r .count) t (z t small) x y)))
             (said-advances (r .count) t count-fits (turn-fits t small) (z t small) was x (held .had) y) $
             heard ! (BatchAdvanced ws (r .count) t (z t small) x y) (λ turn. split ! $ move ! (1 ∷ []) $
             peeks ! B.the-row (Is B.the-row) (shows 𝓤 H A B.the-row) y (u ∷ []) (λ new.
             land ! (from ! (stop !)) (store ! 7 refl (LL.lawful B.the-type B′.the-laws 𝓤 H A W .typed y _ new .0)) $
-            rewrite ! 7 (λ (w : Val). ‵ (fat fullShare B′.mir l₆ 0 w)) (ap only (B′.lowers .val-is y (u ∷ []) new)) refl $ drop ! $
+            rewrite ! 7 (λ (w : Val). ‵ (fat fullShare B′.mir l₆ 0 w)) (ap only (B′.lowers .val-is y (u ∷ []) new))
+            refl $ drop ! $
             -- the record that the turn leaves
             use2 W (raw (Answered 𝓤 H A at-mem run .pre (answering was y (listed y u new))) ⊛ ‵ Own)
             (goes-answered (r .count) t count-fits (turn-fits t small) (z t small) was y (listed y u new) small
             (turn-answers ws rs r said zeros t small (held .state) turn)) $ split ! $
-            calls-at ! (fmOf 𝓤 H (W .laws) 𝓣) (Answered 𝓤 H A at-mem run) known-answered (answering was y (listed y u new))
-            (and-then ! (load ! (from ! (stop !)) (look ! 14 refl)) (and-then ! (load ! (from ! (stop !)) (look ! 17 refl))
-            (and-then ! (load ! (from ! (stop !)) (look ! 5 refl)) (and-then ! (load ! (from ! (stop !)) (look ! 9 refl))
+            calls-at ! (fmOf 𝓤 H (W .laws) 𝓣) (Answered 𝓤 H A at-mem run) known-answered
+            (answering was y (listed y u new))
+            (and-then ! (load ! (from ! (stop !)) (look ! 14 refl))
+            (and-then ! (load ! (from ! (stop !)) (look ! 17 refl))
+            (and-then ! (load ! (from ! (stop !)) (look ! 5 refl))
+            (and-then ! (load ! (from ! (stop !)) (look ! 9 refl))
             (and-then ! (load ! (from ! (stop !)) (look ! 6 refl)) (no-more !)))))) (λ u′.
             use1 W (later (some (λ (a : Record). (Alive ⊛ ‵ (Row .own a (u′ ∷ []))) ⊛ raw
-            (ensured 𝓤 H A answered.ended (answered.clauses 𝓤 H A at-mem run) (κ, tt) (s, (r .count, (t, (z t small, (y, tt))))) tt a)))) (id⊢ 𝓤 _) $
+            (ensured 𝓤 H A answered.ended (answered.clauses 𝓤 H A at-mem run) (κ, tt)
+            (s, (r .count, (t, (z t small, (y, tt))))) tt a)))) (id⊢ 𝓤 _) $
             await ! tt $ pick ! (λ a.
             split ! $ move ! (1 ∷ []) $ use1 W (raw (fact 𝓤 (a ≡ turned ws (r .count) t (z t small))))
             (said-answered (r .count) t count-fits (turn-fits t small) (z t small) was y (listed y u new) a) $
@@ -479,28 +556,38 @@ module _ {M : Type 1} (𝓤 : URA M) (H : Heap 𝓤) (A : Atoms 𝓤) (W : Given
             peeks ! Row (Is Row) (shows 𝓤 H A Row) a (u′ ∷ []) (λ new′.
             land ! (from ! (stop !)) (store ! 13 refl (LL.lawful R.the-type R′.the-laws 𝓤 H A W .typed a _ new′ .0)) $
             -- [the answer; the token; the block; the cell; what it owned; the others; ...]
-            assigns ! (bin ! (load ! (from ! (stop !)) (look ! 9 refl)) (lit ! tt) (record { fits = far t small })) (from ! (stop !))
+            assigns ! (bin ! (load ! (from ! (stop !)) (look ! 9 refl)) (lit ! tt) (record { fits = far t small }))
+            (from ! (stop !))
             (store ! 11 refl (tt, record { fits = far t small })) $
-            assigns ! (bin ! (load ! (from ! (fld ! refl (stop !))) (look-in ! 16 (sub ! 0 refl (whole !)))) (load ! (from ! (stop !)) (look ! 11 refl)) tt)
+            assigns ! (bin ! (load ! (from ! (fld ! refl (stop !))) (look-in ! 16 (sub ! 0 refl (whole !))))
+            (load ! (from ! (stop !)) (look ! 11 refl)) tt)
             (from ! (stop !)) (init ! 14 refl (tt, tt)) $
-            rewrite ! 14 (λ (p : ℕ). ‵ (fat fullShare tyPtr l₁₅ 0 (vptr b p))) (sym (place-is 10 o (at-place t small))) refl $
+            rewrite ! 14 (λ (p : ℕ). ‵ (fat fullShare tyPtr l₁₅ 0 (vptr b p))) (sym (place-is 10 o (at-place t small)))
+            refl $
             assigns ! (of-opd ! (load ! (from ! (stop !)) (look ! 13 refl))) (from ! (hop ! (look ! 14 refl) (stop !)))
             (store-raw ! 3 refl (LL.lawful R.the-type R′.the-laws 𝓤 H A W .typed a _ new′ .0)) $
-            move ! (4 ∷ []) $ drop ! $ move ! (3 ∷ 0 ∷ 4 ∷ []) $ elem-put ! Row fullShare (after t) (at-place t small) a (u′ ∷ []) b o (within t small) $
+            move ! (4 ∷ []) $ drop ! $ move ! (3 ∷ 0 ∷ 4 ∷ []) $
+            elem-put ! Row fullShare (after t) (at-place t small) a (u′ ∷ []) b o (within t small) $
             rewrite ! 0 (λ (l : List Record). ‵ (row Row fullShare l b o))
             (ap (set (after t) (at-place t small)) e′ ∙ turn-record ws rs r said zeros t small) refl $
-            assigns-last ! (bin ! (load ! (from ! (stop !)) (look ! 3 refl)) (lit ! tt) (record { fits = next-fits t small })) (from ! (stop !))
+            assigns-last ! (bin ! (load ! (from ! (stop !)) (look ! 3 refl)) (lit ! tt)
+            (record { fits = next-fits t small })) (from ! (stop !))
             (store ! 3 refl (tt, record { fits = next-fits t small })) $
-            forget ! 5 refl $ forget ! 6 refl $ forget ! 7 refl $ forget ! 8 refl $ forget ! 9 refl $ forget ! 10 refl $ forget ! 11 refl $
+            forget ! 5 refl $ forget ! 6 refl $ forget ! 7 refl $ forget ! 8 refl $ forget ! 9 refl $ forget ! 10 refl $
+            forget ! 11 refl $
             rewrite ! 3 (λ (j : ℕ). ‵ (fat fullShare word l₇ 0 (vint w64 j))) (one-more t) refl $
-            by ! (k y (record { had = listed y u new; state = turn-batch ws rs r said zeros t small (held .state) turn })))))))))))))))
+            by ! (k y (record {
+              had = listed y u new;
+              state = turn-batch ws rs r said zeros t small (held .state) turn;
+            })))))))))))))))
 
       -- the turn that leaves the loop, and the rest of the body: the borrow is closed at the records after all turns
       ends : (x : Batch) (X : SProp 𝓤) → ent 𝓤 (⋆ 𝓤 H A (At last x)) (Wp 𝓤 H C Λ En parts.turn-1 (afterTurn 𝓤 H X Left))
       unfolding afterTurn
       ends x X =
           qed W (At last x) ∵ exec ! C Λ En parts.turn-1 (anyQ (afterTurn 𝓤 H X Left)) $
-          assigns ! (bin ! (load ! (from ! (stop !)) (look ! 3 refl)) (load ! (from ! (stop !)) (look ! 16 refl)) tt) (from ! (stop !))
+          assigns ! (bin ! (load ! (from ! (stop !)) (look ! 3 refl)) (load ! (from ! (stop !)) (look ! 16 refl)) tt)
+          (from ! (stop !))
           (init ! 5 refl (tt, tt)) $
           rewrite ! 5 (λ (t : Bool). ‵ (fat fullShare tyBool l₁₁ 0 (vbool t)))
           (fails (ltb last last) (λ a. lt-irrefl last (ltb→lt last last a))) refl $
@@ -508,27 +595,36 @@ module _ {M : Type 1} (𝓤 : URA M) (H : Heap 𝓤) (A : Atoms 𝓤) (W : Given
           assigns ! (of-opd ! (load ! (from ! (stop !)) (look ! 14 refl))) (from ! (stop !))
           (init ! 18 refl (LL.lawful P.the-type P′.the-laws 𝓤 H A W .typed r _ is .0)) $
           move ! (0 ∷ 19 ∷ 20 ∷ 21 ∷ []) $ closes-slice ! tt Row rs (after last) (length-after last) b o $
-          -- [obs; the borrow; the token; the block's token; the block; _7; _6; _11; _8; _9; _12 to _15; _1 to _5; _10; _0; and that each local dies]
-          returns ! (look ! 20 refl) $ forget ! 5 refl $ forget ! 6 refl $ forget ! 7 refl $ forget ! 14 refl $ forget ! 15 refl $ forget ! 16 refl $
+          -- [obs; the borrow; the token; the block's token; the block; _7; _6; _11; _8; _9; _12 to _15; _1 to _5; _10;
+          -- _0; and that each local dies]
+          returns ! (look ! 20 refl) $ forget ! 5 refl $ forget ! 6 refl $ forget ! 7 refl $ forget ! 14 refl $
+          forget ! 15 refl $ forget ! 16 refl $
           forget ! 17 refl $ forget ! 18 refl $ forget ! 19 refl $ forget ! 20 refl $
-          move ! (20 ∷ 21 ∷ []) $ free1 ! $ move ! (14 ∷ 20 ∷ []) $ free1 ! $ move ! (14 ∷ 19 ∷ []) $ free1 ! $ move ! (14 ∷ 18 ∷ []) $ free1 ! $
-          move ! (14 ∷ 17 ∷ []) $ free1 ! $ move ! (14 ∷ 16 ∷ []) $ free1 ! $ move ! (6 ∷ 15 ∷ []) $ free1 ! $ move ! (5 ∷ 14 ∷ []) $ free1 ! $
-          move ! (6 ∷ 13 ∷ []) $ free1 ! $ move ! (6 ∷ 12 ∷ []) $ free1 ! $ move ! (10 ∷ 11 ∷ []) $ free1 ! $ move ! (5 ∷ 10 ∷ []) $ free1 ! $
-          move ! (5 ∷ 9 ∷ []) $ free1 ! $ move ! (5 ∷ 8 ∷ []) $ free1 ! $ move ! (5 ∷ 7 ∷ []) $ free1 ! $ move ! (5 ∷ 6 ∷ []) $ free1 ! $ free0 ! $ by ! exits
+          move ! (20 ∷ 21 ∷ []) $ free1 ! $ move ! (14 ∷ 20 ∷ []) $ free1 ! $ move ! (14 ∷ 19 ∷ []) $ free1 ! $
+          move ! (14 ∷ 18 ∷ []) $ free1 ! $
+          move ! (14 ∷ 17 ∷ []) $ free1 ! $ move ! (14 ∷ 16 ∷ []) $ free1 ! $ move ! (6 ∷ 15 ∷ []) $ free1 ! $
+          move ! (5 ∷ 14 ∷ []) $ free1 ! $
+          move ! (6 ∷ 13 ∷ []) $ free1 ! $ move ! (6 ∷ 12 ∷ []) $ free1 ! $ move ! (10 ∷ 11 ∷ []) $ free1 ! $
+          move ! (5 ∷ 10 ∷ []) $ free1 ! $
+          move ! (5 ∷ 9 ∷ []) $ free1 ! $ move ! (5 ∷ 8 ∷ []) $ free1 ! $ move ! (5 ∷ 7 ∷ []) $ free1 ! $
+          move ! (5 ∷ 6 ∷ []) $ free1 ! $ free0 ! $ by ! exits
 
-      below : (k t : ℕ) → suc t + k ≡ last → (x : Batch) → Held-at (suc t) x → ent 𝓤 (⋆ 𝓤 H A (At (suc t) x)) (Below (suc k))
+      below : (k t : ℕ) → suc t + k ≡ last → (x : Batch) → Held-at (suc t) x
+          → ent 𝓤 (⋆ 𝓤 H A (At (suc t) x)) (Below (suc k))
       below k t e x held =
           via 𝓤 (Batched (suc t)) (holds-batched (suc t) x held)
           (via 𝓤 (Inv k)
           (via 𝓤 (guard 𝓤 (suc t + k ≡ last) (Batched (suc t))) (guardI 𝓤 (suc t + k ≡ last) (Batched (suc t)) e)
           (exI 𝓤 (λ (j : ℕ). guard 𝓤 (j + k ≡ last) (Batched j)) (suc t)))
-          (via 𝓤 (guard 𝓤 (k < suc k) (Inv k)) (guardI 𝓤 (k < suc k) (Inv k) (lt-suc-self k)) (exI 𝓤 (λ (u : ℕ). guard 𝓤 (u < suc k) (Inv u)) k)))
+          (via 𝓤 (guard 𝓤 (k < suc k) (Inv k)) (guardI 𝓤 (k < suc k) (Inv k) (lt-suc-self k))
+          (exI 𝓤 (λ (u : ℕ). guard 𝓤 (u < suc k) (Inv u)) k)))
 
       -- a turn from the invariant at k leaves the loop, or ends in the invariant below k
       turn-at : (k t : ℕ) → t + k ≡ last → (x : Batch) → Held-at t x
           → ent 𝓤 (⋆ 𝓤 H A (At t x)) (Wp 𝓤 H C Λ En parts.turn-1 (afterTurn 𝓤 H (Below k) Left))
       turn-at zero t e x held =
-          subst (λ (j : ℕ). ent 𝓤 (⋆ 𝓤 H A (At j x)) (Wp 𝓤 H C Λ En parts.turn-1 (afterTurn 𝓤 H (Below zero) Left))) (sym (sym (add-zero t) ∙ e))
+          subst (λ (j : ℕ). ent 𝓤 (⋆ 𝓤 H A (At j x)) (Wp 𝓤 H C Λ En parts.turn-1 (afterTurn 𝓤 H (Below zero) Left)))
+          (sym (sym (add-zero t) ∙ e))
           (ends x (Below zero))
       turn-at (suc k) t e x held =
           let next : suc t + k ≡ last = suc-add t k ∙ sym (add-suc t k) ∙ e in
@@ -538,7 +634,8 @@ module _ {M : Type 1} (𝓤 : URA M) (H : Heap 𝓤) (A : Atoms 𝓤) (W : Given
       turns : (k : ℕ) → ent 𝓤 (Inv k) (Wp 𝓤 H C Λ En parts.turn-1 (afterTurn 𝓤 H (Below k) Left))
       turns k =
           exE 𝓤 (λ (t : ℕ). guard 𝓤 (t + k ≡ last) (Batched t)) (λ t. guardE 𝓤 (t + k ≡ last) (Batched t) (λ e.
-          exE 𝓤 (λ (x : Batch). guard 𝓤 (Held-at t x) (⋆ 𝓤 H A (At t x))) (λ x. guardE 𝓤 (Held-at t x) (⋆ 𝓤 H A (At t x)) (λ held. turn-at k t e x held))))
+          exE 𝓤 (λ (x : Batch). guard 𝓤 (Held-at t x) (⋆ 𝓤 H A (At t x)))
+          (λ x. guardE 𝓤 (Held-at t x) (⋆ 𝓤 H A (At t x)) (λ held. turn-at k t e x held))))
 
       loops : (x : Batch) → Held-at 0 x → ent 𝓤 (⋆ 𝓤 H A (At 0 x)) (Wp 𝓤 H C Λ En (loop parts.turn-1) Left)
       loops x held =
@@ -556,17 +653,23 @@ module _ {M : Type 1} (𝓤 : URA M) (H : Heap 𝓤) (A : Atoms 𝓤) (W : Given
       (known-answered : Triple 𝓤 (𝓣 .C #op-sheet·turns·answer) (Answered 𝓤 H A at-mem run)) where
     module _ (l₀ l₁ l₂ l₃ l₄ l₅ l₆ l₇ l₈ l₉ l₁₀ l₁₁ l₁₂ l₁₃ l₁₄ l₁₅ : ℕ) where
       abbrev Names : Env 𝓤 H
-      Names = (P′.mir, l₀) ∷ (words, l₁) ∷ (lent, l₂) ∷ (P′.mir, l₃) ∷ (word, l₄) ∷ (word, l₅) ∷ (B′.mir, l₆) ∷ (word, l₇) ∷ (word, l₈) ∷ (R′.mir, l₉) ∷
+      Names =
+          (P′.mir, l₀) ∷ (words, l₁) ∷ (lent, l₂) ∷ (P′.mir, l₃) ∷ (word, l₄) ∷ (word, l₅) ∷ (B′.mir, l₆) ∷ (word, l₇)
+          ∷ (word, l₈) ∷ (R′.mir, l₉) ∷
           (word, l₁₀) ∷ (tyBool, l₁₁) ∷ (word, l₁₂) ∷ (tyPtr, l₁₃) ∷ (R′.mir, l₁₄) ∷ (tyPtr, l₁₅) ∷ []
 
       -- the locals, where the parameters are stored and _10 and _3 may be
       abbrev Stored : Item 𝓤 → Item 𝓤 → List (Item 𝓤) → List (Item 𝓤)
       Stored c₁₀ c₃ Γ =
-          ‵ (froom tyPtr l₁₅ 0) ∷ ‵ (fdies tyPtr l₁₅) ∷ ‵ (froom R′.mir l₁₄ 0) ∷ ‵ (fdies R′.mir l₁₄) ∷ ‵ (froom tyPtr l₁₃ 0) ∷ ‵ (fdies tyPtr l₁₃)
-          ∷ ‵ (froom word l₁₂ 0) ∷ ‵ (fdies word l₁₂) ∷ ‵ (froom tyBool l₁₁ 0) ∷ ‵ (fdies tyBool l₁₁) ∷ c₁₀ ∷ ‵ (fdies word l₁₀)
-          ∷ ‵ (froom R′.mir l₉ 0) ∷ ‵ (fdies R′.mir l₉) ∷ ‵ (froom word l₈ 0) ∷ ‵ (fdies word l₈) ∷ ‵ (froom word l₇ 0) ∷ ‵ (fdies word l₇)
+          ‵ (froom tyPtr l₁₅ 0) ∷ ‵ (fdies tyPtr l₁₅) ∷ ‵ (froom R′.mir l₁₄ 0) ∷ ‵ (fdies R′.mir l₁₄)
+          ∷ ‵ (froom tyPtr l₁₃ 0) ∷ ‵ (fdies tyPtr l₁₃)
+          ∷ ‵ (froom word l₁₂ 0) ∷ ‵ (fdies word l₁₂) ∷ ‵ (froom tyBool l₁₁ 0) ∷ ‵ (fdies tyBool l₁₁) ∷ c₁₀
+          ∷ ‵ (fdies word l₁₀)
+          ∷ ‵ (froom R′.mir l₉ 0) ∷ ‵ (fdies R′.mir l₉) ∷ ‵ (froom word l₈ 0) ∷ ‵ (fdies word l₈) ∷ ‵ (froom word l₇ 0)
+          ∷ ‵ (fdies word l₇)
           ∷ ‵ (froom B′.mir l₆ 0) ∷ ‵ (fdies B′.mir l₆) ∷ ‵ (froom word l₅ 0) ∷ ‵ (fdies word l₅) ∷ ‵ (froom word l₄ 0)
-          ∷ ‵ (fdies word l₄) ∷ c₃ ∷ ‵ (fdies P′.mir l₃) ∷ ‵ (fat fullShare lent l₂ 0 v′) ∷ ‵ (fdies lent l₂) ∷ ‵ (fat fullShare words l₁ 0 v)
+          ∷ ‵ (fdies word l₄) ∷ c₃ ∷ ‵ (fdies P′.mir l₃) ∷ ‵ (fat fullShare lent l₂ 0 v′) ∷ ‵ (fdies lent l₂)
+          ∷ ‵ (fat fullShare words l₁ 0 v)
           ∷ ‵ (fdies words l₁) ∷ ‵ (froom P′.mir l₀ 0) ∷ ‵ (fdies P′.mir l₀) ∷ Γ
 
       abbrev Given′ : List (Item 𝓤)
@@ -574,14 +677,18 @@ module _ {M : Type 1} (𝓤 : URA M) (H : Heap 𝓤) (A : Atoms 𝓤) (W : Given
 
       -- after the first call
       begins : (r : Reply) → (is : Is P.the-row r (P′.lowered r ∷ [])) → (said : Shows (answerOf (sheet ws n)) r)
-          → ent 𝓤 (⋆ 𝓤 H A (Alive ∷ ‵ Own ∷ Stored (‵ (fat fullShare word l₁₀ 0 (vint w64 n))) (‵ (fat fullShare P′.mir l₃ 0 (P′.lowered r))) Given′))
+          → ent 𝓤 (⋆ 𝓤 H A (Alive ∷ ‵ Own ∷ Stored (‵ (fat fullShare word l₁₀ 0 (vint w64 n)))
+          (‵ (fat fullShare P′.mir l₃ 0 (P′.lowered r))) Given′))
           (Wp 𝓤 H (𝓣 .C) (𝓣 .Λ) Names parts.t-3 (atReturn 𝓤 H Names Post))
       begins r is said =
-          qed W (Alive ∷ ‵ Own ∷ Stored (‵ (fat fullShare word l₁₀ 0 (vint w64 n))) (‵ (fat fullShare P′.mir l₃ 0 (P′.lowered r))) Given′) ∵ exec ! (𝓣 .C)
+          qed W (Alive ∷ ‵ Own ∷ Stored (‵ (fat fullShare word l₁₀ 0 (vint w64 n)))
+          (‵ (fat fullShare P′.mir l₃ 0 (P′.lowered r))) Given′) ∵ exec ! (𝓣 .C)
           (𝓣 .Λ) Names parts.t-3 (atRet Names Post) $
-          assigns ! (of-opd ! (load ! (from ! (fld ! refl (stop !))) (look-in ! 26 (sub ! 1 refl (whole !))))) (from ! (stop !))
+          assigns ! (of-opd ! (load ! (from ! (fld ! refl (stop !))) (look-in ! 26 (sub ! 1 refl (whole !)))))
+          (from ! (stop !))
           (init ! 24 refl (tt, record { fits = count-fits r is said })) $
-          assigns ! (bin ! (lit ! tt) (load ! (from ! (stop !)) (look ! 24 refl)) (record { fits = last-fits r is said })) (from ! (stop !))
+          assigns ! (bin ! (lit ! tt) (load ! (from ! (stop !)) (look ! 24 refl))
+          (record { fits = last-fits r is said })) (from ! (stop !))
           (init ! 22 refl (tt, record { fits = last-fits r is said })) $
           -- the batch of no records
           nothing ! $ nothing ! $ use2 W (raw (Made 𝓤 H A at-mem run .pre to-made)) handed-made $
@@ -592,41 +699,52 @@ module _ {M : Type 1} (𝓤 : URA M) (H : Heap 𝓤) (A : Atoms 𝓤) (W : Given
           heard ! (BatchRoom y) (λ room. split ! $ drop ! $
           peeks ! B.the-row (Is B.the-row) (shows 𝓤 H A B.the-row) y (u ∷ []) (λ new.
           land ! (from ! (stop !)) (init ! 21 refl (LL.lawful B.the-type B′.the-laws 𝓤 H A W .typed y _ new .0)) $
-          rewrite ! 21 (λ (w : Val). ‵ (fat fullShare B′.mir l₆ 0 w)) (ap only (B′.lowers .val-is y (u ∷ []) new)) refl $ drop ! $
+          rewrite ! 21 (λ (w : Val). ‵ (fat fullShare B′.mir l₆ 0 w)) (ap only (B′.lowers .val-is y (u ∷ []) new))
+          refl $ drop ! $
           assigns ! (of-opd ! (lit ! tt)) (from ! (stop !)) (init ! 18 refl (tt, record { fits = lit< tt })) $
           move ! (34 ∷ 35 ∷ 36 ∷ []) $ opens-slice ! tt Row rs b o $
           rewrite ! 0 (λ (l : List Record). ‵ (row Row fullShare l b o)) (sym (before-none ws rs)) refl $
           keep ! (0 ∷ 4 ∷ 5 ∷ 22 ∷ 24 ∷ 14 ∷ 20 ∷ 18 ∷ 12 ∷ 10 ∷ 8 ∷ 6 ∷ 34 ∷ 32 ∷ 30 ∷ 28 ∷ 26 ∷ 16 ∷ 36 ∷ 1 ∷ 2 ∷ 3
           ∷ 37 ∷ 35 ∷ 33 ∷ 31 ∷ 29 ∷ 27 ∷ 25 ∷ 23 ∷ 21 ∷ 19 ∷ 17 ∷ 15 ∷ 13 ∷ 11 ∷ 9 ∷ 7 ∷ []) $
-          by ! (loops r is said 𝓣 known-placed known-advances known-answered l₀ l₁ l₂ l₃ l₄ l₅ l₆ l₇ l₈ l₉ l₁₀ l₁₁ l₁₂ l₁₃ l₁₄ l₁₅ y
+          by ! (loops r is said 𝓣 known-placed known-advances known-answered l₀ l₁ l₂ l₃ l₄ l₅ l₆ l₇ l₈ l₉ l₁₀ l₁₁ l₁₂
+          l₁₃ l₁₄ l₁₅ y
           (record { had = listed y u new; state = batch-first ws rs zeros room }))))))
 
       starts : ent 𝓤 (⋆ 𝓤 H A (Stored (‵ (froom word l₁₀ 0)) (‵ (froom P′.mir l₃ 0))
-          (‵ (fobs γ (codedHoleys Row .code (heres Row rs))) ∷ ‵ (fbor κ′ (Held Row n b o γ)) ∷ ‵ (flft κ′ q′) ∷ Alive ∷ ‵ Own ∷ [])))
+          (‵ (fobs γ (codedHoleys Row .code (heres Row rs))) ∷ ‵ (fbor κ′ (Held Row n b o γ)) ∷ ‵ (flft κ′ q′) ∷ Alive
+          ∷ ‵ Own ∷ [])))
           (Wp 𝓤 H (𝓣 .C) (𝓣 .Λ) Names parts.t-1 (atReturn 𝓤 H Names Post))
       starts =
-          qed W (Stored (‵ (froom word l₁₀ 0)) (‵ (froom P′.mir l₃ 0)) (‵ (fobs γ (codedHoleys Row .code (heres Row rs))) ∷ ‵ (fbor κ′ (Held Row n b o γ))
+          qed W (Stored (‵ (froom word l₁₀ 0)) (‵ (froom P′.mir l₃ 0))
+          (‵ (fobs γ (codedHoleys Row .code (heres Row rs))) ∷ ‵ (fbor κ′ (Held Row n b o γ))
           ∷ ‵ (flft κ′ q′) ∷ Alive ∷ ‵ Own ∷ [])) ∵ exec ! (𝓣 .C) (𝓣 .Λ) Names parts.t-1 (atRet Names Post) $
-          assigns ! (of-opd ! (load ! (from ! (fld ! refl (stop !))) (look-in ! 26 (sub ! 1 refl (whole !))))) (from ! (stop !))
+          assigns ! (of-opd ! (load ! (from ! (fld ! refl (stop !))) (look-in ! 26 (sub ! 1 refl (whole !)))))
+          (from ! (stop !))
           (init ! 10 refl (tt, record { fits = fits .0 })) $
-          move ! (35 ∷ 36 ∷ []) $ use2 W (raw (Started 𝓤 H A at-mem run .pre to-started) ⊛ ‵ Own) goes-started $ split ! $
+          move ! (35 ∷ 36 ∷ []) $ use2 W (raw (Started 𝓤 H A at-mem run .pre to-started) ⊛ ‵ Own) goes-started $
+          split ! $
           calls-at ! (fmOf 𝓤 H (W .laws) 𝓣) (Started 𝓤 H A at-mem run) known to-started
-          (and-then ! (load ! (from ! (stop !)) (look ! 30 refl)) (and-then ! (load ! (from ! (stop !)) (look ! 12 refl)) (no-more !))) (λ u.
+          (and-then ! (load ! (from ! (stop !)) (look ! 30 refl))
+          (and-then ! (load ! (from ! (stop !)) (look ! 12 refl)) (no-more !))) (λ u.
           use1 W (later (some (λ (r : Reply). (Alive ⊛ ‵ (P.the-row .own r (u ∷ []))) ⊛ raw
-          (ensured 𝓤 H A started.ended (started.clauses 𝓤 H A at-mem run) (κ, tt) (s, (n, tt)) tt r)))) (id⊢ 𝓤 _) $ await ! tt $ pick ! (λ r.
+          (ensured 𝓤 H A started.ended (started.clauses 𝓤 H A at-mem run) (κ, tt) (s, (n, tt)) tt r)))) (id⊢ 𝓤 _) $
+          await ! tt $ pick ! (λ r.
           split ! $ move ! (1 ∷ []) $ use1 W (raw (fact 𝓤 (Shows (answerOf (sheet ws n)) r))) (said-started r) $
           heard ! (Shows (answerOf (sheet ws n)) r) (λ e. split ! $ move ! (1 ∷ []) $
           peeks ! P.the-row (Is P.the-row) (shows 𝓤 H A P.the-row) r (u ∷ []) (λ is.
           land ! (from ! (stop !)) (init ! 27 refl (LL.lawful P.the-type P′.the-laws 𝓤 H A W .typed r _ is .0)) $
-          rewrite ! 27 (λ (w : Val). ‵ (fat fullShare P′.mir l₃ 0 w)) (ap only (LL.tells P.the-type P′.the-laws r (u ∷ []) is)) refl $
+          rewrite ! 27 (λ (w : Val). ‵ (fat fullShare P′.mir l₃ 0 w))
+          (ap only (LL.tells P.the-type P′.the-laws r (u ∷ []) is)) refl $
           drop ! $ by ! (begins r (subst (Is P.the-row r) (LL.tells P.the-type P′.the-laws r (u ∷ []) is) is) e)))))
 
     walk : Is (ShrSlice (named 0) κ u16) s (v ∷ []) → ent 𝓤 (onEntry 𝓤 H A f.signature (κ, (κ′, tt)) (q, (q′, tt)) x at)
         (WpFn 𝓤 H (𝓣 .C) (𝓣 .Λ) function (v ∷ v′ ∷ []) Post)
     walk block-is =
-        qed W ((‵ (flft κ q) ⊛ ‵ (flft κ′ q′) ⊛ ‵ ftrue) ∷ ‵ (owns (ShrSlice (named 0) κ u16 ∷ MutSlice (named 1) κ′ Row ∷ []) x at) ∷ []) ∵
+        qed W ((‵ (flft κ q) ⊛ ‵ (flft κ′ q′) ⊛ ‵ ftrue)
+        ∷ ‵ (owns (ShrSlice (named 0) κ u16 ∷ MutSlice (named 1) κ′ Row ∷ []) x at) ∷ []) ∵
         -- [obs; the borrow; the token; the block's token; what the block owns]
-        split ! $ move ! (1 ∷ []) $ split ! $ move ! (2 ∷ 1 ∷ []) $ join ! $ move ! (2 ∷ []) $ fsplit ! $ move ! (1 ∷ []) $ fsplit ! $ move ! (1 ∷ []) $
+        split ! $ move ! (1 ∷ []) $ split ! $ move ! (2 ∷ 1 ∷ []) $ join ! $ move ! (2 ∷ []) $ fsplit ! $
+        move ! (1 ∷ []) $ fsplit ! $ move ! (1 ∷ []) $
         drop ! $ fsplit ! $ drop ! $ fsplit ! $ move ! (0 ∷ 1 ∷ 4 ∷ 3 ∷ 2 ∷ []) $
         enter ! (𝓣 .C) (𝓣 .Λ) function (v ∷ v′ ∷ []) _ $
         alloc1 ! (λ l₀. alloc1 ! (λ l₁. alloc1 ! (λ l₂. alloc1 ! (λ l₃. alloc1 !
@@ -637,9 +755,13 @@ module _ {M : Type 1} (𝓤 : URA M) (H : Heap 𝓤) (A : Atoms 𝓤) (W : Given
         pass1 ! (init ! 26 refl (tt, (tt, (record { fits = fits .0 }, tt)))) $ pass0 ! $
         by ! (starts l₀ l₁ l₂ l₃ l₄ l₅ l₆ l₇ l₈ l₉ l₁₀ l₁₁ l₁₂ l₁₃ l₁₄ l₁₅)))))))))))))))))
 
-module _ {M : Type 1} (𝓤 : URA M) (H : Heap 𝓤) (A : Atoms 𝓤) (W : Given 𝓤 H A) (at-mem : Memory → SProp 𝓤) (run : Routine → Fun 𝓤) where
+module _ {M : Type 1} (𝓤 : URA M) (H : Heap 𝓤) (A : Atoms 𝓤) (W : Given 𝓤 H A) (at-mem : Memory → SProp 𝓤)
+    (run : Routine → Fun 𝓤) where
   goes : AllGo 𝓤 H A W 2 (f.signature .params) (f.ended .kept) stayed
-  goes = (goes-none-slice 𝓤 H A W 2 (0 ∷ []) tt (plain (λ _. u16)) yes, (goes-slice 𝓤 H A W 2 1 tt (plain (λ _. R.the-row)), tt))
+  goes = (
+    goes-none-slice 𝓤 H A W 2 (0 ∷ []) tt (plain (λ _. u16)) yes,
+    (goes-slice 𝓤 H A W 2 1 tt (plain (λ _. R.the-row)), tt),
+  )
 
   module _ (𝓣 : Tables 𝓤 H) (known : Triple 𝓤 (𝓣 .C #op-sheet·reply-to-sheet) (Started 𝓤 H A at-mem run))
       (known-made : Triple 𝓤 (𝓣 .C #op-sheet·turns·no-batch) (Made 𝓤 H A at-mem run))
@@ -648,9 +770,13 @@ module _ {M : Type 1} (𝓤 : URA M) (H : Heap 𝓤) (A : Atoms 𝓤) (W : Given
       (known-answered : Triple 𝓤 (𝓣 .C #op-sheet·turns·answer) (Answered 𝓤 H A at-mem run)) where
     sheet-walks : Walks 𝓤 H A f.ended stayed (WpFn 𝓤 H (𝓣 .C) (𝓣 .Λ) function) (f.clauses 𝓤 H A at-mem run)
     sheet-walks = walked 𝓤 H A f.ended stayed (f.clauses 𝓤 H A at-mem run) (WpFn 𝓤 H (𝓣 .C) (𝓣 .Λ) function)
-        (λ κs. (slice-vals, (slice-vals, tt))) (λ κs. (shr-slice-tells (named 0) (κs .0) u16, (mut-slice-tells (named 1) (κs .1 .0) R.the-row, tt)))
+        (λ κs. (slice-vals, (slice-vals, tt))) (λ κs. (
+          shr-slice-tells (named 0) (κs .0) u16,
+          (mut-slice-tells (named 1) (κs .1 .0) R.the-row, tt),
+        ))
         (λ κs qs bounds a g are. via 𝓤 _ (fst∗ 𝓤 _ (emp 𝓤))
-        (walk 𝓤 H A W at-mem run (κs .0) (κs .1 .0) (qs .0) (qs .1 .0) (a .0) (a .1 .0 .ptr .0) (a .1 .0 .ptr .1) (a .1 .0 .name) (a .1 .0 .now)
+        (walk 𝓤 H A W at-mem run (κs .0) (κs .1 .0) (qs .0) (qs .1 .0) (a .0) (a .1 .0 .ptr .0) (a .1 .0 .ptr .1)
+        (a .1 .0 .name) (a .1 .0 .now)
         (are .1 .0 .0 .1) 𝓣 known known-made known-placed known-advances known-answered (are .0)))
 
     sheet-meets : Meets 𝓤 H A f.signature (WpFn 𝓤 H (𝓣 .C) (𝓣 .Λ) code.function) (f.spec 𝓤 H A at-mem run)
@@ -663,15 +789,21 @@ pub unloop-sheet-spec : {M : Type 1} → stated.statement M
 unfolding code.routine tablesOf
 unloop-sheet-spec 𝓤 H 𝓜 𝓖 𝓡 =
     entered 𝓤 H (tripleOf 𝓤 H (𝓖 .A) f.signature (f.spec 𝓤 H (𝓖 .A) (𝓜 .mem) (𝓡 .run)))
-    (tables 𝓤 H 𝓜 𝓡 code.env .C) (tables 𝓤 H 𝓜 𝓡 code.env .Λ) #exports·unloop-sheet code.function (code.unfolded 𝓤 H 𝓜 𝓡)
+    (tables 𝓤 H 𝓜 𝓡 code.env .C) (tables 𝓤 H 𝓜 𝓡 code.env .Λ) #exports·unloop-sheet code.function
+    (code.unfolded 𝓤 H 𝓜 𝓡)
     (sheet-meets 𝓤 H (𝓖 .A) (givenOf 𝓤 H 𝓜 𝓖) (𝓜 .mem) (𝓡 .run) (tablesOf 𝓤 H 𝓜 (tables 𝓤 H 𝓜 𝓡 code.env))
-    (cited 𝓤 H (Started 𝓤 H (𝓖 .A) (𝓜 .mem) (𝓡 .run)) 𝓜 𝓡 code.env #op-sheet·reply-to-sheet started-def.routine code.calls-op-sheet·reply-to-sheet
+    (cited 𝓤 H (Started 𝓤 H (𝓖 .A) (𝓜 .mem) (𝓡 .run)) 𝓜 𝓡 code.env #op-sheet·reply-to-sheet started-def.routine
+    code.calls-op-sheet·reply-to-sheet
     (started-thm.met 𝓤 H 𝓜 𝓖 𝓡))
-    (cited 𝓤 H (Made 𝓤 H (𝓖 .A) (𝓜 .mem) (𝓡 .run)) 𝓜 𝓡 code.env #op-sheet·turns·no-batch made-def.routine code.calls-op-sheet·turns·no-batch
+    (cited 𝓤 H (Made 𝓤 H (𝓖 .A) (𝓜 .mem) (𝓡 .run)) 𝓜 𝓡 code.env #op-sheet·turns·no-batch made-def.routine
+    code.calls-op-sheet·turns·no-batch
     (made-thm.met 𝓤 H 𝓜 𝓖 𝓡))
-    (cited 𝓤 H (Placed 𝓤 H (𝓖 .A) (𝓜 .mem) (𝓡 .run)) 𝓜 𝓡 code.env #op-sheet·turns·place-at placed-def.routine code.calls-op-sheet·turns·place-at
+    (cited 𝓤 H (Placed 𝓤 H (𝓖 .A) (𝓜 .mem) (𝓡 .run)) 𝓜 𝓡 code.env #op-sheet·turns·place-at placed-def.routine
+    code.calls-op-sheet·turns·place-at
     (placed-thm.met 𝓤 H 𝓜 𝓖 𝓡))
-    (cited 𝓤 H (Advances 𝓤 H (𝓖 .A) (𝓜 .mem) (𝓡 .run)) 𝓜 𝓡 code.env #op-sheet·turns·advance advanced-def.routine code.calls-op-sheet·turns·advance
+    (cited 𝓤 H (Advances 𝓤 H (𝓖 .A) (𝓜 .mem) (𝓡 .run)) 𝓜 𝓡 code.env #op-sheet·turns·advance advanced-def.routine
+    code.calls-op-sheet·turns·advance
     (advanced-thm.met 𝓤 H 𝓜 𝓖 𝓡))
-    (cited 𝓤 H (Answered 𝓤 H (𝓖 .A) (𝓜 .mem) (𝓡 .run)) 𝓜 𝓡 code.env #op-sheet·turns·answer answered-def.routine code.calls-op-sheet·turns·answer
+    (cited 𝓤 H (Answered 𝓤 H (𝓖 .A) (𝓜 .mem) (𝓡 .run)) 𝓜 𝓡 code.env #op-sheet·turns·answer answered-def.routine
+    code.calls-op-sheet·turns·answer
     (answered-thm.met 𝓤 H 𝓜 𝓖 𝓡)))

@@ -4,23 +4,25 @@ use mathlib.Core.Path.{refl}
 use native.Mathlib.Omega.{arith}
 use borrow.Author.Needs.{needs}
 use Rattle.words_refusals.specs.Tests.{testOf}
-use Rattle.op_bring.proofs.Words.{torn-short, torn-long, torn-inputs}
+use Rattle.op_bring.proofs.Words.{malformed-short, malformed-long, malformed-inputs}
 use Rattle.op_bring.proofs.check_before.Statement.{statement}
 use Rattle.op_bring.proofs.check_before.Tie as tie
 
 returns : tie.Need-returns
 unfolding testOf
-returns c = rw (torn-short (c .before .before .args .old .now) (c .if1 .taken)) refl
+returns c = rw (malformed-short (c .before .before .args .old .now) (c .if1 .taken)) refl
 
 returns-2 : tie.Need-returns-2
 unfolding testOf
-returns-2 c = let s = c .before .before .before in rw (torn-long (s .args .old .now) (omega arith) (omega arith)) refl
+returns-2 c = let s = c .before .before .before in
+    rw (malformed-long (s .args .old .now) (omega arith) (omega arith)) refl
 
 returns-3 : tie.Need-returns-3
 unfolding testOf
 returns-3 c =
     let s : tie.Start = search in
-    rw (torn-inputs (s .args .old .now) (omega arith) (omega (arith, c .before .inputs-of .ensures, c .if3 .taken)))
+    rw (malformed-inputs (s .args .old .now) (omega arith)
+    (omega (arith, c .before .inputs-of .ensures, c .if3 .taken)))
     refl
 
 pub check-before-spec : {M : Type 1} → statement M

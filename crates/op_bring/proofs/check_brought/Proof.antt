@@ -11,7 +11,7 @@ use Rattle.netlist.specs.declared.Refusal.the-variants.{MalformedBlock}
 use Rattle.netlist.specs.StoredBlock.{isMalformed}
 use Rattle.words_refusals.specs.Tests.{testOf}
 use Rattle.netlist.specs.Bring.{brought}
-use Rattle.op_bring.proofs.Words.{length-brought, torn-brought}
+use Rattle.op_bring.proofs.Words.{length-brought, malformed-brought}
 use Rattle.op_bring.proofs.check_brought.Statement.{statement}
 use Rattle.op_bring.proofs.check_brought.Tie as tie
 
@@ -31,7 +31,7 @@ returns c =
     ∙ take-placed (brought old) _ (length old + 1) (length-brought old (s .pre .0 .0)) in
     c .check-words .ensures
     ∙ ap (λ (t : Bool). testOf t MalformedBlock)
-    (ap isMalformed words ∙ sym (torn-brought old (s .pre .0 .0) (s .pre .1)))
+    (ap isMalformed words ∙ sym (malformed-brought old (s .pre .0 .0) (s .pre .1)))
 
 pub check-brought-spec : {M : Type 1} → statement M
 check-brought-spec =

@@ -1,5 +1,6 @@
--- `op_compare::compare` meets its contract: the tests are the definition's conditions in its order, and then the settings are searched.
--- Assumes nothing.
+-- `op_compare::compare` meets its contract: the tests are the definition's conditions in its order, and then the
+-- settings
+-- are searched. Assumes nothing.
 use mathlib.Core.Path.{_≡_, _∙_, sym, ap}
 use mathlib.Core.Bool.{false, not}
 use mathlib.Core.List.{[]}
@@ -54,7 +55,9 @@ behind-ours : (c : tie.After-enum-told) → let a = entry c .args in
     (refuseIf (not (isStraight (decode (now (a .theirs))))) NotStraight
     (refuseIf (not (sameInterface (decode (now (a .ours))) (decode (now (a .theirs))))) InterfaceMismatch
     (compareBlocks (decode (now (a .ours))) (decode (now (a .theirs))))))
-behind-ours c = passed bare keeps-bare _ _ MalformedBlock (compare-chain _ _) (ours-test c .check-words .ensures) (c .enum-told .given .1)
+behind-ours c =
+    passed bare keeps-bare _ _ MalformedBlock (compare-chain _ _) (ours-test c .check-words .ensures)
+    (c .enum-told .given .1)
 
 behind-theirs : (c : tie.After-enum-told3) → let a = entry3 c .args in
     compare (now (a .ours)) (now (a .theirs))
@@ -62,14 +65,18 @@ behind-theirs : (c : tie.After-enum-told3) → let a = entry3 c .args in
     (refuseIf (not (sameInterface (decode (now (a .ours))) (decode (now (a .theirs))))) InterfaceMismatch
     (compareBlocks (decode (now (a .ours))) (decode (now (a .theirs)))))
 behind-theirs c =
-    passed bare keeps-bare _ _ MalformedBlock (behind-ours (theirs-test c .before)) (theirs-test c .check-words2 .ensures) (c .enum-told3 .given .1)
+    let t = theirs-test c in
+    passed bare keeps-bare _ _ MalformedBlock (behind-ours (t .before)) (t .check-words2 .ensures)
+    (c .enum-told3 .given .1)
 
 behind-straight : (c : tie.After-enum-told5) → let a = entry5 c .args in
     compare (now (a .ours)) (now (a .theirs))
     ≡ refuseIf (not (sameInterface (decode (now (a .ours))) (decode (now (a .theirs))))) InterfaceMismatch
     (compareBlocks (decode (now (a .ours))) (decode (now (a .theirs))))
 behind-straight c =
-    passed bare keeps-bare _ _ NotStraight (behind-theirs (straight-test c .before)) (straight-test c .check-straight .ensures) (c .enum-told5 .given .1)
+    let t = straight-test c in
+    passed bare keeps-bare _ _ NotStraight (behind-theirs (t .before)) (t .check-straight .ensures)
+    (c .enum-told5 .given .1)
 
 returns : tie.Need-returns
 returns c =

@@ -5,8 +5,7 @@ use Rattle.op_compare.proofs.compare_pair.Tie as tie
 
 compare-with-requires : tie.Need-compare-with-requires
 compare-with-requires c κs =
-    let g = c .before .before .before in
-    let s = g .before .before .before .before .before in
+    let s : tie.Start = search in
     ((s .pre, record { graphRoom = refl; orderRoom = refl; endRoom = refl }, refl), (refl, refl))
 
 pub compare-pair-spec : {M : Type 1} → statement M

@@ -1,4 +1,5 @@
--- `op_compare_cells::compare_cells` meets its contract: the tests are the definition's conditions in its order, and then the settings are searched.
+-- `op_compare_cells::compare_cells` meets its contract: the tests are the definition's conditions in its order, and
+-- then the settings are searched.
 -- Assumes nothing.
 use mathlib.Core.Path.{_≡_, _∙_, sym, ap}
 use mathlib.Core.Bool.{false, not}
@@ -55,11 +56,14 @@ whole : (c : tie.After-enum-told) → isMalformed (now (entry c .args .words)) �
 whole c = passed-false _ MalformedBlock (words-test c .check-words .ensures) (c .enum-told .given .1)
 
 cells-say : (t : tie.After-check-cells) → let a = entry (whole-told t) .args in
-    t .check-cells .result ≡ testOf (not (areLegalCells (inputCount (decode (now (a .words)))) (now (a .cells)))) MalformedBlock
+    t .check-cells .result
+    ≡ testOf (not (areLegalCells (inputCount (decode (now (a .words)))) (now (a .cells)))) MalformedBlock
 cells-say t =
-    rw (decode-inputCount (now (entry (whole-told t) .args .words)), ← t .before .inputs-of .ensures) (t .check-cells .ensures)
+    rw (decode-inputCount (now (entry (whole-told t) .args .words)), ← t .before .inputs-of .ensures)
+    (t .check-cells .ensures)
 
-legal : (c : tie.After-enum-told3) → let a = entry3 c .args in not (areLegalCells (inputCount (decode (now (a .words)))) (now (a .cells))) ≡ false
+legal : (c : tie.After-enum-told3) → let a = entry3 c .args in
+    not (areLegalCells (inputCount (decode (now (a .words)))) (now (a .cells))) ≡ false
 legal c = passed-false _ MalformedBlock (cells-say (cells-test c)) (c .enum-told3 .given .1)
 
 -- what is left of the chain of conditions behind each
@@ -69,21 +73,26 @@ behind-words : (c : tie.After-enum-told) → let a = entry c .args in let n = in
     (refuseIf (not (eqb (length (now (a .shown))) (outputCount (decode (now (a .words)))))) InterfaceMismatch
     (refuseIf (not (all (isListed n (now (a .cells))) (now (a .shown)))) MalformedBlock
     (compareBlockCells (decode (now (a .words))) (now (a .cells)) (now (a .shown)))))
-behind-words c = passed bare keeps-bare _ _ MalformedBlock (compare-chain _ _ _) (words-test c .check-words .ensures) (c .enum-told .given .1)
+behind-words c =
+    passed bare keeps-bare _ _ MalformedBlock (compare-chain _ _ _) (words-test c .check-words .ensures)
+    (c .enum-told .given .1)
 
 behind-cells : (c : tie.After-enum-told3) → let a = entry3 c .args in let n = inputCount (decode (now (a .words))) in
     compareCells (now (a .words)) (now (a .cells)) (now (a .shown))
     ≡ refuseIf (not (eqb (length (now (a .shown))) (outputCount (decode (now (a .words)))))) InterfaceMismatch
     (refuseIf (not (all (isListed n (now (a .cells))) (now (a .shown)))) MalformedBlock
     (compareBlockCells (decode (now (a .words))) (now (a .cells)) (now (a .shown))))
-behind-cells c = passed bare keeps-bare _ _ MalformedBlock (behind-words (whole-told (cells-test c))) (cells-say (cells-test c)) (c .enum-told3 .given .1)
+behind-cells c =
+    passed bare keeps-bare _ _ MalformedBlock (behind-words (whole-told (cells-test c))) (cells-say (cells-test c))
+    (c .enum-told3 .given .1)
 
 behind-length : (c : tie.After-enum-told5) → let a = entry5 c .args in let n = inputCount (decode (now (a .words))) in
     compareCells (now (a .words)) (now (a .cells)) (now (a .shown))
     ≡ refuseIf (not (all (isListed n (now (a .cells))) (now (a .shown)))) MalformedBlock
     (compareBlockCells (decode (now (a .words))) (now (a .cells)) (now (a .shown)))
 behind-length c =
-    passed bare keeps-bare _ _ InterfaceMismatch (behind-cells (length-test c .before)) (length-test c .check-length .ensures) (c .enum-told5 .given .1)
+    passed bare keeps-bare _ _ InterfaceMismatch (behind-cells (length-test c .before))
+    (length-test c .check-length .ensures) (c .enum-told5 .given .1)
 
 returns : tie.Need-returns
 returns c =
@@ -128,7 +137,8 @@ returns-5 c =
     tell
     (c .compare-passed .ensures
     ∙ ap answerOf (sym
-    (passed bare keeps-bare _ _ MalformedBlock (behind-length (listed-test t .before)) (listed-test t .check-listed .ensures) (t .enum-told7 .given .1))))
+    (passed bare keeps-bare _ _ MalformedBlock (behind-length (listed-test t .before))
+    (listed-test t .check-listed .ensures) (t .enum-told7 .given .1))))
 
 pub compare-cells-spec : {M : Type 1} → statement M
 compare-cells-spec =

@@ -1,4 +1,5 @@
--- `op_compare_cells::compare_planned` meets its contract: the table is of the cells, and the arrays have room for the largest block and the most cells.
+-- `op_compare_cells::compare_planned` meets its contract: the table is of the cells, and the arrays have room for the
+-- largest block and the most cells.
 -- Assumes nothing.
 use mathlib.Core.Path.{_≡_, refl}
 use borrow.Author.Needs.{needs}
@@ -23,13 +24,16 @@ decode-cells-requires c κs = let k = c .before in (rw (k .inputs-of .ensures) (
 search-settings-requires : tie.Need-search-settings-requires
 search-settings-requires c κs =
     let d = decoded c in
-    let s = start (known d) in
-    ((s .pre .1, search-ready (s .pre .0) (table-for (known d .inputs-of .ensures) (d .decode-cells .ensures))), (refl, refl))
+    let s = start (known d) in (
+      (s .pre .1, search-ready (s .pre .0) (table-for (known d .inputs-of .ensures) (d .decode-cells .ensures))),
+      (refl, refl),
+    )
 
 returns : tie.Need-returns
 returns c =
     let d = decoded (c .before) in
-    c .search-settings .ensures .told (now (start (known d) .args .cells)) (table-for (known d .inputs-of .ensures) (d .decode-cells .ensures))
+    c .search-settings .ensures .told (now (start (known d) .args .cells))
+    (table-for (known d .inputs-of .ensures) (d .decode-cells .ensures))
 
 pub compare-planned-spec : {M : Type 1} → statement M
 compare-planned-spec =

@@ -13,15 +13,19 @@ returns : tie.Need-returns
 returns c =
     let t = c .before .before .before in
     let s = t .before .before .before in
-    failed (inRoom _) (keeps-room _) _ _ MalformedBlock (cover-chain _ _) (t .check-words .ensures) (now (s .args .entries))
+    failed (inRoom _) (keeps-room _) _ _ MalformedBlock (cover-chain _ _) (t .check-words .ensures)
+    (now (s .args .entries))
     (c .before .before .match .keys2) (c .refusal .ensures)
 
 whole-cover-requires : tie.Need-whole-cover-requires
 whole-cover-requires c κs =
-    let room = c .before .before in
-    let told = room .before .before .before .before in (
+    let told : tie.After-enum-told = search in (
       passed-false _ MalformedBlock (told .before .before .check-words .ensures) (told .enum-told .given .1),
-      record { planRoom = record { graphRoom = refl; orderRoom = refl; endRoom = refl }; laneRoom = refl; settledRoom = refl },
+      record {
+        planRoom = record { graphRoom = refl; orderRoom = refl; endRoom = refl };
+        laneRoom = refl;
+        settledRoom = refl;
+      },
     )
 
 pub cover-spec : {M : Type 1} → statement M

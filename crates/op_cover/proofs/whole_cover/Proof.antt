@@ -1,4 +1,5 @@
--- `op_cover::whole_cover` meets its contract: the entries over the table of settled settings are the block's cover. Assumes nothing.
+-- `op_cover::whole_cover` meets its contract: the entries over the table of settled settings are the block's cover.
+-- Assumes nothing.
 use mathlib.Core.Path.{_≡_, sym, _∙_}
 use denote.Ref.{now}
 use borrow.Author.Needs.{needs}
@@ -25,7 +26,8 @@ abbrev listed : tie.After-test-room → tie.After-cover-entries
 listed c = c .before .before .before
 
 -- n is the block's number of inputs
-inputs-are : (c : tie.After-inputs-of) → c .inputs-of .result ≡ inputCount (decode (now (start (tabled c) .args .words)))
+inputs-are : (c : tie.After-inputs-of)
+    → c .inputs-of .result ≡ inputCount (decode (now (start (tabled c) .args .words)))
 inputs-are c = c .inputs-of .ensures ∙ sym (decode-inputCount (now (start (tabled c) .args .words)))
 
 cover-entries-requires : tie.Need-cover-entries-requires
@@ -41,7 +43,8 @@ returns c =
     let t = c .before .before .before in
     let e = listed t in
     let i = counted e in
-    cover-short _ (start (tabled i) .pre .0) (tabled i .tabulate .ensures) (inputs-are i) (e .cover-entries .ensures) (e .cover-entries .kept .1 .1 .0)
+    cover-short _ (start (tabled i) .pre .0) (tabled i .tabulate .ensures) (inputs-are i) (e .cover-entries .ensures)
+    (e .cover-entries .kept .1 .1 .0)
     (t .test-room .ensures) (c .before .before .match .keys2) (c .refusal .ensures)
 
 returns-2 : tie.Need-returns-2
@@ -49,7 +52,8 @@ returns-2 c =
     let t = c .before .before in
     let e = listed t in
     let i = counted e in
-    cover-done _ (start (tabled i) .pre .0) (tabled i .tabulate .ensures) (inputs-are i) (e .cover-entries .ensures) (e .cover-entries .kept .1 .1 .0)
+    cover-done _ (start (tabled i) .pre .0) (tabled i .tabulate .ensures) (inputs-are i) (e .cover-entries .ensures)
+    (e .cover-entries .kept .1 .1 .0)
     (t .test-room .ensures) (c .enum-told .given .1)
 
 pub whole-cover-spec : {M : Type 1} → statement M

@@ -25,27 +25,32 @@ form-test c = c .before .before
 
 behind-length : (c : tie.After-enum-told) → let a = start (length-test c) .args in
     read (a .text .now) (length (a .block .now))
-    ≡ inRoom (length (a .block .now)) (refuseAt (firstBad (a .text .now)) SyntaxError (afterForm (parse (a .text .now))))
+    ≡ inRoom (length (a .block .now)) (refuseAt (firstBad (a .text .now)) SyntaxError
+    (afterForm (parse (a .text .now))))
 behind-length c =
-    read-form _ _ (passed (inRoom _) (keeps-room _) _ _ TextTooLong (read-start _ _) (length-test c .refuse-if .ensures) (c .enum-told .given .1))
+    read-form _ _ (passed (inRoom _) (keeps-room _) _ _ TextTooLong (read-start _ _) (length-test c .refuse-if .ensures)
+    (c .enum-told .given .1))
 
 returns : tie.Need-returns
 returns c =
     let t = c .before .before .before in
-    failed (inRoom _) (keeps-room _) _ _ TextTooLong (read-start _ _) (t .refuse-if .ensures) (start t .args .block .now)
+    failed (inRoom _) (keeps-room _) _ _ TextTooLong (read-start _ _) (t .refuse-if .ensures)
+    (start t .args .block .now)
     (c .before .before .match .keys2) (c .refusal .ensures)
 
 returns-2 : tie.Need-returns-2
 returns-2 c =
     let t = c .before .before .before in
-    failed-at (inRoom _) (keeps-room _) _ _ SyntaxError (behind-length (t .before)) (t .form .ensures) (start (length-test (t .before)) .args .block .now)
+    failed-at (inRoom _) (keeps-room _) _ _ SyntaxError (behind-length (t .before)) (t .form .ensures)
+    (start (length-test (t .before)) .args .block .now)
     (c .before .before .match2 .keys2) (c .refusal2 .ensures)
 
 read-legal-requires : tie.Need-read-legal-requires
 read-legal-requires c κs =
     let t = form-test (c .before) in
     let l = length-test (t .before) in
-    in-form (start l .args .text .now) (ltb-false _ _ (passed-false _ TextTooLong (l .refuse-if .ensures) (t .before .enum-told .given .1)))
+    in-form (start l .args .text .now) (ltb-false _ _
+    (passed-false _ TextTooLong (l .refuse-if .ensures) (t .before .enum-told .given .1)))
     (passed-none _ SyntaxError (t .form .ensures) (c .before .enum-told3 .given .1))
 
 pub read-spec : {M : Type 1} → statement M

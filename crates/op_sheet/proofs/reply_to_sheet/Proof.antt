@@ -13,16 +13,17 @@ use Rattle.op_sheet.proofs.reply_to_sheet.Tie as tie
 returns : tie.Need-returns
 returns c =
     let t = c .before .before .before in
-    let told = failed bare keeps-bare _ _ MalformedBlock (sheet-chain _ _) (t .before .check-words .ensures) [] (t .match .keys2)
+    let told = failed bare keeps-bare _ _ MalformedBlock (sheet-chain _ _) (t .before .check-words .ensures) []
+    (t .match .keys2)
     (c .before .refusal .ensures) in
     shows-same (promise-answer told) (c .reply-of .ensures)
 
 returns-2 : tie.Need-returns-2
 returns-2 c =
     let t = c .before in
-    let a = t .before .before .before .before .args in
+    let s : tie.Start = search in
     let whole = passed-false _ MalformedBlock (t .before .before .check-words .ensures) (t .enum-told .given .1) in
-    shows-same (sym (sheet-done (now (a .words)) (a .count) whole)) (c .reply-of2 .ensures)
+    shows-same (sym (sheet-done (now (s .args .words)) (s .args .count) whole)) (c .reply-of2 .ensures)
 
 pub reply-to-sheet-spec : {M : Type 1} → statement M
 reply-to-sheet-spec =

@@ -1,4 +1,5 @@
--- `op_verdict::verdict` meets its contract: torn words are refused, and whole ones are `whole_verdict`'s. Assumes nothing.
+-- `op_verdict::verdict` meets its contract: torn words are refused, and whole ones are `whole_verdict`'s.
+-- Assumes nothing.
 use mathlib.Core.Path.{refl}
 use mathlib.Core.List.{[]}
 use borrow.Author.Needs.{needs}
@@ -11,11 +12,12 @@ use Rattle.op_verdict.proofs.verdict.Tie as tie
 returns : tie.Need-returns
 returns c =
     let t = c .before .before .before in
-    failed bare keeps-bare _ _ MalformedBlock (verdict-chain _) (t .check-words .ensures) [] (c .before .before .match .keys2) (c .refusal .ensures) .told
+    failed bare keeps-bare _ _ MalformedBlock (verdict-chain _) (t .check-words .ensures) []
+    (c .before .before .match .keys2) (c .refusal .ensures) .told
 
 whole-verdict-requires : tie.Need-whole-verdict-requires
 whole-verdict-requires c κs =
-    let told = c .before .before .before .before in (
+    let told : tie.After-enum-told = search in (
       passed-false _ MalformedBlock (told .before .before .check-words .ensures) (told .enum-told .given .1),
       (record { graphRoom = refl; orderRoom = refl; endRoom = refl }, refl),
     )

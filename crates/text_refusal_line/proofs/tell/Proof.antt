@@ -14,50 +14,62 @@ abbrev numbers : tie.After-put-all → tie.After-detail-of
 numbers f = f .before .before .before
 
 abbrev first : tie.After-put-decimal → tie.After-put-all
-first f = f .before .before .before .before
+first f = let b = f .before .before in b .before .before
 
 abbrev second : tie.After-put-all2 → tie.After-put-decimal
-second f = f .before .before .before .before .before
+second f = let b = f .before .before in b .before .before .before
 
 abbrev third : tie.After-put-decimal2 → tie.After-put-all2
-third f = f .before .before .before .before
+third f = let b = f .before .before in b .before .before
 
 abbrev fourth : tie.After-put-all3 → tie.After-put-decimal2
-fourth f = f .before .before .before .before .before
+fourth f = let b = f .before .before in b .before .before .before
 
 -- neither number has more than 20 digits, so every end is a small number
-digits : (c : tie.After-detail-of) → (length (decimal (c .before .number-of .result)) ≤ 20) × (length (decimal (c .detail-of .result)) ≤ 20)
-digits c = (number-short (c .before .number-of .result) (c .before .number-of .ok), number-short (c .detail-of .result) (c .detail-of .ok))
+digits : (c : tie.After-detail-of)
+    → (length (decimal (c .before .number-of .result)) ≤ 20) × (length (decimal (c .detail-of .result)) ≤ 20)
+digits c = (
+  number-short (c .before .number-of .result) (c .before .number-of .ok),
+  number-short (c .detail-of .result) (c .detail-of .ok),
+)
 
 put-decimal-requires : tie.Need-put-decimal-requires
 put-decimal-requires c κs =
-    let f = c .before .before .before in
-    let few = digits (numbers f) in
+    let n : tie.After-detail-of = search in
+    let f : tie.After-put-all = search in
+    let few = digits n in
     record { small = omega (arith, few .0, few .1, f .put-all .ensures .endIs) }
 
 put-all-requires-2 : tie.Need-put-all-requires-2
 put-all-requires-2 c κs =
-    let s = c .before .before .before .before in
-    let few = digits (numbers (first s)) in
-    record { small = omega (arith, few .0, few .1, first s .put-all .ensures .endIs, s .put-decimal .ensures .endIs) }
+    let n : tie.After-detail-of = search in
+    let f : tie.After-put-all = search in
+    let s : tie.After-put-decimal = search in
+    let few = digits n in
+    record { small = omega (arith, few .0, few .1, f .put-all .ensures .endIs, s .put-decimal .ensures .endIs) }
 
 put-decimal-requires-2 : tie.Need-put-decimal-requires-2
 put-decimal-requires-2 c κs =
-    let t = c .before .before .before in
-    let s = second t in
-    let few = digits (numbers (first s)) in
-    let e = first s .put-all .ensures .endIs in
+    let n : tie.After-detail-of = search in
+    let f : tie.After-put-all = search in
+    let s : tie.After-put-decimal = search in
+    let t : tie.After-put-all2 = search in
+    let few = digits n in
+    let e = f .put-all .ensures .endIs in
     record { small = omega (arith, few .0, few .1, e, s .put-decimal .ensures .endIs, t .put-all2 .ensures .endIs) }
 
 put-all-requires-3 : tie.Need-put-all-requires-3
 put-all-requires-3 c κs =
-    let d = c .before .before .before .before in
-    let t = third d in
-    let s = second t in
-    let few = digits (numbers (first s)) in
-    let e = first s .put-all .ensures .endIs in
+    let n : tie.After-detail-of = search in
+    let f : tie.After-put-all = search in
+    let s : tie.After-put-decimal = search in
+    let t : tie.After-put-all2 = search in
+    let d : tie.After-put-decimal2 = search in
+    let few = digits n in
+    let e = f .put-all .ensures .endIs in
     let e₂ = s .put-decimal .ensures .endIs in
-    record { small = omega (arith, few .0, few .1, e, e₂, t .put-all2 .ensures .endIs, d .put-decimal2 .ensures .endIs) }
+    let e₃ = t .put-all2 .ensures .endIs in
+    record { small = omega (arith, few .0, few .1, e, e₂, e₃, d .put-decimal2 .ensures .endIs) }
 
 returns : tie.Need-returns
 unfolding toldLine
@@ -68,8 +80,9 @@ returns c =
     let s = second t in
     let n = numbers (first s) in
     let entry = n .before .before .before in
-    line-told (entry .args .why) (entry .args .out .now) _ _ (entry .pre) (n .before .number-of .ensures) (n .detail-of .ensures)
-    (n .before .number-of .ok) (n .detail-of .ok) (appended-then (first s .put-all .ensures) (appended-then (s .put-decimal .ensures)
+    line-told (entry .args .why) (entry .args .out .now) _ _ (entry .pre) (n .before .number-of .ensures)
+    (n .detail-of .ensures) (n .before .number-of .ok) (n .detail-of .ok)
+    (appended-then (first s .put-all .ensures) (appended-then (s .put-decimal .ensures)
     (appended-then (t .put-all2 .ensures) (appended-then (d .put-decimal2 .ensures) (e .put-all3 .ensures)))))
 
 pub tell-spec : {M : Type 1} → statement M

@@ -1,4 +1,4 @@
--- `words_block::check_words` meets its contract: words are torn exactly when they break a rule (`intact-torn` of
+-- `words_block::check_words` meets its contract: words are malformed exactly when they break a rule (`intact-torn` of
 -- `theory_encoding`). Assumes nothing.
 use borrow.Author.Needs.{needs}
 use Rattle.theory_encoding.proofs.Intact.{intact-torn}

@@ -6,7 +6,7 @@ use Prim.Native.Nat.{_-_}
 use mathlib.Core.Path.{ap, _∙_}
 use native.Mathlib.Omega.{arith}
 use Rattle.prelude.proofs.Tabled.{Tabled, tabled-none, tabled-more, tabled-all}
-use Rattle.text_symbols.specs.Packed.{packed, nameFront}
+use Rattle.text_names.specs.Packed.{packed, nameFront}
 use Rattle.bench_set_line.specs.Tables.{inputKey}
 
 abbrev Inv-loop : tie.InvT-loop

@@ -9,7 +9,8 @@ use Rattle.cover_implicants.proofs.entries.is_left.Statement.{statement
 use Rattle.cover_implicants.proofs.entries.is_left.Tie as tie
 
 small : (c : tie.Start)
-    → (c .args .first .base + getD (c .args .weights .now) (c .args .ones) 0 < 3 ^ (c .args .n)) × (3 ^ (c .args .n) ≤ 3 ^ maxInputs)
+    → (c .args .first .base + getD (c .args .weights .now) (c .args .ones) 0 < 3 ^ (c .args .n))
+    × (3 ^ (c .args .n) ≤ 3 ^ maxInputs)
 small c = number-below (c .pre .0) (c .pre .1) (c .pre .2)
 
 cast-result : tie.Need-cast-result

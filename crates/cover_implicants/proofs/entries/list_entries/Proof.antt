@@ -1,12 +1,13 @@
--- `entries::list_entries` meets its contract: each turn lists a row; where all entries are counted, their words are there. Assumes nothing.
+-- `entries::list_entries` meets its contract: each turn lists a row; where all entries are counted, their words are
+-- there. Assumes nothing.
 use Prim.Native.Nat.{_-_, _*_, _^_, _≤_, _<_}
 use mathlib.Core.Path.{ap, _∙_}
 use native.Mathlib.Omega.{arith}
 use mathlib.Core.List.{List}
 use Rattle.prelude.specs.Lists.{placed}
 use Rattle.netlist.specs.Assignments.{Assignment}
-use Rattle.cover_implicants.specs.Over.{assignmentWords}
-use Rattle.cover_implicants.specs.Entries.{EntriesReached, Words}
+use Rattle.theory_cover.specs.Over.{assignmentWords}
+use Rattle.theory_cover.specs.Entries.{EntriesReached, Words}
 use Rattle.cover_implicants.proofs.Bounds.{two-fits}
 use Rattle.cover_implicants.proofs.Listing.{reached-first, words-first, all-reached, row-left}
 use Rattle.cover_implicants.proofs.entries.list_entries.Statement.{statement}
@@ -25,21 +26,30 @@ loop-holds c =
     let args = start .args in
     (omega arith, reached-first (args .marks .now) (args .n), words-first (args .marks .now) (args .out .now) (args .n))
 
+-- the entry, from a turn's beginning
+abbrev begun : tie.In-loop Inv-loop μ-loop → tie.Start Inv-loop μ-loop
+begun c = let head = c .before .before in head .before .before .before
+
 -- in a turn there is a row left
-more : (c : tie.In-loop Inv-loop μ-loop) → c .before .loop .fixed < 2 ^ (c .before .before .before .before .before .args .n)
-more c = row-left (c .before .loop .inv .1) (omega (arith, c .before .before .before .before .before .pre .1 .0, c .loop-test .taken))
+more : (c : tie.In-loop Inv-loop μ-loop) → c .before .loop .fixed < 2 ^ (begun c .args .n)
+more c = row-left (c .before .loop .inv .1) (omega (arith, begun c .pre .1 .0, c .loop-test .taken))
 
 row-base-requires : tie.Need-row-base-requires Inv-loop μ-loop
 row-base-requires c κs =
-    let start = c .before .before .before .before .before in
+    let start : tie.Start Inv-loop μ-loop = search in
     (start .pre .0 .0, start .pre .0 .1, more c)
 
 list-row-requires : tie.Need-list-row-requires Inv-loop μ-loop
 list-row-requires c κs =
-    let start = c .before .before .before .before .before .before .before in
+    let start : tie.Start Inv-loop μ-loop = search in
     let loop = c .before .before .before .loop in (
       (
-        record { weighed = start .pre .0 .0; room = start .pre .0 .2; legal = more (c .before .before); base-is = c .before .row-base .ensures },
+        record {
+          weighed = start .pre .0 .0;
+          room = start .pre .0 .2;
+          legal = more (c .before .before);
+          base-is = c .before .row-base .ensures;
+        },
         loop .inv .1,
       ),
       omega (arith, loop .inv .2 .same-length, start .pre .1 .1),
@@ -47,18 +57,32 @@ list-row-requires c κs =
 
 add-fixed : tie.Need-add-fixed Inv-loop μ-loop
 add-fixed c =
-    let start = c .before .before .before .before .before .before .before .before .before .before in
-    omega (arith, more (c .before .before .before .before .before), two-fits {i = start .args .n} {n = start .args .n} (omega arith) (start .pre .0 .0 .few))
+    let turn : tie.In-loop Inv-loop μ-loop = search in
+    let start : tie.Start Inv-loop μ-loop = search in
+    omega (
+      arith,
+      more turn,
+      two-fits {i = start .args .n} {n = start .args .n}
+          (omega arith) (start .pre .0 .0 .few),
+    )
 
 loop-less : tie.Need-loop-less Inv-loop μ-loop
-loop-less c = omega (arith, more (c .before .before .before .before .before))
+loop-less c =
+    let turn : tie.In-loop Inv-loop μ-loop = search in
+    omega (arith, more turn)
 
 loop-again : tie.Need-loop-again Inv-loop μ-loop
 loop-again c =
-    let loop = c .before .before .before .before .before .before .loop in
-    let start = c .before .before .before .before .before .before .before .before .before .before in
-    let listed = c .before .before .list-row .ensures in
-    (omega (arith, more (c .before .before .before .before .before)), listed .reached, listed .row (start .args .out .now) (loop .inv .2))
+    let head : tie.At-loop Inv-loop μ-loop = search in
+    let turn : tie.In-loop Inv-loop μ-loop = search in
+    let loop = head .loop in
+    let start : tie.Start Inv-loop μ-loop = search in
+    let listed = c .before .before .list-row .ensures in (
+      omega (arith, more turn),
+      listed .reached,
+      listed .row
+          (start .args .out .now) (loop .inv .2),
+    )
 
 same-length : tie.Need-same-length Inv-loop μ-loop
 same-length c = c .before .loop .inv .2 .same-length
@@ -66,7 +90,7 @@ same-length c = c .before .loop .inv .2 .same-length
 returns : tie.Need-returns Inv-loop μ-loop
 returns c =
     let loop = c .before .loop in
-    let start = c .before .before .before .before .before in
+    let start : tie.Start Inv-loop μ-loop = search in
     loop .inv .2 .words
     ∙ ap (λ (xs : List Assignment). placed (assignmentWords xs) (start .args .out .now))
     (all-reached (loop .inv .1) (omega (arith, start .pre .1 .0, c .loop-test .left)))

@@ -1,4 +1,5 @@
--- `entries::list_row` meets its contract: the words of the entries among the pairs passed stand in front (`Words`), and there is
+-- `entries::list_row` meets its contract: the words of the entries among the pairs passed stand in front (`Words`), and
+-- there is
 -- room for the next, since there is room for all. Assumes nothing.
 use Prim.Native.Nat.{ℕ, _+_, _-_, _*_, _^_, _≤_, _<_}
 use mathlib.Core.Path.{_≡_, refl, sym, _∙_}
@@ -9,7 +10,7 @@ use native.Mathlib.Omega.{arith}
 use lib.Arith.{digits-div, digits-mod}
 use lib.ListN.{length, length-set}
 use Rattle.netlist.specs.Limits.{maxInputs}
-use Rattle.cover_implicants.specs.Entries.{EntriesReached, Words}
+use Rattle.theory_cover.specs.Entries.{EntriesReached, Words}
 use Rattle.cover_implicants.proofs.Bounds.{two-fits, shifted}
 use Rattle.cover_implicants.proofs.Rows.{row-below, row-end}
 use Rattle.cover_implicants.proofs.Listing.{reached-skip, reached-add, one-more, words-skip, words-add}
@@ -19,20 +20,23 @@ use Rattle.cover_implicants.proofs.entries.list_row.Tie as tie
 
 abbrev Inv-loop : tie.InvT-loop
 Inv-loop marks weights n first before out₀ fixed end count₀ ones₀ out count ones =
-    (ones ≤ 2 ^ n) × (end ≡ 2 ^ n) × EntriesReached marks n (first .fixed * 2 ^ n + ones) count × (length out ≡ length out₀)
-    × ((front : List ℕ) → Words marks front out₀ n (first .fixed * 2 ^ n) → Words marks front out n (first .fixed * 2 ^ n + ones))
+    (ones ≤ 2 ^ n) × (end ≡ 2 ^ n) × EntriesReached marks n
+    (first .fixed * 2 ^ n + ones) count × (length out ≡ length out₀)
+    × ((front : List ℕ) → Words marks front out₀ n (first .fixed * 2 ^ n) → Words marks front out n
+    (first .fixed * 2 ^ n + ones))
 
 abbrev μ-loop : tie.MeasureT-loop
 μ-loop marks weights n first before out₀ fixed end count₀ ones₀ out count ones = 2 ^ n - ones
 
 -- at an entry there is room for its two words, and each fits one
 abbrev start : tie.Then1 Inv-loop μ-loop → tie.Start Inv-loop μ-loop
-start c = c .before .before .before .before .before .before .before
+start c = let head = c .before .before .before in let first = head .before .before in first .before .before
 
 below : (c : tie.Then1 Inv-loop μ-loop) → c .before .before .before .loop .ones < 2 ^ (start c .args .n)
 below c = omega (arith, c .before .before .before .loop .inv .1, c .before .before .loop-test .taken)
 
-room : (c : tie.Then1 Inv-loop μ-loop) → 2 * c .before .before .before .loop .count + 2 ≤ length (start c .args .out .now)
+room : (c : tie.Then1 Inv-loop μ-loop)
+    → 2 * c .before .before .before .loop .count + 2 ≤ length (start c .args .out .now)
 room c =
     let inv = c .before .before .before .loop .inv .2 in
     let p = row-below inv (start c .pre .0 .0 .legal) (below c) in
@@ -49,7 +53,7 @@ loop-holds c =
 
 is-left-requires : tie.Need-is-left-requires Inv-loop μ-loop
 is-left-requires c κs =
-    let start = c .before .before .before .before .before in
+    let start : tie.Start Inv-loop μ-loop = search in
     let l : c .before .loop .ones < 2 ^ (start .args .n) = omega (arith, c .before .loop .inv .1) in
     (start .pre .0 .0, l, row-below (c .before .loop .inv .2) (start .pre .0 .0 .legal) l)
 
@@ -85,7 +89,7 @@ add-count c = omega (arith, room c, start c .good)
 
 next-ones-requires : tie.Need-next-ones-requires Inv-loop μ-loop
 next-ones-requires c κs =
-    let start = c .before .before .before .before .before .before .before in
+    let start : tie.Start Inv-loop μ-loop = search in
     let loop = c .before .before .before .loop in
     let l : loop .ones < 2 ^ (start .args .n) = omega (arith, loop .inv .1) in
     let row = start .pre .0 .0 in
@@ -93,15 +97,18 @@ next-ones-requires c κs =
 
 loop-less : tie.Need-loop-less Inv-loop μ-loop
 loop-less c =
-    let loop = c .before .before .before .before .loop in
+    let head : tie.At-loop Inv-loop μ-loop = search in
+    let loop = head .loop in
     omega (arith, c .next-ones .ensures .1 .above, loop .inv .1, c .before .before .before .loop-test .taken)
 
 loop-again : tie.Need-loop-again Inv-loop μ-loop
 loop-again c =
-    let loop = c .before .before .before .before .loop in
-    let start = c .before .before .before .before .before .before .before .before in
+    let head : tie.At-loop Inv-loop μ-loop = search in
+    let loop = head .loop in
+    let start : tie.Start Inv-loop μ-loop = search in
     let entry = c .before .before .is-left .ensures in
-    let l : loop .ones < 2 ^ (start .args .n) = omega (arith, loop .inv .1, c .before .before .before .loop-test .taken) in
+    let l : loop .ones < 2 ^ (start .args .n) =
+    omega (arith, loop .inv .1, c .before .before .before .loop-test .taken) in
     let x = c .next-ones .ensures .1 in
     ⊎-elim
     (λ t.
@@ -112,7 +119,8 @@ loop-again c =
       reached-add (loop .inv .2) x e,
       simp length-set (loop .inv .3),
       λ first v.
-          words-add (loop .inv .2) x e (sym (digits-div (start .args .first .fixed) l)) (sym (digits-mod (start .args .first .fixed) l))
+          words-add (loop .inv .2) x e (sym (digits-div (start .args .first .fixed) l))
+          (sym (digits-mod (start .args .first .fixed) l))
           (omega (arith, loop .inv .3, start .pre .1)) (loop .inv .4 first v),
     ))
     (λ t.
@@ -131,10 +139,14 @@ same-length c = c .before .loop .inv .3
 
 returns : tie.Need-returns Inv-loop μ-loop
 returns c =
-    let args = c .before .before .before .before .before .args in
+    let entry : tie.Start Inv-loop μ-loop = search in
+    let args = entry .args in
     let e : c .before .loop .ones ≡ 2 ^ (args .n) = omega (arith, c .before .loop .inv .1) in
     let f = row-end (args .n) (args .first .fixed) in
-    record { reached = rw (e, f) at (c .before .loop .inv .2); row = λ first v. rw (e, f) at (c .before .loop .inv .4 first v) }
+    record {
+      reached = rw (e, f) at (c .before .loop .inv .2);
+      row = λ first v. rw (e, f) at (c .before .loop .inv .4 first v);
+    }
 
 pub list-row-spec : {M : Type 1} → statement M
 list-row-spec =

@@ -4,7 +4,7 @@ use mathlib.Core.Path.{_≡_}
 use native.Mathlib.Omega.{arith}
 use lib.ListN.{getD}
 use Rattle.netlist.specs.Limits.{maxInputs}
-use Rattle.cover_implicants.specs.Tables.{weightOf}
+use Rattle.theory_cover.specs.Tables.{weightOf}
 use Rattle.cover_implicants.proofs.Bounds.{three-fits}
 use Rattle.cover_implicants.proofs.Rows.{row-fits}
 use borrow.Author.Needs.{needs}

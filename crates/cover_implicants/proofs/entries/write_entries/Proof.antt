@@ -3,7 +3,7 @@ use Prim.Native.Nat.{_*_, _^_, _≤_}
 use native.Mathlib.Omega.{arith}
 use lib.ListN.{length}
 use Rattle.netlist.specs.Limits.{maxInputs}
-use Rattle.cover_implicants.specs.Entries.{entriesBy}
+use Rattle.theory_cover.specs.Entries.{entriesBy}
 use Rattle.cover_implicants.proofs.Bounds.{pairs-fit}
 use Rattle.cover_implicants.proofs.Listing.{entries-few, with-room, without-room}
 use borrow.Author.Needs.{needs}
@@ -14,17 +14,19 @@ mul-if1 : tie.Need-mul-if1
 mul-if1 c =
     let start = c .before .before .before in
     let args = start .args in
-    let f : length (entriesBy (args .marks .now) (args .n)) ≤ 2 ^ (args .n) * 2 ^ (args .n) = entries-few (args .marks .now) (args .n) in
+    let f : length (entriesBy (args .marks .now) (args .n)) ≤ 2 ^ (args .n) * 2 ^ (args .n) =
+    entries-few (args .marks .now) (args .n) in
     let g : 2 ^ (args .n) * 2 ^ (args .n) ≤ 2 ^ (2 * maxInputs) = pairs-fit (start .pre .0 .few) in
     omega (arith, start .pre .3)
 
 returns : tie.Need-returns
 returns c =
-    let tested = c .before .before .before .before in
-    with-room (tested .before .before .before .before .pre .3) (tested .if1 .taken) (c .before .before .list-entries .ensures)
+    let start : tie.Start = search in
+    let tested : tie.Then1 = search in
+    with-room (start .pre .3) (tested .if1 .taken) (c .before .before .list-entries .ensures)
 
 returns-2 : tie.Need-returns-2
-returns-2 c = without-room (c .before .before .before .before .pre .3) (c .if1 .left)
+returns-2 c = let start : tie.Start = search in without-room (start .pre .3) (c .if1 .left)
 
 pub write-entries-spec : {M : Type 1} → statement M
 write-entries-spec =

@@ -7,14 +7,15 @@ use lib.ListN.{getD}
 use borrow.Author.Tests.{eq-eqb, ne-eqb}
 use Rattle.prelude.specs.Lists.{all, upTo}
 use Rattle.prelude.proofs.Quantifiers.{all-next, all-not}
-use Rattle.cover_implicants.specs.Tables.{settledBy}
+use Rattle.theory_cover.specs.Tables.{settledBy}
 use Rattle.cover_implicants.proofs.Bounds.{shifted}
 use borrow.Author.Needs.{needs}
 use Rattle.cover_implicants.proofs.everywhere.are_all_settled.Statement.{statement}
 use Rattle.cover_implicants.proofs.everywhere.are_all_settled.Tie as tie
 
 abbrev Inv-loop : tie.InvT-loop
-Inv-loop settled n count setting₀ setting = (setting ≤ 2 ^ n) × (count ≡ 2 ^ n) × (all (settledBy settled) (upTo setting) ≡ true)
+Inv-loop settled n count setting₀ setting =
+    (setting ≤ 2 ^ n) × (count ≡ 2 ^ n) × (all (settledBy settled) (upTo setting) ≡ true)
 
 abbrev μ-loop : tie.MeasureT-loop
 μ-loop settled n count setting₀ setting = 2 ^ n - setting
@@ -25,20 +26,24 @@ loop-holds c = (omega arith, shifted (c .pre .0), refl)
 returns : tie.Need-returns Inv-loop μ-loop
 unfolding settledBy
 returns c =
+    let entry : tie.Start Inv-loop μ-loop = search in
     let loop = c .before .before .before .loop in
-    let args = c .before .before .before .before .args in
+    let args = entry .args in
     let settled = args .settled .now in
     let e = ne-eqb (getD settled (loop .setting) 0) 1 (c .if1 .taken) in
-    sym (all-not (settledBy settled) (2 ^ (args .n)) (loop .setting) (omega (arith, loop .inv .1, c .before .before .loop-test .taken)) e)
+    sym (all-not (settledBy settled) (2 ^ (args .n)) (loop .setting)
+    (omega (arith, loop .inv .1, c .before .before .loop-test .taken)) e)
 
 loop-again : tie.Need-loop-again Inv-loop μ-loop
 unfolding settledBy
 loop-again c =
+    let entry : tie.Start Inv-loop μ-loop = search in
     let loop = c .before .before .before .loop in
-    let settled = c .before .before .before .before .args .settled .now in (
+    let settled = entry .args .settled .now in (
       omega (arith, loop .inv .1, c .before .before .loop-test .taken),
       loop .inv .1,
-      all-next (settledBy settled) (loop .setting) (loop .inv .2) (eq-eqb (getD settled (loop .setting) 0) 1 (c .if1 .left)),
+      all-next (settledBy settled) (loop .setting) (loop .inv .2)
+          (eq-eqb (getD settled (loop .setting) 0) 1 (c .if1 .left)),
     )
 
 returns-2 : tie.Need-returns-2 Inv-loop μ-loop

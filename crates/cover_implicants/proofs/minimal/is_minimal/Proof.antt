@@ -1,4 +1,5 @@
--- `minimal::is_minimal` meets its contract: each input passed is free or needed (`Scanned`); one that can be dropped decides at once. Assumes nothing.
+-- `minimal::is_minimal` meets its contract: each input passed is free or needed (`Scanned`); one that can be dropped
+-- decides at once. Assumes nothing.
 use Prim.Native.Nat.{_+_, _-_, _*_, _%_, _^_, _≤_, _<_}
 use mathlib.Core.Logic.{⊎-elim}
 use native.Mathlib.Omega.{arith}
@@ -6,7 +7,8 @@ use lib.ListN.{length}
 use borrow.Author.Needs.{needs}
 use Rattle.netlist.specs.Limits.{maxInputs}
 use Rattle.cover_implicants.proofs.Bounds.{three-fits}
-use Rattle.cover_implicants.proofs.Dropping.{Scanned, scan-start, freed-lt, scan-next, needed-free, needed-fixed, not-minimal, scan-all}
+use Rattle.cover_implicants.proofs.Dropping.{Scanned, scan-start, freed-lt, scan-next, needed-free, needed-fixed}
+use Rattle.cover_implicants.proofs.Dropping.{not-minimal, scan-all}
 use Rattle.cover_implicants.proofs.minimal.is_minimal.Statement.{statement}
 use Rattle.cover_implicants.proofs.minimal.is_minimal.Tie as tie
 
@@ -18,7 +20,8 @@ abbrev μ-loop : tie.MeasureT-loop
 
 -- with the input of this turn free, the number is one of the table
 in-table : (c : tie.Then1 Inv-loop μ-loop)
-    → (c .before .before .before .args .k + (2 - c .before .before .loop .rest % 3) * c .before .before .loop .power < 3 ^ (c .before .before .before .args .n))
+    → (c .before .before .before .args .k + (2 - c .before .before .loop .rest % 3) * c .before .before .loop .power
+    < 3 ^ (c .before .before .before .args .n))
     × (3 ^ (c .before .before .before .args .n) ≤ 3 ^ maxInputs)
     × (3 ^ (c .before .before .before .args .n) ≤ length (c .before .before .before .args .sound .now))
 in-table c =
@@ -48,14 +51,16 @@ returns c =
 mul-power : tie.Need-mul-power Inv-loop μ-loop
 mul-power c =
     let start = c .before .before .before in
-    let f : 3 ^ (c .before .before .loop .i) ≤ 3 ^ maxInputs = three-fits (c .before .before .loop .inv .within) (start .pre .0) in
+    let f : 3 ^ (c .before .before .loop .i) ≤ 3 ^ maxInputs =
+    three-fits (c .before .before .loop .inv .within) (start .pre .0) in
     omega arith
 
 loop-again : tie.Need-loop-again Inv-loop μ-loop
 loop-again c =
     let s = c .before .before .loop .inv in
     let l = c .before .loop-test .taken in
-    scan-next s l (⊎-elim (λ w. needed-fixed s l (w .0 .taken) (w .2 .left)) (λ w. needed-free s l (w .left)) (c .if1 .came))
+    scan-next s l (⊎-elim (λ w. needed-fixed s l (w .0 .taken) (w .2 .left)) (λ w. needed-free s l (w .left))
+    (c .if1 .came))
 
 returns-2 : tie.Need-returns-2 Inv-loop μ-loop
 returns-2 c = scan-all (c .before .loop .inv) (c .loop-test .left)

@@ -4,7 +4,7 @@ use mathlib.Core.Path.{_≡_, refl}
 use lib.ListN.{length}
 use native.Mathlib.Omega.{arith}
 use borrow.Author.Needs.{needs}
-use Rattle.cover_implicants.specs.Tables.{Filled}
+use Rattle.theory_cover.specs.Tables.{Filled}
 use Rattle.cover_implicants.proofs.Bounds.{shifted}
 use Rattle.cover_implicants.proofs.Joining.{filled-none}
 use Rattle.cover_implicants.proofs.tables.fill_sound.Statement.{statement}
@@ -20,18 +20,25 @@ abbrev μ-loop : tie.MeasureT-loop
 loop-holds : tie.Need-loop-holds Inv-loop μ-loop
 loop-holds c =
     let start = c .before .before in
-    let args = start .args in
-    (omega arith, shifted (start .pre .0), refl, filled-none (args .settled .now) (args .sound .now) (args .n) (start .pre .0) (start .pre .1) (start .pre .2))
+    let args = start .args in (
+      omega arith,
+      shifted (start .pre .0),
+      refl,
+      filled-none (args .settled .now) (args .sound .now) (args .n)
+          (start .pre .0) (start .pre .1) (start .pre .2),
+    )
 
 loop-again : tie.Need-loop-again Inv-loop μ-loop
 loop-again c =
-    let loop = c .before .before .before .before .before .loop in
+    let head : tie.At-loop Inv-loop μ-loop = search in
+    let loop = head .loop in
     let added = c .before .before .add-setting in
     (omega arith, loop .inv .1, omega (arith, loop .inv .2, added .kept .1 .1 .1 .1 .0), added .ensures)
 
 returns : tie.Need-returns Inv-loop μ-loop
 returns c =
-    let e : c .before .loop .setting ≡ 2 ^ (c .before .before .before .before .args .n) = omega arith in
+    let entry : tie.Start Inv-loop μ-loop = search in
+    let e : c .before .loop .setting ≡ 2 ^ (entry .args .n) = omega arith in
     rw e at (c .before .loop .inv .3)
 
 pub fill-sound-spec : {M : Type 1} → statement M

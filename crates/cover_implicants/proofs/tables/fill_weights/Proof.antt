@@ -1,13 +1,14 @@
--- `tables::fill_weights` meets its contract: the weights of the masks passed are right, and a mask's half is one of them. Assumes nothing.
+-- `tables::fill_weights` meets its contract: the weights of the masks passed are right, and a mask's half is one of
+-- them. Assumes nothing.
 use Prim.Native.Nat.{ℕ, _+_, _-_, _*_, _/_, _%_, _^_, _≤_, _<_}
 use mathlib.Core.Path.{_≡_, refl, _∙_}
 use native.Mathlib.Omega.{arith}
 use lib.ListN.{length, getD, length-set}
 use lib.Pow.{pow-pos}
 use Rattle.netlist.specs.Limits.{maxInputs}
-use Rattle.cover_implicants.specs.Tables.{weightOf}
+use Rattle.theory_cover.specs.Tables.{weightOf}
 use Rattle.cover_implicants.proofs.Bounds.{two-fits, three-fits, shifted}
-use Rattle.cover_implicants.proofs.Numbers.{weight-lt}
+use Rattle.theory_cover.proofs.Numbers.{weight-lt}
 use Rattle.cover_implicants.proofs.Weights.{weight-from-half, weights-first, weights-next}
 use borrow.Author.Needs.{needs}
 use Rattle.cover_implicants.proofs.tables.fill_weights.Statement.{statement}
@@ -15,7 +16,8 @@ use Rattle.cover_implicants.proofs.tables.fill_weights.Tie as tie
 
 abbrev Inv-loop : tie.InvT-loop
 Inv-loop n weights₀ count mask₀ weights mask =
-    (1 ≤ mask) × (mask ≤ 2 ^ n) × (count ≡ 2 ^ n) × (length weights ≡ length weights₀) × ((m : ℕ) → m < mask → getD weights m 0 ≡ weightOf n m)
+    (1 ≤ mask) × (mask ≤ 2 ^ n) × (count ≡ 2 ^ n) × (length weights ≡ length weights₀) × ((m : ℕ) → m
+    < mask → getD weights m 0 ≡ weightOf n m)
 
 abbrev μ-loop : tie.MeasureT-loop
 μ-loop n weights₀ count mask₀ weights mask = 2 ^ n - mask
@@ -79,7 +81,8 @@ loop-again c =
       omega (arith, l, loop .inv .2),
       loop .inv .2,
       simp length-set (simp length-set at (loop .inv .3)),
-      weights-next (loop .weights) (c .before .before .before .args .n) (loop .mask) (loop .inv .4) (omega (arith, loop .inv .0))
+      weights-next (loop .weights) (c .before .before .before .args .n) (loop .mask) (loop .inv .4)
+          (omega (arith, loop .inv .0))
           (omega (arith, l, loop .inv .2)) (facts (c .before) .0),
     )
 

@@ -3,7 +3,7 @@ use Prim.Native.Nat.{_-_, _≤_}
 use mathlib.Core.Path.{_≡_}
 use native.Mathlib.Omega.{arith}
 use borrow.Author.Needs.{needs}
-use Rattle.cover_implicants.specs.Tables.{HalvesJoined}
+use Rattle.theory_cover.specs.Tables.{HalvesJoined}
 use Rattle.cover_implicants.proofs.Joining.{joined-none, joined-next}
 use Rattle.cover_implicants.proofs.tables.join_halves.Statement.{statement}
 use Rattle.cover_implicants.proofs.tables.join_halves.Tie as tie
@@ -19,8 +19,9 @@ loop-holds c = (omega arith, joined-none (c .args .sound .now) (c .args .k) (c .
 
 loop-again : tie.Need-loop-again Inv-loop μ-loop
 loop-again c =
+    let entry : tie.Start Inv-loop μ-loop = search in
     let loop = c .before .before .before .loop in
-    let pre = c .before .before .before .before .pre in
+    let pre = entry .pre in
     (omega arith, joined-next (loop .inv .1) (pre .0) (omega (arith, loop .inv .1 .same-length, pre .1)) (omega arith))
 
 returns : tie.Need-returns Inv-loop μ-loop

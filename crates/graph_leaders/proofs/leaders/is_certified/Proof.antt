@@ -8,8 +8,8 @@ use Rattle.graph_leaders.proofs.leaders.is_certified.Tie as tie
 returns : tie.Need-returns
 returns c = λ e. absurd (false≢true e)
 
-are-tied-requires : tie.Need-are-tied-requires
-are-tied-requires c κs = c .before .are-layers .ensures (not-false (c .before .are-layers .result) (c .if1 .left))
+are-certified-requires : tie.Need-are-certified-requires
+are-certified-requires c κs = c .before .are-layers .ensures (not-false (c .before .are-layers .result) (c .if1 .left))
 
 pub is-certified-spec : {M : Type 1} → statement M
-is-certified-spec = tie.close (tie.spec (λ c κs. search needs) returns are-tied-requires (λ c. search needs))
+is-certified-spec = tie.close (tie.spec (λ c κs. search needs) returns are-certified-requires (λ c. search needs))

@@ -1,6 +1,6 @@
 -- `graph_simulation::changes::next_round` meets its contract: `values` gets what was found, and then the readers of
 -- what changed are evaluated. Assumes nothing.
-use Rattle.graph_simulation.proofs.Updates.{copy-ready, copied-ready, next-ready, next-awake, round-next}
+use Rattle.graph_simulation.proofs.Updates.{copy-ready, copied-ready, next-ready, next-pending, round-next}
 use Rattle.graph_simulation.proofs.changes.next_round.Statement.{statement}
 use Rattle.graph_simulation.proofs.changes.next_round.Tie as tie
 
@@ -16,7 +16,7 @@ update-changed-requires c κs =
     let r = s .pre .1 in
     let k = f .copy-changed .ensures in (
       s .pre .0,
-      ((next-ready g r k, r .ordered), (copied-ready g r k, next-awake g r k)),
+      ((next-ready g r k, r .ordered), (copied-ready g r k, next-pending g r k)),
     )
 
 returns : tie.Need-returns

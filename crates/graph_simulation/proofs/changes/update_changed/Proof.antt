@@ -7,15 +7,15 @@ use denote.Ref.{now}
 use lib.ListN.{getD}
 use Rattle.netlist.specs.Limits.{maxGates}
 use Rattle.graph_gates.specs.Graph.{slots}
-use Rattle.graph_simulation.specs.Changes.{Updated, Awake}
-use Rattle.graph_simulation.proofs.Updates.{updated-none, updated-then, updated-ready, awake-next, awake-end}
+use Rattle.graph_simulation.specs.Changes.{Updated, Pending}
+use Rattle.graph_simulation.proofs.Updates.{updated-none, updated-then, updated-ready, pending-next, pending-end}
 use Rattle.graph_simulation.proofs.changes.update_changed.Statement.{statement}
 use Rattle.graph_simulation.proofs.changes.update_changed.Tie as tie
 
 abbrev Inv-loop : tie.InvT-loop
 Inv-loop table graph fanout m values found₀ queue₀ changed end₀ q₀ found queue end q =
     (q ≤ changed .tail) × Updated m graph values found₀ queue₀ (changed .tail) found queue end
-    × Awake m graph values found queue₀ q (changed .tail)
+    × Pending m graph values found queue₀ q (changed .tail)
 
 abbrev μ-loop : tie.MeasureT-loop
 μ-loop table graph fanout m values found₀ queue₀ changed end₀ q₀ found queue end q = changed .tail - q
@@ -32,7 +32,7 @@ inside : (l : tie.At-loop Inv-loop μ-loop) → l .loop .q < l .before .args .ch
     → getD (l .loop .queue) (l .loop .q) 0 < maxGates
 inside l below = rw (queued l below) (l .before .pre .1 .1 .0 .inside (l .loop .q) below)
 
--- where the list of its readers starts
+-- where the list of its fan-out starts
 starts : (l : tie.At-loop Inv-loop μ-loop) → l .loop .q < l .before .args .changed .tail
     → getD (now (l .before .args .fanout)) (getD (l .loop .queue) (l .loop .q) 0) 0 ≤ slots * l .before .args .m
 starts l below = l .before .pre .0 .linked .starts _ (inside l below)
@@ -63,8 +63,8 @@ cast-t20 c =
     let l : tie.At-loop Inv-loop μ-loop = search in
     omega (arith, starts l (c .before .before .if1 .taken), l .before .pre .0 .legal .few)
 
-update-readers-requires : tie.Need-update-readers-requires Inv-loop μ-loop
-update-readers-requires c κs =
+update-fanout-requires : tie.Need-update-fanout-requires Inv-loop μ-loop
+update-fanout-requires c κs =
     let t : tie.Then1 Inv-loop μ-loop = search in
     let l = t .before .before in
     let p = l .before .pre in
@@ -78,10 +78,10 @@ loop-again c =
     let t : tie.Then1 Inv-loop μ-loop = search in
     let l = t .before .before in
     let s = l .before in
-    let u = c .update-readers .ensures in (
+    let u = c .update-fanout .ensures in (
       omega arith,
       updated-then (l .loop .inv .1) (u .updated),
-      awake-next (now (s .args .queue)) (s .pre .0 .legal) (s .pre .0 .linked) (l .loop .inv .2)
+      pending-next (now (s .args .queue)) (s .pre .0 .legal) (s .pre .0 .linked) (l .loop .inv .2)
           (rw (queued l (t .if1 .taken)) at u),
     )
 
@@ -92,7 +92,7 @@ returns c =
     record {
       updated = l .loop .inv .1;
       done =
-          awake-end _ _ _ (l .loop .found) (now (s .args .queue)) (l .loop .q) (s .args .changed .tail)
+          pending-end _ _ _ (l .loop .found) (now (s .args .queue)) (l .loop .q) (s .args .changed .tail)
           (l .loop .inv .2) (c .if1 .left);
     }
 
@@ -101,4 +101,4 @@ update-changed-spec =
     tie.close
     (tie.spec
     Inv-loop μ-loop loop-holds mul-k element-copy-out-k cast-k mul-t14 element-copy-out-t17 cast-t20
-    update-readers-requires (λ c. omega arith) (λ c. omega arith) loop-again returns)
+    update-fanout-requires (λ c. omega arith) (λ c. omega arith) loop-again returns)

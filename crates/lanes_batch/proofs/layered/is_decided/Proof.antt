@@ -17,7 +17,8 @@ abbrev μ-loop : tie.MeasureT-loop
 μ-loop used order from end lanes i₀ i = end - i
 
 -- the gate at the position
-inside : (c : tie.In-loop Inv-loop μ-loop) → let a = c .before .before .args in getD (a .order .now) (c .before .loop .i) 0 < maxGates
+inside : (c : tie.In-loop Inv-loop μ-loop)
+    → let a = c .before .before .args in getD (a .order .now) (c .before .loop .i) 0 < maxGates
 inside c = let l = c .before in l .before .pre .inside (l .loop .i) (l .loop .inv .0) (c .loop-test .taken)
 
 loop-holds : tie.Need-loop-holds Inv-loop μ-loop

@@ -1,4 +1,5 @@
--- `lanes_batch::layered::put_inputs` meets its contract: after k turns the first k inputs' pairs stand there. Assumes nothing.
+-- `lanes_batch::layered::put_inputs` meets its contract: after k turns the first k inputs' pairs stand there. Assumes
+-- nothing.
 use mathlib.Core.Path.{_≡_}
 use Prim.Native.Nat.{_-_, _≤_}
 use native.Mathlib.Omega.{arith}
@@ -22,8 +23,11 @@ loop-again c =
     let p = c .before in
     let turn = p .before .before in
     let l = turn .before in
-    let s = l .before in
-    (omega arith, inputs-more (l .loop .inv .1) (s .pre .1) (omega (arith, turn .loop-test .taken, s .pre .0)) (p .input-pair .ensures) (c .put-pair .ensures))
+    let s = l .before in (
+      omega arith,
+      inputs-more (l .loop .inv .1) (s .pre .1) (omega (arith, turn .loop-test .taken, s .pre .0))
+          (p .input-pair .ensures) (c .put-pair .ensures),
+    )
 
 returns : tie.Need-returns Inv-loop μ-loop
 returns c =

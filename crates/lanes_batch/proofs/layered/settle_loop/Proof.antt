@@ -7,7 +7,8 @@ use Rattle.lanes_batch.proofs.layered.settle_loop.Statement.{statement}
 use Rattle.lanes_batch.proofs.layered.settle_loop.Tie as tie
 
 abbrev Inv-loop : tie.InvT-loop
-Inv-loop graph m n order from end lanes₀ back₀ first₀ lanes back first = PartAdvanced m n graph order from end lanes₀ lanes false
+Inv-loop graph m n order from end lanes₀ back₀ first₀ lanes back first =
+    PartAdvanced m n graph order from end lanes₀ lanes false
 
 abbrev μ-loop : tie.MeasureT-loop
 μ-loop graph m n order from end lanes₀ back₀ first₀ lanes back first = roomIn m n lanes
@@ -29,7 +30,8 @@ loop-again c =
 returns : tie.Need-returns Inv-loop μ-loop
 returns c =
     let d = c .before in
-    advanced-then (d .before .before .loop .inv) (advanced-told (d .sweep-decides .ensures .0) (not-false (d .sweep-decides .result) (c .if1 .left)))
+    advanced-then (d .before .before .loop .inv)
+    (advanced-told (d .sweep-decides .ensures .0) (not-false (d .sweep-decides .result) (c .if1 .left)))
 
 pub settle-loop-spec : {M : Type 1} → statement M
 settle-loop-spec =

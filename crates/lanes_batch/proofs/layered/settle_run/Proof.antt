@@ -1,4 +1,5 @@
--- `lanes_batch::layered::settle_run` meets its contract: a loop reads nothing behind it, and a gate on no loop reads only gates before it, so each turn
+-- `lanes_batch::layered::settle_run` meets its contract: a loop reads nothing behind it, and a gate on no loop reads
+-- only gates before it, so each turn
 -- settles one layer more. Assumes nothing.
 use mathlib.Core.Path.{_≡_, refl, _∙_}
 use Prim.Native.Nat.{_+_, _-_, _≤_, _<_}
@@ -6,7 +7,8 @@ use native.Mathlib.Omega.{arith}
 use borrow.Author.Tests.{eqb-true, eqb-false}
 use Rattle.lanes_dual_rail.specs.LaneWords.{inputsIn}
 use Rattle.lanes_batch.specs.Layered.{Reached, LayersSettled}
-use Rattle.lanes_batch.proofs.Layering.{node-wider, ends-within, loop-part, reached-one, reached-loop, lone-before}
+use Rattle.lanes_batch.proofs.Layering.{node-wider, ends-within, loop-part, reached-one, reached-loop}
+use Rattle.lanes_batch.proofs.Layering.{lone-before}
 use Rattle.lanes_batch.proofs.layered.settle_run.Statement.{statement}
 use Rattle.lanes_batch.proofs.layered.settle_run.Tie as tie
 
@@ -71,14 +73,16 @@ evaluate-requires c κs =
 -- one layer more
 more : (c : tie.After-evaluate Inv-loop μ-loop) → let l = turn (c .before .before) .before .before .before in
     LayersSettled
-    (start l .args .m) (start l .args .n) (start l .args .graph .now) (start l .args .order .now) (start l .args .ends .now)
+    (start l .args .m) (start l .args .n) (start l .args .graph .now) (start l .args .order .now)
+    (start l .args .ends .now)
     (l .loop .k) (l .loop .lanes) (c .evaluate .last .1 .1 .0) (l .loop .k + 1)
 more c =
     let u = turn (c .before .before) in
     let t = u .before .before in
     let l = t .before in
     let s = start l in
-    reached-one (s .pre .1) (l .loop .k) (s .pre .0) (t .loop-test .taken) (eqb-true _ _ (u .if2 .taken)) (l .loop .inv .2) (c .evaluate .ensures)
+    reached-one (s .pre .1) (l .loop .k) (s .pre .0) (t .loop-test .taken) (eqb-true _ _ (u .if2 .taken))
+    (l .loop .inv .2) (c .evaluate .ensures)
 
 add-k : tie.Need-add-k Inv-loop μ-loop
 add-k c = omega (arith, small (turn (c .before .before) .before .before))
@@ -101,14 +105,21 @@ returns-2 c =
     record {
       reached = i .2;
       inputsKept = i .3;
-      more = lone-before (s .args .ends .now) (s .args .i) (l .loop .k) (i .0) (l .before .if1 .left) (eqb-false _ _ (c .if2 .left));
+      more =
+          lone-before (s .args .ends .now) (s .args .i) (l .loop .k) (i .0) (l .before .if1 .left)
+          (eqb-false _ _ (c .if2 .left));
       within = i .1;
     }
 
 returns-3 : tie.Need-returns-3 Inv-loop μ-loop
 returns-3 c =
     let i = c .before .loop .inv in
-    record { reached = i .2; inputsKept = i .3; more = omega (arith, c .loop-test .left, start (c .before) .pre .2); within = i .1 }
+    record {
+      reached = i .2;
+      inputsKept = i .3;
+      more = omega (arith, c .loop-test .left, start (c .before) .pre .2);
+      within = i .1;
+    }
 
 pub settle-run-spec : {M : Type 1} → statement M
 settle-run-spec =

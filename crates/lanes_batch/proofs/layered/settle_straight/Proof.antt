@@ -27,8 +27,11 @@ loop-again : tie.Need-loop-again Inv-loop μ-loop
 loop-again c =
     let turn = c .before .before in
     let l = turn .before in
-    let s = l .before in
-    (omega arith, straight-more _ _ (s .pre .1) (s .pre .0) (turn .loop-test .taken) (l .loop .inv .1) (c .evaluate .ensures))
+    let s = l .before in (
+      omega arith,
+      straight-more _ _ (s .pre .1) (s .pre .0) (turn .loop-test .taken) (l .loop .inv .1)
+          (c .evaluate .ensures),
+    )
 
 returns : tie.Need-returns Inv-loop μ-loop
 returns c =

@@ -11,7 +11,8 @@ returns c =
     let used = zero .before .before in
     let clear = used .before in
     let s = clear .before .before in
-    constants-started _ (s .pre .0) (s .pre .1) (used .used-lanes .ensures) (clear .clear-words .ensures) (zero .put-pair .ensures)
+    constants-started _ (s .pre .0) (s .pre .1) (used .used-lanes .ensures) (clear .clear-words .ensures)
+    (zero .put-pair .ensures)
     (c .put-pair2 .ensures)
 
 pub start-constants-spec : {M : Type 1} → statement M

@@ -1,4 +1,5 @@
--- `lanes_batch::layered::sweep_decides` meets its contract: a sweep that changes nothing, or that defines a lane more. Assumes nothing.
+-- `lanes_batch::layered::sweep_decides` meets its contract: a sweep that changes nothing, or that defines a lane more.
+-- Assumes nothing.
 use mathlib.Core.Bool.{false, true≢false}
 use native.Mathlib.Omega.{arith}
 use borrow.Author.Needs.{needs}
@@ -10,7 +11,8 @@ use Rattle.lanes_batch.proofs.layered.sweep_decides.Tie as tie
 
 -- the sweep
 made : (d : tie.After-sweep-part) → let a = d .before .before .args in
-    LanesSwept (a .m) (a .n) (a .graph .now) (part (a .back) (a .order .now) (a .from) (a .end)) (a .lanes .now) (d .sweep-part .last .1 .1 .1 .1 .1 .0)
+    LanesSwept (a .m) (a .n) (a .graph .now) (part (a .back) (a .order .now) (a .from) (a .end)) (a .lanes .now)
+    (d .sweep-part .last .1 .1 .1 .1 .1 .0)
     (d .sweep-part .result)
 made d =
     let s = d .before .before in
@@ -20,13 +22,14 @@ returns : tie.Need-returns
 returns c =
     let d = c .before in
     let s = d .before .before in (
-      advanced-still (s .args .back) (s .pre .1) (s .pre .2) (made d) (not-true (d .sweep-part .result) (c .if1 .taken)),
+      advanced-still (s .args .back) (s .pre .1) (s .pre .2) (made d)
+          (not-true (d .sweep-part .result) (c .if1 .taken)),
       λ e. absurd (true≢false e),
     )
 
 is-decided-requires : tie.Need-is-decided-requires
 is-decided-requires c κs =
-    let s = c .before .before .before .before .before in
+    let s : tie.Start = search in
     let p = s .pre .1 in
     record {
       ordered = p .ordered;
@@ -41,7 +44,8 @@ returns-2 c =
     let e = u .before in
     let d = e .before in
     let s = d .before .before in (
-      advanced-decided (c .is-decided .result) (s .pre .1) (advanced-swept (s .args .back) (s .pre .2) (made d)) (u .used-lanes .ensures)
+      advanced-decided (c .is-decided .result) (s .pre .1) (advanced-swept (s .args .back) (s .pre .2) (made d))
+          (u .used-lanes .ensures)
           (c .is-decided .ensures),
       λ f. made d .swept .less (not-false (d .sweep-part .result) (e .if1 .left)),
     )

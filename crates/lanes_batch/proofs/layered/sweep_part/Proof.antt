@@ -1,4 +1,5 @@
--- `lanes_batch::layered::sweep_part` meets its contract: after i turns the first i gates of the part, there or back, have been evaluated. Assumes nothing.
+-- `lanes_batch::layered::sweep_part` meets its contract: after i turns the first i gates of the part, there or back,
+-- have been evaluated. Assumes nothing.
 use mathlib.Core.Path.{_≡_}
 use Prim.Native.Nat.{_+_, _-_, _≤_, _<_}
 use native.Mathlib.Omega.{arith}
@@ -13,7 +14,8 @@ use Rattle.lanes_batch.proofs.layered.sweep_part.Tie as tie
 
 abbrev Inv-loop : tie.InvT-loop
 Inv-loop graph order from end back lanes₀ count changed₀ i₀ lanes changed i =
-    (i ≤ end - from) × GatesEvaluated graph lanes₀ (tab (λ k. getD order (from + placeOf back (end - from) k) 0) i) lanes changed
+    (i ≤ end - from) × GatesEvaluated graph lanes₀
+    (tab (λ k. getD order (from + placeOf back (end - from) k) 0) i) lanes changed
 
 abbrev μ-loop : tie.MeasureT-loop
 μ-loop graph order from end back lanes₀ count changed₀ i₀ lanes changed i = end - from - i

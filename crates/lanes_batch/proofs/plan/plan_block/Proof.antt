@@ -15,7 +15,11 @@ returns c =
     let m = c .before .before .before in
     let d = m .before .before in
     let s = d .before .before .before in
-    record { whole = s .pre .0; decoded = d .decode-gates .ensures; layers = rw (m .gates-of .ensures) at (c .layer-gates .ensures) }
+    record {
+      whole = s .pre .0;
+      decoded = d .decode-gates .ensures;
+      layers = rw (m .gates-of .ensures) at (c .layer-gates .ensures);
+    }
 
 decode-gates-requires : tie.Need-decode-gates-requires
 decode-gates-requires c κs = let s = c .before .before in (s .pre .0, s .pre .1 .graphRoom)

@@ -7,7 +7,9 @@ use Rattle.lanes_cells.proofs.choice.choose_of_four.Tie as tie
 
 returns : tie.Need-returns
 unfolding fourWord
-returns c = let high = c .before in rw (c .choose .ensures, high .choose-of-two2 .ensures, high .before .choose-of-two .ensures) refl
+returns c =
+    let high = c .before in
+    rw (c .choose .ensures, high .choose-of-two2 .ensures, high .before .choose-of-two .ensures) refl
 
 pub choose-of-four-spec : {M : Type 1} → statement M
 choose-of-four-spec =

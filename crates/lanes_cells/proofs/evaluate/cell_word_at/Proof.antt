@@ -1,4 +1,5 @@
--- `lanes_cells::evaluate::cell_word_at` meets its contract: the words at the cell's four places, and its truth word. Assumes nothing.
+-- `lanes_cells::evaluate::cell_word_at` meets its contract: the words at the cell's four places, and its truth word.
+-- Assumes nothing.
 use mathlib.Core.Path.{_≡_, refl, _∙_}
 use Prim.Native.Nat.{_<_}
 use native.Mathlib.Omega.{arith}

@@ -1,4 +1,5 @@
--- `lanes_cells::evaluate::evaluate_cells` meets its contract: with the inputs' words in place, each cell reads only places that have theirs. Assumes nothing.
+-- `lanes_cells::evaluate::evaluate_cells` meets its contract: with the inputs' words in place, each cell reads only
+-- places that have theirs. Assumes nothing.
 use mathlib.Core.Path.{_≡_}
 use Prim.Native.Nat.{_-_, _≤_}
 use native.Mathlib.Omega.{arith}
@@ -30,8 +31,11 @@ cell-word-at-requires : tie.Need-cell-word-at-requires Inv-loop μ-loop
 cell-word-at-requires c κs =
     let turn = c .before .before in
     let s = entry turn in
-    let few = s .pre .0 .2 .few in
-    (omega arith, places-there (s .args .n) (s .args .base) (now (s .args .table)) (s .pre .0 .2) (turn .loop .j) (c .before .loop-test .taken))
+    let few = s .pre .0 .2 .few in (
+      omega arith,
+      places-there (s .args .n) (s .args .base) (now (s .args .table)) (s .pre .0 .2) (turn .loop .j)
+          (c .before .loop-test .taken),
+    )
 
 loop-again : tie.Need-loop-again Inv-loop μ-loop
 loop-again c =
@@ -40,7 +44,8 @@ loop-again c =
     let s = entry turn in
     let inputs = turn .before .before in (
       omega arith,
-      evaluated-more (s .args .n) (s .args .base) (now (s .args .table)) (s .pre .0 .2) (turn .loop .j) (test .loop-test .taken)
+      evaluated-more (s .args .n) (s .args .base) (now (s .args .table)) (s .pre .0 .2) (turn .loop .j)
+          (test .loop-test .taken)
           (turn .loop .inv .1) (inputs .before .before .used-lanes .ensures) (c .cell-word-at .ensures),
     )
 

@@ -45,7 +45,8 @@ returns c =
     let l = c .before in
     let cells = now (l .before .before .args .cells) in
     let all : l .loop .p ≡ length cells = omega arith in
-    tabled-count (legal l) (rw all at (l .loop .inv .1)) refl (λ i. omega (arith, l .before .shared-slice-known .given i))
+    tabled-count (legal l) (rw all at (l .loop .inv .1)) refl
+    (λ i. omega (arith, l .before .shared-slice-known .given i))
 
 pub decode-cells-spec : {M : Type 1} → statement M
 decode-cells-spec =

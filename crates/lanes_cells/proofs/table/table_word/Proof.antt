@@ -1,4 +1,5 @@
--- `lanes_cells::table::table_word` meets its contract: every fifth word is a truth word, and the place of an operand that is earlier fits a word.
+-- `lanes_cells::table::table_word` meets its contract: every fifth word is a truth word, and the place of an operand
+-- that is earlier fits a word.
 -- Assumes nothing.
 use mathlib.Core.Path.{_≡_, _∙_}
 use Prim.Native.Nat.{_<_}
@@ -19,7 +20,10 @@ unfolding tableWord
 truth c = rw (eq-eqb _ _ (c .if1 .taken))
 
 -- the operand's word is a word, and its place fits one
-small : (c : tie.Else1) → let s = c .before .before .before in placeOf (operandOf (s .args .n) (getD (now (s .args .cells)) (s .args .p) 0)) < 65536
+small : (c : tie.Else1)
+    → let s =
+    c .before .before .before in placeOf
+    (operandOf (s .args .n) (getD (now (s .args .cells)) (s .args .p) 0)) < 65536
 small c =
     let s = c .before .before .before in
     place-small (legal-parts (s .args .n) (now (s .args .cells)) (s .pre .0)) (s .args .p) (s .pre .1) (c .if1 .left)
@@ -32,8 +36,10 @@ cast-place-of c =
 place-of-requires : tie.Need-place-of-requires
 place-of-requires c κs =
     let known = c .before in
-    let s = known .before .before in
-    (legal-parts (s .args .n) (now (s .args .cells)) (s .pre .0) .fewInputs, omega (arith, known .shared-slice-known2 .given (s .args .p)))
+    let s = known .before .before in (
+      legal-parts (s .args .n) (now (s .args .cells)) (s .pre .0) .fewInputs,
+      omega (arith, known .shared-slice-known2 .given (s .args .p)),
+    )
 
 cast-result : tie.Need-cast-result
 cast-result c = omega (arith, c .place-of .ensures, small (c .before))

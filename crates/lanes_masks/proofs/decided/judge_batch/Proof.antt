@@ -25,7 +25,8 @@ returns c =
     let p = s .pre .0 in
     record {
       whole = p .whole;
-      settled = settled-decoded (p .decoded) (rw (m .gates-of .ensures, n .inputs-of .ensures) at (c .decide-batch .ensures));
+      settled =
+          settled-decoded (p .decoded) (rw (m .gates-of .ensures, n .inputs-of .ensures) at (c .decide-batch .ensures));
       inputs = refl;
       fewInputs = whole-parts (s .args .words .now) (p .whole) .fewInputs;
       aligned = s .pre .1;

@@ -13,7 +13,10 @@ decide-straight-requires c κs =
     let s = m .before .before in
     let p = s .pre .0 in
     let few = whole-parts (s .args .words .now) (p .whole) .fewInputs in (
-      (rw (m .gates-of .ensures) (p .decoded .legal), rw (m .gates-of .ensures) (straight-decoded (p .decoded) (p .straight))),
+      (
+        rw (m .gates-of .ensures) (p .decoded .legal),
+        rw (m .gates-of .ensures) (straight-decoded (p .decoded) (p .straight)),
+      ),
       (rw (n .inputs-of .ensures) few, s .pre .1, s .pre .2),
     )
 
@@ -25,11 +28,14 @@ returns c =
     let p = s .pre .0 in
     record {
       whole = p .whole;
-      settled = settled-decoded (p .decoded) (rw (m .gates-of .ensures, n .inputs-of .ensures) at (c .decide-straight .ensures));
+      settled =
+          settled-decoded (p .decoded)
+          (rw (m .gates-of .ensures, n .inputs-of .ensures) at (c .decide-straight .ensures));
       inputs = refl;
       fewInputs = whole-parts (s .args .words .now) (p .whole) .fewInputs;
       aligned = s .pre .1;
     }
 
 pub judge-straight-spec : {M : Type 1} → statement M
-judge-straight-spec = tie.close (tie.spec (λ c κs. search needs) (λ c κs. search needs) decide-straight-requires returns)
+judge-straight-spec =
+    tie.close (tie.spec (λ c κs. search needs) (λ c κs. search needs) decide-straight-requires returns)

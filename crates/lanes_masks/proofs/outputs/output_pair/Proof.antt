@@ -15,7 +15,8 @@ place-of-requires c κs =
     (s .pre .fewInputs, omega (arith, c .word-at .ensures, fits))
 
 pair-at-requires : tie.Need-pair-at-requires
-pair-at-requires c κs = let d = c .before in rw (c .place-of .ensures, d .word-at .ensures) (d .before .before .pre .inside)
+pair-at-requires c κs =
+    let d = c .before in rw (c .place-of .ensures, d .word-at .ensures) (d .before .before .pre .inside)
 
 returns : tie.Need-returns
 unfolding outputPair

@@ -1,4 +1,5 @@
--- `lanes_masks::outputs::unsettled_lanes` meets its contract: after o turns it is the word of the first o outputs. Assumes nothing.
+-- `lanes_masks::outputs::unsettled_lanes` meets its contract: after o turns it is the word of the first o outputs.
+-- Assumes nothing.
 use mathlib.Core.Path.{_≡_, refl}
 use Prim.Native.Nat.{_-_, _≤_}
 use native.Mathlib.Numerals.{add-one}

@@ -6,7 +6,8 @@ use Rattle.lanes_masks.proofs.settled.counted_lanes.Tie as tie
 
 returns : tie.Need-returns
 returns c =
-    rw (c .used-lanes .ensures) (counted-tells _ (c .before .coming-lanes .ensures) (c .before .before .undecided-lanes .ensures))
+    rw (c .used-lanes .ensures)
+    (counted-tells _ (c .before .coming-lanes .ensures) (c .before .before .undecided-lanes .ensures))
 
 pub counted-lanes-spec : {M : Type 1} → statement M
 counted-lanes-spec =

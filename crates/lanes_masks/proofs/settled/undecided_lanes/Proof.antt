@@ -15,7 +15,9 @@ returns : tie.Need-returns
 returns c =
     let k = c .before in
     let a = k .before in
-    rw (c .unsettled-lanes .ensures, k .outputs-of .ensures) (unsettled-tells (a .before .before .pre) (a .outputs-at .ensures))
+    rw (c .unsettled-lanes .ensures, k .outputs-of .ensures)
+    (unsettled-tells (a .before .before .pre) (a .outputs-at .ensures))
 
 pub undecided-lanes-spec : {M : Type 1} → statement M
-undecided-lanes-spec = tie.close (tie.spec (λ c κs. search needs) (λ c κs. search needs) unsettled-lanes-requires returns)
+undecided-lanes-spec =
+    tie.close (tie.spec (λ c κs. search needs) (λ c κs. search needs) unsettled-lanes-requires returns)

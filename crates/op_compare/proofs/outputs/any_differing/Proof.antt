@@ -1,4 +1,5 @@
--- `op_compare::outputs::any_differing` meets its contract: the word so far has the lanes of the outputs passed. Assumes nothing.
+-- `op_compare::outputs::any_differing` meets its contract: the word so far has the lanes of the outputs passed.
+-- Assumes nothing.
 use mathlib.Core.Path.{_≡_, refl, ap, _∙_}
 use Prim.Native.Nat.{_-_, _≤_}
 use native.Mathlib.Numerals.{add-one}
@@ -10,7 +11,8 @@ use Rattle.op_compare.proofs.outputs.any_differing.Statement.{statement
 use Rattle.op_compare.proofs.outputs.any_differing.Tie as tie
 
 abbrev Inv-loop : tie.InvT-loop
-Inv-loop ours theirs n lanes others count word₀ o₀ word o = (o ≤ count) × (word ≡ differingWords ours theirs n lanes others o)
+Inv-loop ours theirs n lanes others count word₀ o₀ word o =
+    (o ≤ count) × (word ≡ differingWords ours theirs n lanes others o)
 
 abbrev μ-loop : tie.MeasureT-loop
 μ-loop ours theirs n lanes others count word₀ o₀ word o = count - o

@@ -1,4 +1,5 @@
--- `op_compare::outputs::lowest_differing` meets its contract: every output passed shows the same at the lane. Assumes nothing.
+-- `op_compare::outputs::lowest_differing` meets its contract: every output passed shows the same at the lane.
+-- Assumes nothing.
 use mathlib.Core.Path.{_≡_, sym}
 use mathlib.Core.Bool.{Bool, false}
 use Prim.Native.Nat.{ℕ, _-_, _≤_, _<_}
@@ -15,7 +16,8 @@ use Rattle.op_compare.proofs.outputs.lowest_differing.Statement.{statem
 use Rattle.op_compare.proofs.outputs.lowest_differing.Tie as tie
 
 abbrev Inv-loop : tie.InvT-loop
-Inv-loop ours theirs n lane lanes others count o₀ o = (o ≤ count) × ((i : ℕ) → i < o → differsAt ours theirs n lanes others lane i ≡ false)
+Inv-loop ours theirs n lane lanes others count o₀ o =
+    (o ≤ count) × ((i : ℕ) → i < o → differsAt ours theirs n lanes others lane i ≡ false)
 
 abbrev μ-loop : tie.MeasureT-loop
 μ-loop ours theirs n lane lanes others count o₀ o = count - o
@@ -25,7 +27,8 @@ abbrev start : tie.After-outputs-of Inv-loop μ-loop → tie.Start Inv-loop μ-l
 start c = c .before .before .before
 
 abbrev test : tie.After-outputs-of Inv-loop μ-loop → ℕ → Bool
-test c = let a = start c .args in differsAt (a .ours .now) (a .theirs .now) (a .n) (a .lanes .now) (a .others .now) (a .lane)
+test c =
+    let a = start c .args in differsAt (a .ours .now) (a .theirs .now) (a .n) (a .lanes .now) (a .others .now) (a .lane)
 
 differing-lanes-requires : tie.Need-differing-lanes-requires Inv-loop μ-loop
 differing-lanes-requires c κs =
@@ -46,7 +49,8 @@ unfolding differsAt hasLane bit
 loop-again c =
     let l = c .before .before .before in (
       omega arith,
-      below-more (λ i. test (l .before) i ≡ false) (l .loop .o) (l .loop .inv .1) (rw (← c .before .differing-lanes .ensures) (ne-eqb _ _ (c .if1 .left))),
+      below-more (λ i. test (l .before) i ≡ false) (l .loop .o) (l .loop .inv .1)
+          (rw (← c .before .differing-lanes .ensures) (ne-eqb _ _ (c .if1 .left))),
     )
 
 returns-2 : tie.Need-returns-2 Inv-loop μ-loop

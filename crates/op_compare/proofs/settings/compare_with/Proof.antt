@@ -13,7 +13,8 @@ abbrev decoded : tie.After-search-settings-arg6 → tie.After-decode-gates
 decoded c = let a = c .before .before .before in a .before .before .before
 
 plan-block-requires : tie.Need-plan-block-requires
-plan-block-requires c κs = let a = c .before .before .before in let s = a .before .before in (s .pre .0 .0 .our-whole, s .pre .0 .1)
+plan-block-requires c κs =
+    let a = c .before .before .before in let s = a .before .before in (s .pre .0 .0 .our-whole, s .pre .0 .1)
 
 decode-gates-requires : tie.Need-decode-gates-requires
 decode-gates-requires c κs = let s = start (c .before) in (s .pre .0 .0 .their-whole, s .pre .0 .2)

@@ -1,6 +1,7 @@
--- `op_compare::settings::disagreeing_lanes` meets its contract: outputs are compared where ours counts. Assumes nothing.
+-- `op_compare::settings::disagreeing_lanes` meets its contract: outputs are compared where ours counts. Assumes
+-- nothing.
 use borrow.Author.Needs.{needs}
-use Rattle.op_verdict.proofs.Batching.{tells-from}
+use Rattle.lanes_settings.proofs.Batching.{tells-from}
 use Rattle.op_compare.proofs.Differences.{marked-lanes}
 use Rattle.op_compare.proofs.settings.disagreeing_lanes.Statement.{statement}
 use Rattle.op_compare.proofs.settings.disagreeing_lanes.Tie as tie

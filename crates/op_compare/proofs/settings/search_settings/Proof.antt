@@ -1,6 +1,7 @@
 -- `op_compare::settings::search_settings` meets its contract: no setting of a batch passed disagrees. Assumes nothing.
 use mathlib.Core.Path.{_≡_, sym, _∙_}
 use mathlib.Core.Bool.{false}
+use mathlib.Core.List.{List}
 use Prim.Native.Nat.{ℕ, _-_, _+_, _≤_, _<_}
 use native.Mathlib.Omega.{arith}
 use denote.Ref.{now}
@@ -14,22 +15,31 @@ use Rattle.theory_encoding.proofs.Readers.{whole-parts}
 use Rattle.lanes_dual_rail.proofs.InputLaws.{lanesOf-most}
 use Rattle.lanes_dual_rail.specs.Words.{hasLane}
 use Rattle.lanes_dual_rail.specs.LaneWords.{laneSize}
-use Rattle.op_verdict.proofs.Counting.{few-settings}
-use Rattle.op_verdict.proofs.Batching.{Place, place-first, place-next, lanesOf-some}
+use Rattle.lanes_settings.proofs.Counting.{few-settings}
+use Rattle.lanes_settings.proofs.Batching.{Place, place-first, place-next, lanesOf-some}
 use Rattle.op_compare.specs.Ready.{BothJudged}
 use Rattle.op_compare.proofs.Differences.{marked-lowest, search-accepted, search-passed, search-marked}
 use Rattle.op_compare.proofs.Rooms.{lowest-few, setting-count}
 use Rattle.op_compare.proofs.settings.search_settings.Statement.{statement}
 use Rattle.op_compare.proofs.settings.search_settings.Tie as tie
 
+-- the blocks agree under the settings before `base`
+record Agreeing (ours theirs : List ℕ) (n base : ℕ) (lanes others : List ℕ) : Type 0 where
+  place : Place n base
+  none : (i : ℕ) → i < base → disagrees (decode ours) (decode theirs) i ≡ false
+  ourLong : length lanes ≡ laneSize
+  theirLong : length others ≡ laneSize
+
 abbrev Inv-loop : tie.InvT-loop
 Inv-loop ours theirs graph order ends their-graph lanes₀ others₀ n count batch base₀ lanes others base =
-    Place n base × ((i : ℕ) → i < base → disagrees (decode ours) (decode theirs) i ≡ false) × (length lanes ≡ laneSize) × (length others ≡ laneSize)
+    Agreeing ours theirs n base lanes others
 
 abbrev μ-loop : tie.MeasureT-loop
 μ-loop ours theirs graph order ends their-graph lanes₀ others₀ n count batch base₀ lanes others base = count - base
 
--- the number of inputs, from the loop's head, and the function's entry; the loop's head, from both blocks decided; these, from a batch looked at
+-- the number of inputs, from the loop's head, and the function's entry; the loop's head, from both blocks decided;
+-- these,
+-- from a batch looked at
 abbrev counts : tie.At-loop Inv-loop μ-loop → tie.After-inputs-of Inv-loop μ-loop
 counts l = l .before .before .before
 
@@ -54,14 +64,17 @@ few l =
     let s = entry l in
     omega (arith, counts l .inputs-of .ensures, whole-parts (s .args .ours .now) (s .pre .0 .plan .whole) .fewInputs)
 
-next : (d : tie.After-judge-batch Inv-loop μ-loop) → let l = head d in Place (counts l .inputs-of .result) (l .loop .base + l .before .lane-count .result)
+next : (d : tie.After-judge-batch Inv-loop μ-loop) → let l = head d in
+    Place (counts l .inputs-of .result) (l .loop .base + l .before .lane-count .result)
 next d =
     let l = head d in
-    place-next (l .before .lane-count .ensures) (l .before .before .setting-count .ensures) (l .loop .inv .0) (d .before .before .loop-test .taken)
+    place-next (l .before .lane-count .ensures) (l .before .before .setting-count .ensures) (l .loop .inv .place)
+    (d .before .before .loop-test .taken)
 
 -- both blocks are decided
 both : (d : tie.After-judge-straight Inv-loop μ-loop) → let l = head (ours-of d) in let a = entry l .args in
-    BothJudged (a .ours .now) (a .theirs .now) (l .loop .base) (ours-of d .judge-batch .last .1 .1 .1 .1 .1 .0) (d .judge-straight .last .1 .1 .1 .0)
+    BothJudged (a .ours .now) (a .theirs .now) (l .loop .base) (ours-of d .judge-batch .last .1 .1 .1 .1 .1 .0)
+    (d .judge-straight .last .1 .1 .1 .0)
 both d =
     let s = entry (head (ours-of d)) in
     record {
@@ -77,21 +90,29 @@ setting-count-requires c κs =
 
 loop-holds : tie.Need-loop-holds Inv-loop μ-loop
 loop-holds c =
-    let s = c .before .before .before .before .before in
-    (place-first _, λ i l. absurd (omega arith), s .pre .1 .0, s .pre .1 .1)
+    let s : tie.Start Inv-loop μ-loop = search in
+    record {
+      place = place-first _;
+      none = λ i l. absurd (omega arith);
+      ourLong = s .pre .1 .0;
+      theirLong = s .pre .1 .1;
+    }
 
 judge-batch-requires : tie.Need-judge-batch-requires Inv-loop μ-loop
 judge-batch-requires c κs =
     let t = c .before in
     let l = t .before in
-    let i = l .loop .inv in
-    (entry l .pre .0 .plan, i .0 .aligned (omega (arith, l .before .before .setting-count .ensures, t .loop-test .taken)), i .2)
+    let i = l .loop .inv in (
+      entry l .pre .0 .plan,
+      i .place .aligned (omega (arith, l .before .before .setting-count .ensures, t .loop-test .taken)),
+      i .ourLong,
+    )
 
 judge-straight-requires : tie.Need-judge-straight-requires Inv-loop μ-loop
 judge-straight-requires c κs =
     let d = c .before in
     let l = head d in
-    (entry l .pre .0 .theirPlan, d .judge-batch .ensures .aligned, l .loop .inv .3)
+    (entry l .pre .0 .theirPlan, d .judge-batch .ensures .aligned, l .loop .inv .theirLong)
 
 lowest-differing-requires : tie.Need-lowest-differing-requires Inv-loop μ-loop
 lowest-differing-requires c κs =
@@ -99,8 +120,11 @@ lowest-differing-requires c κs =
     let d = f .before .before in
     let l = head (ours-of (looked d)) in
     let n = getD (now (entry l .args .ours)) 0 0 in
-    let low = marked-lowest n (d .disagreeing-lanes .ensures) (f .before .if1 .taken) in
-    (entry l .pre .0 .pair, counts l .inputs-of .ensures, omega (arith, f .lowest-lane .ensures, low .0, lanesOf-most n))
+    let low = marked-lowest n (d .disagreeing-lanes .ensures) (f .before .if1 .taken) in (
+      entry l .pre .0 .pair,
+      counts l .inputs-of .ensures,
+      omega (arith, f .lowest-lane .ensures, low .0, lanesOf-most n),
+    )
 
 add-t24 : tie.Need-add-t24 Inv-loop μ-loop
 add-t24 c =
@@ -115,7 +139,7 @@ add-t25 c =
       arith,
       found c .lowest-lane .ensures,
       least-le (hasLane (d .disagreeing-lanes .result)) 64,
-      l .loop .inv .0 .within,
+      l .loop .inv .place .within,
       few-settings (counts l .inputs-of .result) (few l),
     )
 
@@ -126,9 +150,9 @@ returns c =
     let j = looked d in
     let o = ours-of j in
     let l = head o in
-    search-marked (both j) (d .disagreeing-lanes .ensures) (counts l .inputs-of .ensures) (l .loop .inv .1) (f .before .if1 .taken)
-    (l .before .before .setting-count .ensures) (l .loop .inv .0) (o .before .before .loop-test .taken) (f .lowest-lane .ensures)
-    (c .lowest-differing .ensures)
+    search-marked (both j) (d .disagreeing-lanes .ensures) (counts l .inputs-of .ensures) (l .loop .inv .none)
+    (f .before .if1 .taken) (l .before .before .setting-count .ensures) (l .loop .inv .place)
+    (o .before .before .loop-test .taken) (f .lowest-lane .ensures) (c .lowest-differing .ensures)
 
 add-base : tie.Need-add-base Inv-loop μ-loop
 add-base c =
@@ -138,27 +162,36 @@ add-base c =
 loop-less : tie.Need-loop-less Inv-loop μ-loop
 loop-less c =
     let d = ours-of (looked (c .before)) in
-    omega (arith, head d .before .lane-count .ensures, lanesOf-some (counts (head d) .inputs-of .result), d .before .before .loop-test .taken)
+    let l = head d in
+    omega (
+      arith,
+      l .before .lane-count .ensures,
+      lanesOf-some (counts l .inputs-of .result),
+      d .before .before .loop-test .taken,
+    )
 
 loop-again : tie.Need-loop-again Inv-loop μ-loop
 loop-again c =
     let d = c .before in
     let j = looked d in
     let l = head (ours-of j) in
-    let i = l .loop .inv in (
-      next (ours-of j),
-      search-passed (both j) (d .disagreeing-lanes .ensures) (counts l .inputs-of .ensures) (i .1) (l .before .lane-count .ensures) (c .if1 .left),
-      ours-of j .judge-batch .ensures .settled .filled .long,
-      j .judge-straight .ensures .settled .filled .long,
-    )
+    record {
+      place = next (ours-of j);
+      none =
+          search-passed (both j) (d .disagreeing-lanes .ensures) (counts l .inputs-of .ensures) (l .loop .inv .none)
+          (l .before .lane-count .ensures) (c .if1 .left);
+      ourLong = ours-of j .judge-batch .ensures .settled .filled .long;
+      theirLong = j .judge-straight .ensures .settled .filled .long;
+    }
 
 returns-2 : tie.Need-returns-2 Inv-loop μ-loop
 returns-2 c =
     let l = c .before in
     let a = entry l .args in
     let many = l .before .before .setting-count .ensures in
-    search-accepted (decode (now (a .ours))) (decode (now (a .theirs))) (l .loop .base) _ (setting-count (now (a .ours)) (counts l .inputs-of .ensures) many)
-    (l .loop .inv .1) (omega (arith, many, l .loop .inv .0 .within)) (c .loop-test .left)
+    search-accepted (decode (now (a .ours))) (decode (now (a .theirs))) (l .loop .base) _
+    (setting-count (now (a .ours)) (counts l .inputs-of .ensures) many) (l .loop .inv .none)
+    (omega (arith, many, l .loop .inv .place .within)) (c .loop-test .left)
 
 pub search-settings-spec : {M : Type 1} → statement M
 search-settings-spec =

@@ -18,14 +18,20 @@ start c = let known = c .before .before in known .before .before
 add-nodes : tie.Need-add-nodes
 add-nodes c =
     let s = start c in
-    omega (arith, c .inputs-of .ensures, whole-parts (now (s .args .words)) (s .pre .0) .fewInputs, legal-short _ (now (s .args .cells)) (s .pre .1))
+    omega (
+      arith,
+      c .inputs-of .ensures,
+      whole-parts (now (s .args .words)) (s .pre .0) .fewInputs,
+      legal-short _ (now (s .args .cells)) (s .pre .1),
+    )
 
 returns : tie.Need-returns
 unfolding isListed cellCount isBelow
 returns c =
     let below = c .before in
     let known = below .before in
-    rw (decode-inputCount (now (start known .args .words)), ← known .inputs-of .ensures, ← below .all-below .ensures) (c .refuse-if .ensures)
+    rw (decode-inputCount (now (start known .args .words)), ← known .inputs-of .ensures, ← below .all-below .ensures)
+    (c .refuse-if .ensures)
 
 pub check-listed-spec : {M : Type 1} → statement M
 check-listed-spec =

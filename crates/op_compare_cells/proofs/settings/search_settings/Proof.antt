@@ -1,6 +1,8 @@
--- `op_compare_cells::settings::search_settings` meets its contract: no setting of a batch passed disagrees. Assumes nothing.
+-- `op_compare_cells::settings::search_settings` meets its contract: no setting of a batch passed disagrees. Assumes
+-- nothing.
 use mathlib.Core.Path.{_≡_, refl, sym, _∙_}
 use mathlib.Core.Bool.{Bool}
+use mathlib.Core.List.{List}
 use Prim.Native.Nat.{ℕ, _-_, _+_, _%_, _≤_, _<_}
 use native.Mathlib.Omega.{arith}
 use borrow.Author.Needs.{needs}
@@ -13,17 +15,24 @@ use Rattle.theory_encoding.proofs.Readers.{whole-parts}
 use Rattle.graph_gates.specs.Places.{placeCount}
 use Rattle.lanes_dual_rail.specs.LaneWords.{laneSize}
 use Rattle.lanes_dual_rail.specs.Words.{hasLane}
-use Rattle.op_verdict.proofs.Counting.{few-settings}
-use Rattle.op_verdict.proofs.Batching.{Place, place-first, place-next, lanesOf-some}
-use Rattle.op_compare_cells.specs.Words.{differsAt}
+use Rattle.lanes_settings.proofs.Counting.{few-settings}
+use Rattle.lanes_settings.proofs.Batching.{Place, place-first, place-next, lanesOf-some}
+use Rattle.lanes_miter.specs.Words.{differsAt}
 use Rattle.op_compare_cells.specs.Found.{Agreed}
 use Rattle.op_compare_cells.proofs.Searching.{marked-below, agreed-none, agreed-more, found-none, found-here}
 use Rattle.op_compare_cells.proofs.settings.search_settings.Statement.{statement}
 use Rattle.op_compare_cells.proofs.settings.search_settings.Tie as tie
 
+-- block and cells agree under the settings before `base`
+record Agreeing (words shown table : List ℕ) (n base : ℕ) (lanes nodes : List ℕ) : Type 0 where
+  place : Place n base
+  agreed : Agreed words shown table base
+  lanesLong : length lanes ≡ laneSize
+  nodesLong : length nodes ≡ placeCount
+
 abbrev Inv-loop : tie.InvT-loop
 Inv-loop words shown graph order ends table lanes₀ nodes₀ n count batch base₀ lanes nodes base =
-    Place n base × Agreed words shown table base × (length lanes ≡ laneSize) × (length nodes ≡ placeCount)
+    Agreeing words shown table n base lanes nodes
 
 abbrev μ-loop : tie.MeasureT-loop
 μ-loop words shown graph order ends table lanes₀ nodes₀ n count batch base₀ lanes nodes base = count - base
@@ -53,15 +62,21 @@ head d = turn d .before
 
 -- few inputs, an aligned batch, and where the next one starts
 few : (l : tie.At-loop Inv-loop μ-loop) → counts l .inputs-of .result ≤ maxInputs
-few l = omega (arith, counts l .inputs-of .ensures, whole-parts (now (entry l .args .words)) (entry l .pre .0 .0 .whole) .fewInputs)
+few l =
+    let s = entry l in
+    omega (arith, counts l .inputs-of .ensures, whole-parts (now (s .args .words)) (s .pre .0 .0 .whole) .fewInputs)
 
-next : (d : tie.After-disagreeing-lanes Inv-loop μ-loop) → Place (counts (head d) .inputs-of .result) (head d .loop .base + head d .before .lane-count .result)
+next : (d : tie.After-disagreeing-lanes Inv-loop μ-loop) → let l = head d in
+    Place (counts l .inputs-of .result) (l .loop .base + l .before .lane-count .result)
 next d =
     let l = head d in
-    place-next (l .before .lane-count .ensures) (l .before .before .setting-count .ensures) (l .loop .inv .0) (turn d .loop-test .taken)
+    place-next (l .before .lane-count .ensures) (l .before .before .setting-count .ensures) (l .loop .inv .place)
+    (turn d .loop-test .taken)
 
 aligned : (t : tie.In-loop Inv-loop μ-loop) → t .before .loop .base % 64 ≡ 0
-aligned t = let l = t .before in l .loop .inv .0 .aligned (rw (← l .before .before .setting-count .ensures) (t .loop-test .taken))
+aligned t =
+    let l = t .before in
+    l .loop .inv .place .aligned (rw (← l .before .before .setting-count .ensures) (t .loop-test .taken))
 
 -- the lowest lane of a batch that has one
 abbrev marked : tie.After-lowest-lane Inv-loop μ-loop → tie.After-disagreeing-lanes Inv-loop μ-loop
@@ -90,21 +105,20 @@ setting-count-requires c κs =
 
 loop-holds : tie.Need-loop-holds Inv-loop μ-loop
 loop-holds c =
-    let known = c .before .before in
-    let s = known .before .before .before in
-    (place-first _, agreed-none _ _ _, s .pre .1 .0, s .pre .1 .1)
+    let s : tie.Start Inv-loop μ-loop = search in
+    record { place = place-first _; agreed = agreed-none _ _ _; lanesLong = s .pre .1 .0; nodesLong = s .pre .1 .1 }
 
 judge-batch-requires : tie.Need-judge-batch-requires Inv-loop μ-loop
 judge-batch-requires c κs =
     let t = c .before in
     let l = t .before in
-    (entry l .pre .0 .0, aligned t, l .loop .inv .2)
+    (entry l .pre .0 .0, aligned t, l .loop .inv .lanesLong)
 
 evaluate-cells-requires : tie.Need-evaluate-cells-requires Inv-loop μ-loop
 evaluate-cells-requires c κs =
     let t = inside (c .before) in
     let l = t .before in
-    ((few l, aligned t, entry l .pre .0 .1 .places), l .loop .inv .3)
+    ((few l, aligned t, entry l .pre .0 .1 .places), l .loop .inv .nodesLong)
 
 disagreeing-lanes-requires : tie.Need-disagreeing-lanes-requires Inv-loop μ-loop
 disagreeing-lanes-requires c κs =
@@ -130,7 +144,8 @@ add-lane : tie.Need-add-t25 Inv-loop μ-loop
 add-lane c =
     let low = found-lane c in
     let l = head (marked low) in
-    omega (arith, low .lowest-lane .ensures, lane-small low, l .loop .inv .0 .within, few-settings (counts l .inputs-of .result) (few l))
+    let most = few-settings (counts l .inputs-of .result) (few l) in
+    omega (arith, low .lowest-lane .ensures, lane-small low, l .loop .inv .place .within, most)
 
 found : tie.Need-returns Inv-loop μ-loop
 found c =
@@ -138,35 +153,43 @@ found c =
     let d = marked low in
     let e = evaluated d in
     let l = head d in
-    found-here (entry l .pre .0 .1) (counts l .inputs-of .ensures) (e .evaluate-cells .ensures) (d .disagreeing-lanes .ensures) (l .loop .inv .1)
-    (judged e .judge-batch .ensures) (low .before .if1 .taken) (l .before .before .setting-count .ensures) (l .loop .inv .0) (turn d .loop-test .taken)
+    found-here (entry l .pre .0 .1) (counts l .inputs-of .ensures) (e .evaluate-cells .ensures)
+    (d .disagreeing-lanes .ensures) (l .loop .inv .agreed) (judged e .judge-batch .ensures) (low .before .if1 .taken)
+    (l .before .before .setting-count .ensures) (l .loop .inv .place) (turn d .loop-test .taken)
     (low .lowest-lane .ensures) (c .lowest-differing .ensures)
 
 add-base : tie.Need-add-base Inv-loop μ-loop
-add-base c = omega (arith, next (c .before) .within, few-settings (counts (head (c .before)) .inputs-of .result) (few (head (c .before))))
+add-base c =
+    let l = head (c .before) in
+    omega (arith, next (c .before) .within, few-settings (counts l .inputs-of .result) (few l))
 
 loop-less : tie.Need-loop-less Inv-loop μ-loop
 loop-less c =
     let d = c .before in
-    omega (arith, head d .before .lane-count .ensures, lanesOf-some (counts (head d) .inputs-of .result), turn d .loop-test .taken)
+    let l = head d in
+    omega (arith, l .before .lane-count .ensures, lanesOf-some (counts l .inputs-of .result), turn d .loop-test .taken)
 
 loop-again : tie.Need-loop-again Inv-loop μ-loop
 loop-again c =
     let d = c .before in
     let e = evaluated d in
-    let l = head d in (
-      next d,
-      agreed-more (entry l .pre .0 .1) (counts l .inputs-of .ensures) (e .evaluate-cells .ensures) (d .disagreeing-lanes .ensures) (l .loop .inv .1)
-          (l .before .lane-count .ensures) (c .if1 .left),
-      judged e .judge-batch .ensures .settled .filled .long,
-      e .evaluate-cells .ensures .long,
-    )
+    let l = head d in
+    record {
+      place = next d;
+      agreed =
+          agreed-more (entry l .pre .0 .1) (counts l .inputs-of .ensures) (e .evaluate-cells .ensures)
+          (d .disagreeing-lanes .ensures) (l .loop .inv .agreed) (l .before .lane-count .ensures) (c .if1 .left);
+      lanesLong = judged e .judge-batch .ensures .settled .filled .long;
+      nodesLong = e .evaluate-cells .ensures .long;
+    }
 
 accepted : tie.Need-returns-2 Inv-loop μ-loop
 accepted c =
     let l = c .before in
     let many = l .before .before .setting-count .ensures in
-    found-none (counts l .inputs-of .ensures) many (l .loop .inv .1) (omega (arith, many, l .loop .inv .0 .within)) (c .loop-test .left)
+    found-none (counts l .inputs-of .ensures) many (l .loop .inv .agreed)
+    (omega (arith, many, l .loop .inv .place .within))
+    (c .loop-test .left)
 
 pub search-settings-spec : {M : Type 1} → statement M
 search-settings-spec =

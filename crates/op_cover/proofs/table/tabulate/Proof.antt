@@ -6,7 +6,7 @@ use lib.ListN.{length, getD}
 use Rattle.netlist.specs.StoredBlock.{decode}
 use Rattle.theory_encoding.proofs.Decoded.{decode-inputCount}
 use Rattle.theory_encoding.proofs.Readers.{whole-parts}
-use Rattle.op_verdict.proofs.Counting.{few-settings}
+use Rattle.lanes_settings.proofs.Counting.{few-settings}
 use Rattle.op_cover.proofs.Flags.{tabulated}
 use Rattle.op_cover.proofs.table.tabulate.Statement.{statement}
 use Rattle.op_cover.proofs.table.tabulate.Tie as tie
@@ -23,7 +23,8 @@ room : (s : tie.Start) → 2 ^ getD (s .args .words .now) 0 0 ≤ length (s .arg
 room s = rw (s .pre .1 .settledRoom) (few-settings _ (whole-parts (s .args .words .now) (s .pre .0) .fewInputs))
 
 plan-block-requires : tie.Need-plan-block-requires
-plan-block-requires c κs = let a = c .before .before in let s = a .before .before .before in (s .pre .0, s .pre .1 .planRoom)
+plan-block-requires c κs =
+    let a = c .before .before in let s = a .before .before .before in (s .pre .0, s .pre .1 .planRoom)
 
 fill-sound-requires : tie.Need-fill-sound-requires
 fill-sound-requires c κs =
@@ -37,7 +38,8 @@ returns c =
     let s = start (planned (f .before)) in
     let words = s .args .words .now in
     let e = f .fill-sound in
-    tabulated (decode words) (getD words 0 0) (s .args .settled .now) _ (sym (decode-inputCount words)) (rw (e .kept .1 .1 .1 .1 .1 .0) (room s)) (e .ensures)
+    tabulated (decode words) (getD words 0 0) (s .args .settled .now) _ (sym (decode-inputCount words))
+    (rw (e .kept .1 .1 .1 .1 .1 .0) (room s)) (e .ensures)
 
 pub tabulate-spec : {M : Type 1} → statement M
 tabulate-spec = tie.close (tie.spec plan-block-requires fill-sound-requires (λ c. search needs) returns)

@@ -3,7 +3,7 @@
 use Prim.Native.Nat.{_-_}
 use native.Mathlib.Omega.{arith}
 use borrow.Author.Needs.{needs}
-use Rattle.op_groups.proofs.Grouping.{Under, group-first, group-wake, group-above, group-next, group-end}
+use Rattle.op_groups.proofs.Grouping.{Under, group-first, group-count-down, group-above, group-next, group-end}
 use Rattle.op_groups.proofs.numbering.number_group.Statement.{statement}
 use Rattle.op_groups.proofs.numbering.number_group.Tie as tie
 
@@ -14,14 +14,14 @@ Inv-loop graph turn leaders nexts fanout numbers₀ counts₀ ready₀ k₀ numb
 abbrev μ-loop : tie.MeasureT-loop
 μ-loop graph turn leaders nexts fanout numbers₀ counts₀ ready₀ k₀ numbers counts ready k = turn .gates - k
 
--- the function's entry, and the turn whose gate's readers were woken
+-- the function's entry, and the turn whose gate's fan-out was counted down
 abbrev start : tie.After-struct-known2 Inv-loop μ-loop → tie.Start Inv-loop μ-loop
 start c =
     let turn = c .before .before .before in
     turn .before .before .before
 
-abbrev woken : tie.After-wake Inv-loop μ-loop → tie.After-struct-known2 Inv-loop μ-loop
-woken c =
+abbrev counted : tie.After-count-down Inv-loop μ-loop → tie.After-struct-known2 Inv-loop μ-loop
+counted c =
     let back = c .before .before .before in
     back .before
 
@@ -46,30 +46,30 @@ mul-numbers c = omega (arith, c .before .if1 .taken, start c .pre .linked .prepa
 element-write-numbers : tie.Need-element-write-numbers Inv-loop μ-loop
 element-write-numbers c = omega (arith, c .before .if1 .taken, start c .pre .linked .prepared .legal .few)
 
-wake-requires : tie.Need-wake-requires Inv-loop μ-loop
-wake-requires c κs =
+count-down-requires : tie.Need-count-down-requires Inv-loop μ-loop
+count-down-requires c κs =
     let head : tie.At-loop Inv-loop μ-loop = search in
     let test = c .before .before .before in
-    group-wake (start test .pre) (head .loop .inv) (test .before .if1 .taken)
+    group-count-down (start test .pre) (head .loop .inv) (test .before .if1 .taken)
 
 word-of-requires : tie.Need-word-of-requires Inv-loop μ-loop
 word-of-requires c κs =
-    let test = woken c in
+    let test = counted c in
     omega (arith, test .before .if1 .taken, start test .pre .linked .prepared .legal .few)
 
 loop-less : tie.Need-loop-less Inv-loop μ-loop
 loop-less c =
     let head : tie.At-loop Inv-loop μ-loop = search in
-    let test = woken (c .before) in
+    let test = counted (c .before) in
     let up = group-above (start test .pre) (head .loop .inv) (test .before .if1 .taken) (c .word-of .ensures) in
     omega (arith, test .before .if1 .taken)
 
 loop-again : tie.Need-loop-again Inv-loop μ-loop
 loop-again c =
     let head : tie.At-loop Inv-loop μ-loop = search in
-    let test = woken (c .before) in
+    let test = counted (c .before) in
     group-next (start test .pre) (head .loop .inv) (test .before .if1 .taken) (c .word-of .ensures)
-    (c .before .wake .ensures)
+    (c .before .count-down .ensures)
 
 returns : tie.Need-returns Inv-loop μ-loop
 returns c =
@@ -80,5 +80,5 @@ pub number-group-spec : {M : Type 1} → statement M
 number-group-spec =
     tie.close
     (tie.spec
-    Inv-loop μ-loop remove-requires loop-holds cast-numbers mul-numbers element-write-numbers wake-requires
+    Inv-loop μ-loop remove-requires loop-holds cast-numbers mul-numbers element-write-numbers count-down-requires
     word-of-requires (λ c. search needs) loop-less loop-again returns)

@@ -7,11 +7,11 @@ use Rattle.op_read.proofs.steps.finish.Statement.{statement}
 use Rattle.op_read.proofs.steps.finish.Tie as tie
 
 abbrev entry : tie.After-struct-known → tie.Start
-entry c = c .before .before .before .before
+entry c = let counted = c .before .before in counted .before .before
 
 -- where there is room
 abbrev told : tie.After-put-block-arg5 → tie.After-enum-told
-told c = c .before .before .before .before .before
+told c = let lent = c .before .before .before in lent .before .before
 
 outputs-behind-requires : tie.Need-outputs-behind-requires
 outputs-behind-requires c κs =
@@ -29,7 +29,8 @@ returns : tie.Need-returns
 returns c =
     let t = c .before .before .before in
     let s = entry (t .before) in
-    no-room (s .pre) (s .args .block .now) (all-words (s .pre) (t .before .before .outputs-behind .ensures)) (t .test-room .ensures)
+    no-room (s .pre) (s .args .block .now) (all-words (s .pre) (t .before .before .outputs-behind .ensures))
+    (t .test-room .ensures)
     (c .before .before .match .keys2) (c .refusal .ensures)
 
 put-block-requires : tie.Need-put-block-requires
@@ -38,7 +39,8 @@ put-block-requires c κs =
     let t = e .before .before in
     let s = entry (t .before) in
     put-ready (s .pre) (s .args .block .now)
-    (fits (s .pre) (s .args .block .now) (all-words (s .pre) (t .before .before .outputs-behind .ensures)) (t .test-room .ensures)
+    (fits (s .pre) (s .args .block .now) (all-words (s .pre) (t .before .before .outputs-behind .ensures))
+    (t .test-room .ensures)
     (e .enum-told .given .1))
 
 returns-2 : tie.Need-returns-2
@@ -46,7 +48,8 @@ returns-2 c =
     let e = told (c .before .before .before) in
     let t = e .before .before in
     let s = entry (t .before) in
-    all-written (s .pre) (s .args .block .now) (all-words (s .pre) (t .before .before .outputs-behind .ensures)) (t .test-room .ensures)
+    all-written (s .pre) (s .args .block .now) (all-words (s .pre) (t .before .before .outputs-behind .ensures))
+    (t .test-room .ensures)
     (e .enum-told .given .1) _ (c .before .before .put-block .ensures)
 
 pub finish-spec : {M : Type 1} → statement M

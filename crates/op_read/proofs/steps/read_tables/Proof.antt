@@ -1,10 +1,11 @@
--- `op_read::steps::read_tables` meets its contract: the tables, 4 as the lesser of two places, 5 in never lines, and then the rest. Assumes nothing.
+-- `op_read::steps::read_tables` meets its contract: the tables, 4 as the lesser of two places, 5 in never lines, and
+-- then the rest. Assumes nothing.
 use native.Mathlib.Omega.{arith}
 use mathlib.Core.Path.{sym}
 use Prim.Native.Nat.{_+_}
 use Rattle.netlist.specs.Limits.{maxInputs, maxGates}
 use Rattle.theory_fixpoint.proofs.ListFacts.{getD-replicate-default}
-use Rattle.text_symbols.specs.Index.{hashes}
+use Rattle.text_names.specs.Index.{hashes}
 use Rattle.op_read.proofs.Stages.{room-for, index-ready, twice, outsider, terms-ready}
 use borrow.Author.Needs.{needs}
 use Rattle.op_read.proofs.steps.read_tables.Statement.{statement}
@@ -12,10 +13,10 @@ use Rattle.op_read.proofs.steps.read_tables.Tie as tie
 
 -- the function's entry, and where the tables are filled
 abbrev entry : tie.After-nodes → tie.Start
-entry c = c .before .before .before .before .before
+entry c = let named = c .before .before .before in named .before .before
 
 abbrev filled : tie.After-duplicate → tie.After-declare
-filled c = c .before .before .before .before
+filled c = let lent = c .before .before in lent .before .before
 
 abbrev repeats : tie.After-earlier-repeat → tie.After-duplicate
 repeats c = c .before .before
@@ -42,7 +43,8 @@ returns c =
     let r = repeats e in
     let f = filled r in
     let s = entry (f .before) in
-    twice (s .pre) (f .declare .ensures) (r .duplicate .ensures) (e .earlier-repeat .ensures) (s .args .block .now) (c .before .before .match .keys2)
+    twice (s .pre) (f .declare .ensures) (r .duplicate .ensures) (e .earlier-repeat .ensures) (s .args .block .now)
+    (c .before .before .match .keys2)
     (c .refusal .ensures)
 
 returns-2 : tie.Need-returns-2
@@ -52,17 +54,20 @@ returns-2 c =
     let r = repeats e in
     let f = filled r in
     let s = entry (f .before) in
-    outsider (s .pre) (f .declare .ensures) (r .duplicate .ensures) (e .earlier-repeat .ensures) (once .enum-told .given .1) (s .args .block .now)
+    outsider (s .pre) (f .declare .ensures) (r .duplicate .ensures) (e .earlier-repeat .ensures)
+    (once .enum-told .given .1) (s .args .block .now)
     (c .before .before .match2 .keys2) (c .refusal2 .ensures)
 
 read-terms-requires : tie.Need-read-terms-requires
 read-terms-requires c κs =
-    let inside = c .before .before .before .before in
+    let lent = c .before .before in
+    let inside = lent .before .before in
     let once = inside .before .before in
     let e = once .before .before in
     let r = repeats e in
     let f = filled r in
-    terms-ready (entry (f .before) .pre) (f .declare .ensures) (r .duplicate .ensures) (e .earlier-repeat .ensures) (once .enum-told .given .1)
+    terms-ready (entry (f .before) .pre) (f .declare .ensures) (r .duplicate .ensures) (e .earlier-repeat .ensures)
+    (once .enum-told .given .1)
     (inside .enum-told3 .given .1)
 
 pub read-tables-spec : {M : Type 1} → statement M

@@ -20,7 +20,8 @@ returns c =
     let a = n .before .before .args in
     c .refuse .ensures
     ∙ record-refused (now (a .words)) (a .fixed) (a .ones)
-    (bad-as (now (a .words)) (a .fixed) (a .ones) (n .inputs-of .ensures) (tested .are-masks .ensures) (c .before .if1 .taken))
+    (bad-as (now (a .words)) (a .fixed) (a .ones) (n .inputs-of .ensures) (tested .are-masks .ensures)
+    (c .before .if1 .taken))
 
 show-lane-requires : tie.Need-show-lane-requires
 show-lane-requires c κs =
@@ -37,7 +38,8 @@ returns-2 c =
     let a = s .args in
     c .show-lane .ensures
     ∙ shown-record (now (a .words)) (a .fixed) (a .ones) (a .s)
-    (bad-as (now (a .words)) (a .fixed) (a .ones) (n .inputs-of .ensures) (tested .are-masks .ensures) (kept .if1 .left)) (s .pre .shows)
+    (bad-as (now (a .words)) (a .fixed) (a .ones) (n .inputs-of .ensures) (tested .are-masks .ensures)
+    (kept .if1 .left)) (s .pre .shows)
 
 pub answer-lane-spec : {M : Type 1} → statement M
 answer-lane-spec =

@@ -3,7 +3,7 @@ use mathlib.Core.Path.{_∙_}
 use borrow.Author.Needs.{needs}
 use Rattle.lanes_dual_rail.proofs.InputLaws.{lanesOf-most}
 use Rattle.lanes_dual_rail.proofs.WordLaws.{tells-count}
-use Rattle.op_verdict.specs.Batches.{countedFrom}
+use Rattle.op_verdict.specs.Counts.{countedFrom}
 use Rattle.op_verdict.proofs.settings.count_held.Statement.{statement}
 use Rattle.op_verdict.proofs.settings.count_held.Tie as tie
 
@@ -17,4 +17,5 @@ returns c =
 pub count-held-spec : {M : Type 1} → statement M
 count-held-spec =
     tie.close
-    (tie.spec (λ c κs. search needs) (λ c κs. rw (c .inputs-of .ensures) (c .before .before .pre)) (λ c κs. search needs) returns)
+    (tie.spec (λ c κs. search needs) (λ c κs. rw (c .inputs-of .ensures) (c .before .before .pre))
+    (λ c κs. search needs) returns)

@@ -1,4 +1,6 @@
--- `op_verdict::settings::search_settings` meets its contract: the count goes on from the values of the first batch found. Assumes nothing.
+-- `op_verdict::settings::search_settings` meets its contract: the count goes on from the values of the first batch
+-- found.
+-- Assumes nothing.
 use borrow.Author.Needs.{needs}
 use Rattle.op_verdict.proofs.settings.search_settings.Statement.{statement}
 use Rattle.op_verdict.proofs.settings.search_settings.Tie as tie
@@ -13,7 +15,7 @@ lowest-in-requires c κs = let u = c .before in (start u .pre .0 .whole, u .unse
 count-settled-requires : tie.Need-count-settled-requires
 count-settled-requires c κs =
     let u = c .before .before .before in
-    (start u .pre .0, u .unsettled-batch .ensures .long, u .unsettled-batch .ensures)
+    (start u .pre .0, u .unsettled-batch .ensures)
 
 pub search-settings-spec : {M : Type 1} → statement M
 search-settings-spec =

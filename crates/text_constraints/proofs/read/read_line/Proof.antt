@@ -5,10 +5,10 @@ use mathlib.Core.Path.{_≡_, sym}
 use native.Mathlib.Omega.{arith}
 use lib.ListN.{drop}
 use lib.Seq.{length-take-le}
-use Rattle.text_symbols.specs.Lines.{lineOpens}
+use Rattle.text_lines.specs.Lines.{lineOpens}
 use Rattle.text_pairs.proofs.TableLaws.{filled-room, inputs-room}
 use Rattle.text_constraints.proofs.NeverText.{opens-behind, taken-few}
-use Rattle.text_constraints.proofs.OneLine.{few-pairs, numbers-ready, line-read}
+use Rattle.text_constraints.proofs.OneLine.{few-pairs, number-room, numbers-ready, line-read}
 use Rattle.text_constraints.proofs.read.read_line.Statement.{statement}
 use Rattle.text_constraints.proofs.read.read_line.Tie as tie
 
@@ -26,7 +26,7 @@ abbrev repeated : tie.After-find-outside → tie.After-find-repeat
 repeated c = c .before .before .before
 
 abbrev outside : tie.After-fill-values → tie.After-find-outside
-outside c = c .before .before .before .before
+outside c = let made = c .before .before in made .before .before
 
 -- the line has a bracket for each pair, and its own
 pairs-counted : (c : tie.After-line-of) → c .line-of .result .gates ≡ lineOpens (drop 6 (entry c .args .s .now))
@@ -35,7 +35,7 @@ pairs-counted c = omega (arith, c .line-of .ensures .gates, opens-behind (entry 
 fill-numbers-requires : tie.Need-fill-numbers-requires
 fill-numbers-requires c κs =
     let p = entry (c .before) .pre in
-    (omega arith, few-pairs p (pairs-counted (c .before)), p .nameRoom)
+    record { near = omega arith; few = few-pairs p (pairs-counted (c .before)); room = p .nameRoom }
 
 find-repeat-requires : tie.Need-find-repeat-requires
 find-repeat-requires c κs =
@@ -48,15 +48,22 @@ find-outside-requires c κs =
     let f = filled (c .before .before) in
     let k = counted f in
     let p = entry k .pre in
-    (numbers-ready p (pairs-counted k) (f .fill-numbers .ensures), inputs-room (p .inputsReady .are))
+    record {
+      numbers = numbers-ready p (pairs-counted k) (f .fill-numbers .ensures);
+      known = inputs-room (p .inputsReady .are);
+    }
 
 fill-values-requires : tie.Need-fill-values-requires
 fill-values-requires c κs =
     let f = filled (repeated (c .before .before .before)) in
     let k = counted f in
     let p = entry k .pre in
-    let r = numbers-ready p (pairs-counted k) (f .fill-numbers .ensures) in
-    (r .near, r .few, r .room, inputs-room (p .inputsReady .are), p .inputsReady .few, omega arith)
+    record {
+      table = number-room p (pairs-counted k) (f .fill-numbers .ensures);
+      known = inputs-room (p .inputsReady .are);
+      few = p .inputsReady .few;
+      room = omega arith;
+    }
 
 array-share-prefix-setting : tie.Need-array-share-prefix-setting
 array-share-prefix-setting c = filled-room _ _ _ (c .fill-values .ensures)

@@ -1,10 +1,12 @@
--- `text_constraints::read::read_lines` meets its contract: one line a turn; the first place that a line tells is kept. Assumes nothing.
+-- `text_constraints::read::read_lines` meets its contract: one line a turn; the first place that a line tells is kept.
+-- Assumes nothing.
 use borrow.Author.Needs.{needs}
 use Prim.Native.Nat.{_-_, _+_, _≤_}
 use mathlib.Core.Path.{refl}
 use native.Mathlib.Omega.{arith}
 use lib.ListN.{length}
-use Rattle.text_constraints.proofs.LineWalk.{Reading, reading-start, line-there, line-ready, reading-next, reading-done}
+use Rattle.text_constraints.proofs.LineWalk.{Reading, reading-start, line-there, line-ready, reading-next}
+use Rattle.text_constraints.proofs.LineWalk.{reading-done}
 use Rattle.text_constraints.proofs.read.read_lines.Statement.{statement}
 use Rattle.text_constraints.proofs.read.read_lines.Tie as tie
 
@@ -38,7 +40,8 @@ loop-again c =
     let told = c .before in
     let line = told .before .before in
     let l = turn line .before in
-    reading-next (entry l .pre) (l .loop .inv) (omega arith) (line .read-line .ensures) (told .before .first-failed .ensures) (told .first-failed2 .ensures)
+    reading-next (entry l .pre) (l .loop .inv) (omega arith) (line .read-line .ensures)
+    (told .before .first-failed .ensures) (told .first-failed2 .ensures)
     (c .next-line .ensures)
 
 returns : tie.Need-returns Inv-loop μ-loop

@@ -3,26 +3,26 @@ use mathlib.Core.Path.{refl}
 use native.Mathlib.Omega.{arith}
 use Rattle.text_expressions.proofs.LineForms.{output-parts, output-left, output-read}
 use Rattle.text_expressions.specs.Lines.{outputForm}
-use Rattle.text_expressions.proofs.Walking.{table-lengths}
+use Rattle.text_walk.proofs.Walking.{table-lengths}
 use borrow.Author.Needs.{needs}
 use Rattle.text_expressions.proofs.lines.output_line.Statement.{statement}
 use Rattle.text_expressions.proofs.lines.output_line.Tie as tie
 
 sub-name-length : tie.Need-sub-name-length
 sub-name-length c =
-    let start = c .before .before .before .before .before in
+    let start : tie.Start = search in
     let p = start .pre .0 .1 in omega
     (arith, output-parts (start .args .s .now) _ refl (p .line) (p .rest) (p .here) .long)
 
 part-name-length-start : tie.Need-part-name-length-start
 part-name-length-start c =
-    let start = c .before .before .before .before .before in
+    let start : tie.Start = search in
     let p = start .pre .0 .1 in omega
     (arith, output-parts (start .args .s .now) _ refl (p .line) (p .rest) (p .here) .long)
 
 add-at : tie.Need-add-at
 add-at c =
-    let start = c .before .before .before .before .before .before .before in
+    let start : tie.Start = search in
     let a = start .args in let p = start .pre .0 .1 in omega (
       arith,
       output-parts (a .s .now) (c .name-length .result) (c .name-length .ensures) (p .line) (p .rest)
@@ -32,22 +32,21 @@ add-at c =
 
 sub-name-here : tie.Need-sub-name-here
 sub-name-here c =
-    let start = c .before .before .before .before .before .before .before in
+    let start : tie.Start = search in
     let a = start .args in let p = start .pre .0 .1 in output-parts (a .s .now) (c .name-length .result)
     (c .name-length .ensures) (p .line) (p .rest)
     (p .here) .long
 
 part-name-here-start : tie.Need-part-name-here-start
 part-name-here-start c =
-    let start = c .before .before .before .before .before .before .before in
+    let start : tie.Start = search in
     let a = start .args in let p = start .pre .0 .1 in output-parts (a .s .now) (c .name-length .result)
     (c .name-length .ensures) (p .line) (p .rest)
     (p .here) .long
 
 name-here-requires : tie.Need-name-here-requires
 name-here-requires c κs =
-    let stage = c .before .before .before .before .before .before .before in
-    let b = stage .before in
+    let b : tie.Start = search in
     let p = b .pre .0 .1 in (
       table-lengths (b .pre .0 .0) (p .bindings) (b .args .names .now) (b .args .words .now)
           (p .table),
@@ -56,33 +55,28 @@ name-here-requires c κs =
 
 sub-pack : tie.Need-sub-pack
 sub-pack c =
-    let earlier = c .before .before .before .before .before .before .before in
-    let start = earlier .before .before .before in
+    let start : tie.Start = search in
     let p = start .pre .0 .1 in omega
     (arith, output-parts (start .args .s .now) _ refl (p .line) (p .rest) (p .here) .long)
 
 part-pack-start : tie.Need-part-pack-start
 part-pack-start c =
-    let earlier = c .before .before .before .before .before .before .before in
-    let start = earlier .before .before .before in
+    let start : tie.Start = search in
     let p = start .pre .0 .1 in omega
     (arith, output-parts (start .args .s .now) _ refl (p .line) (p .rest) (p .here) .long)
 
 put-output-requires : tie.Need-put-output-requires
 unfolding outputForm
 put-output-requires c κs =
-    let earlier = c .before .before .before .before .before .before .before in
-    let start = earlier .before .before .before .before .before in
+    let start : tie.Start = search in
     let p = start .pre .0 .1 in omega (arith, p .few, p .room)
 
 sub-t10 : tie.Need-sub-t10
 sub-t10 c =
-    let stage = c .before .before .before .before .before .before .before in
-    let stage-2 = stage .before .before in
-    let b = stage-2 in
-    let s = b .before .before .before .before .before .before .before in
+    let s : tie.Start = search in
+    let b : tie.After-name-length = search in
+    let l : tie.After-name-here = search in
     let p = s .pre .0 .1 in
-    let l = stage in
     output-left (s .args .s .now) (b .name-length .result) (b .name-length .ensures) (s .pre .0 .0)
     (s .args .names .now) (s .args .words .now)
     (s .args .first) (s .args .unknown) (s .args .outputs .now) (l .name-here .result) (l .name-here .ensures)
@@ -91,14 +85,12 @@ sub-t10 c =
 
 returns : tie.Need-returns
 returns c =
-    let at-put-output = c .before .before .before in
-    let at-pack = at-put-output .before in
-    let stage = at-pack .before .before .before in
-    let stage-2 = stage .before .before in
+    let s : tie.Start = search in
+    let b : tie.After-name-length = search in
+    let l : tie.After-name-here = search in
+    let at-pack : tie.After-pack = search in
+    let at-put-output : tie.After-put-output = search in
     λ n.
-    let b = stage-2 in
-    let s = b .before .before .before .before .before .before .before in
-    let l = stage in
     output-read (s .args .s .now) (b .name-length .result) (b .name-length .ensures) n (s .args .names .now)
     (s .args .words .now) (s .args .first)
     (s .args .unknown) (s .args .outputs .now) (l .name-here .result) (l .name-here .ensures)

@@ -19,7 +19,7 @@ abbrev μ-loop : tie.MeasureT-loop
 
 loop-holds : tie.Need-loop-holds Inv-loop μ-loop
 loop-holds c =
-    let start = c .before .before .before .before .before in
+    let start : tie.Start Inv-loop μ-loop = search in
     λ n. let a = start .args in lines-start outputForm output-lawful (a .lines) (a .text .now) n (a .names .now)
     (a .words .now) (a .seen) (a .outputs .now)
 
@@ -27,11 +27,13 @@ sub-output-line : tie.Need-sub-output-line Inv-loop μ-loop
 sub-output-line c = omega (arith, c .before .loop .inv 0 .within)
 
 output-line-requires : tie.Need-output-line-requires Inv-loop μ-loop
-output-line-requires c κs = let b = c .before .before in
-    let a = b .before .before .before .before .before .before .before .args in
-    let n = b .before .before .before .before .before .before .before .pre .0 .0 in
-    let l = b .before .loop in
-    let p = b .before .before .before .before .before .before .before .pre in (
+output-line-requires c κs =
+    let start : tie.Start Inv-loop μ-loop = search in
+    let b = c .before .before in
+    let a = start .args in
+    let p = start .pre in
+    let n = p .0 .0 in
+    let l = b .before .loop in (
       (
         n,
         line-here outputForm output-lawful (a .lines) (a .text .now) n (a .names .now) (a .words .now) (a .seen)
@@ -43,18 +45,20 @@ output-line-requires c κs = let b = c .before .before in
 
 add-i : tie.Need-add-i Inv-loop μ-loop
 add-i c =
-    let at-loop-test = c .before .before .before .before .before in
-    let at-fits = at-loop-test .before .before .before .before .before .before .before in
-    omega (arith, at-loop-test .loop-test .taken, at-fits .fits .lines)
+    let start : tie.Start Inv-loop μ-loop = search in
+    let in-loop : tie.In-loop Inv-loop μ-loop = search in
+    omega (arith, in-loop .loop-test .taken, start .fits .lines)
 
 loop-less : tie.Need-loop-less Inv-loop μ-loop
-loop-less c = omega (arith, c .before .before .before .before .before .loop-test .taken)
+loop-less c =
+    let in-loop : tie.In-loop Inv-loop μ-loop = search in
+    omega (arith, in-loop .loop-test .taken)
 
 loop-again : tie.Need-loop-again Inv-loop μ-loop
 loop-again c =
-    let in-loop = c .before .before .before .before .before in
+    let start : tie.Start Inv-loop μ-loop = search in
+    let in-loop : tie.In-loop Inv-loop μ-loop = search in
     let at-loop = in-loop .before in
-    let start = at-loop .before .before .before .before .before .before in
     λ n.
     let a = start .args in
     let l = at-loop .loop in
@@ -73,7 +77,7 @@ same-length c = c .before .loop .inv 0 .same
 
 returns : tie.Need-returns Inv-loop μ-loop
 returns c =
-    let start = c .before .before .before .before .before .before .before in
+    let start : tie.Start Inv-loop μ-loop = search in
     λ n.
     let a = start .args in
     let l = c .before .loop in

@@ -7,12 +7,14 @@ use Rattle.text_pairs.proofs.NameTests.{outside-failed, outside-passed}
 returns : tie.Need-returns
 returns c =
     λ ps at known legal counted named placed inputs.
-    outside-failed ps legal at named placed inputs (rw counted at (c .before .before .first-outside .ensures)) (rw counted at (c .before .if1 .taken))
+    outside-failed ps legal at named placed inputs (rw counted at (c .before .before .first-outside .ensures))
+    (rw counted at (c .before .if1 .taken))
 
 returns-2 : tie.Need-returns-2
 returns-2 c =
     λ ps at known legal counted named placed inputs.
-    outside-passed ps legal at named placed inputs (rw counted at (c .before .first-outside .ensures)) (rw counted at (c .if1 .left))
+    outside-passed ps legal at named placed inputs (rw counted at (c .before .first-outside .ensures))
+    (rw counted at (c .if1 .left))
 
 pub test-outside-spec : {M : Type 1} → statement M
 test-outside-spec =

@@ -24,7 +24,8 @@ loop-holds c = (omega arith, refl)
 
 add-place-2 : tie.Need-add-place-2 Inv-loop μ-loop
 add-place-2 c =
-    let l = c .before .before in omega (arith, here-short (entry l .args .s .now) (l .loop .place), c .name-size .ensures)
+    let l = c .before .before in
+    omega (arith, here-short (entry l .args .s .now) (l .loop .place), c .name-size .ensures)
 
 add-place-3 : tie.Need-add-place-3 Inv-loop μ-loop
 add-place-3 c =

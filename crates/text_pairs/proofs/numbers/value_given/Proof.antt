@@ -1,4 +1,5 @@
--- `text_pairs::numbers::value_given` meets its contract: the value stands behind the name that is found. Assumes nothing.
+-- `text_pairs::numbers::value_given` meets its contract: the value stands behind the name that is found. Assumes
+-- nothing.
 use borrow.Author.Needs.{needs}
 use borrow.Author.Tests.{lt-ltb, le-ltb}
 use mathlib.Core.Path.{_≡_, sym, ap, _∙_}
@@ -12,10 +13,10 @@ abbrev entry : tie.After-find → tie.Start
 entry c = c .before .before .before
 
 find-requires : tie.Need-find-requires
-find-requires c κs = let p = c .before .before .pre in omega (arith, p .1, p .2)
+find-requires c κs = let p = c .before .before .pre in omega (arith, p .few, p .room)
 
 pair-place-requires : tie.Need-pair-place-requires
-pair-place-requires c κs = let p = entry (c .before) .pre in (p .0, omega (arith, p .1))
+pair-place-requires c κs = let p = entry (c .before) .pre in (p .near, omega (arith, p .few))
 
 returns : tie.Need-returns
 unfolding givenCode pairCodes pairCode
@@ -24,7 +25,8 @@ returns c =
     let a = entry found .args in
     let l = c .before .before .if1 .taken in
     c .code-at .ensures ∙ ap (codeAt (a .s .now)) (c .before .pair-place .ensures)
-    ∙ sym (rw (← found .find .ensures, lt-ltb _ _ l) (getD-tab (pairCode (a .s .now) (a .at)) (a .count) (found .find .result) 0 l))
+    ∙ sym (rw (← found .find .ensures, lt-ltb _ _ l)
+    (getD-tab (pairCode (a .s .now) (a .at)) (a .count) (found .find .result) 0 l))
 
 returns-2 : tie.Need-returns-2
 unfolding givenCode

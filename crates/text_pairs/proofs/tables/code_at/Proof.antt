@@ -9,7 +9,10 @@ use Rattle.text_pairs.proofs.PairPlaces.{code-none}
 
 returns : tie.Need-returns
 unfolding codeAt
-returns c = let a = c .before .before .before .before .args in rw (rest-is-drop (a .text .now) (a .at)) at (c .code-front .ensures)
+returns c =
+    let start : tie.Start = search in
+    let a = start .args in
+    rw (rest-is-drop (a .text .now) (a .at)) at (c .code-front .ensures)
 
 returns-2 : tie.Need-returns-2
 unfolding codeAt

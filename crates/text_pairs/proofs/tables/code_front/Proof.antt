@@ -4,7 +4,7 @@ use Rattle.text_pairs.proofs.tables.code_front.Statement.{statement}
 use Rattle.text_pairs.proofs.tables.code_front.Tie as tie
 use native.Mathlib.Omega.{arith}
 use borrow.Author.Tests.{eq-eqb, ne-eqb}
-use Rattle.text_symbols.proofs.Packing.{front-length}
+use Rattle.text_names.proofs.Packing.{front-length}
 use Rattle.text_pairs.specs.PairBytes.{codeFront}
 
 add-byte-at : tie.Need-add-byte-at

@@ -4,11 +4,14 @@ use Rattle.text_pairs.proofs.tables.name_size.Statement.{statement}
 use Rattle.text_pairs.proofs.tables.name_size.Tie as tie
 use lib.ListN.{drop-of-length-le}
 use Rattle.prelude.proofs.Elements.{rest-is-drop}
-use Rattle.text_symbols.specs.Packed.{nameFront, nameFrom}
+use Rattle.text_names.specs.Packed.{nameFront, nameFrom}
 
 returns : tie.Need-returns
 unfolding nameFront nameFrom
-returns c = let a = c .before .before .before .before .args in rw (rest-is-drop (a .text .now) (a .at)) at (c .name-length .ensures)
+returns c =
+    let start : tie.Start = search in
+    let a = start .args in
+    rw (rest-is-drop (a .text .now) (a .at)) at (c .name-length .ensures)
 
 returns-2 : tie.Need-returns-2
 unfolding nameFront nameFrom

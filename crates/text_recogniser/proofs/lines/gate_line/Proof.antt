@@ -1,82 +1,27 @@
--- `text_recogniser::lines::gate_line` meets its contract: a chain of calls, each on what the one before left.
+-- `text_recogniser::lines::gate_line` meets its contract: a chain of calls, each behind what the one before found.
 -- Assumes nothing.
 use borrow.Author.Needs.{needs}
+use Rattle.text_scan.proofs.Chain.{begin, step, finish}
+use Rattle.text_recogniser.proofs.LineSteps.{gate-word, gate-name, gate-bracket, gate-expression}
 use Rattle.text_recogniser.proofs.lines.gate_line.Statement.{statement}
 use Rattle.text_recogniser.proofs.lines.gate_line.Tie as tie
-use mathlib.Core.Bool.{true}
-use mathlib.Core.List.{List}
-use Prim.Native.Nat.{ℕ, _-_}
-use Rattle.prelude.specs.Lists.{ascii}
-use Rattle.netlist.specs.Limits.{maxDepth}
-use Rattle.netlist.specs.Syntax.{apply}
-use Rattle.text_recogniser.specs.Scan.{firstByte, gateReader, gateNaming, gateBracket, gateExpression, closing}
-use Rattle.text_recogniser.proofs.Shortens.{shortens-name, shortens-term, shortens-expr}
-use Rattle.text_recogniser.proofs.Chain.{Behind, first-bad, first-next, then-bad, then-next, then-last}
-use Rattle.text_recogniser.proofs.LineSteps.{shortens-word, gate-word, gate-name, gate-bracket, gate-expression}
-
--- the text, from behind the first part of the line; and the stage behind a part, from behind the next one
-abbrev text : tie.After-known-told → List ℕ
-text c = c .before .before .before .before .before .before .args .s .now
-
-abbrev first : tie.After-known-told2 → tie.After-known-told
-first c = c .before .before .before .before .before
-
-abbrev second : tie.After-known-told3 → tie.After-known-told2
-second c = c .before .before .before .before .before .before
-
-abbrev third : tie.After-known-told4 → tie.After-known-told3
-third c = c .before .before .before .before .before
-
--- what is left behind each part
-left-1 : (c : tie.After-known-told) → Behind gateReader (text c) (c .before .found .given .0 .0) gateNaming
-left-1 c = first-next gate-word (shortens-word (ascii "gate ")) (text c) (c .before .before .before .word .ensures) (c .before .found .given .1)
-
-left-2 : (c : tie.After-known-told2) → Behind gateReader (text (first c)) (c .before .found2 .given .0 .0) gateBracket
-left-2 c = then-next gate-name (shortens-name (firstByte true)) (left-1 (first c)) (c .before .before .before .name .ensures) (c .before .found2 .given .1)
-
-left-3 : (c : tie.After-known-told3) → Behind gateReader (text (first (second c))) (c .before .found3 .given .0 .0) gateExpression
-left-3 c = then-next gate-bracket (shortens-word (ascii " (")) (left-2 (second c)) (c .before .before .before .word2 .ensures) (c .before .found3 .given .1)
-
-left-4 : (c : tie.After-known-told4) → Behind gateReader (text (first (second (third c)))) (c .before .found4 .given .0 .0) closing
-left-4 c =
-    then-next gate-expression (shortens-expr apply (shortens-term (maxDepth - 1))) (left-3 (third c)) (c .before .before .before .expression .ensures)
-    (c .before .found4 .given .1)
 
 returns : tie.Need-returns
-returns c = first-bad gate-word (c .before .before .before .before .before .args .s .now) (c .before .before .word .ensures) (c .enum-told .given .1)
-
-sub-at : tie.Need-sub-at
-sub-at c = left-1 c .within
-
-returns-2 : tie.Need-returns-2
-returns-2 c = then-bad gate-name (left-1 (c .before .before .before .before)) (c .before .before .name .ensures) (c .enum-told2 .given .1)
-
-sub-at-2 : tie.Need-sub-at-2
-sub-at-2 c = left-2 c .within
-
-returns-3 : tie.Need-returns-3
-returns-3 c = then-bad gate-bracket (left-2 (c .before .before .before .before .before)) (c .before .before .word2 .ensures) (c .enum-told3 .given .1)
-
-sub-at-3 : tie.Need-sub-at-3
-sub-at-3 c = left-3 c .within
-
-returns-4 : tie.Need-returns-4
-returns-4 c = then-bad gate-expression (left-3 (c .before .before .before .before)) (c .before .before .expression .ensures) (c .enum-told4 .given .1)
-
-sub-at-4 : tie.Need-sub-at-4
-sub-at-4 c = left-4 c .within
-
-returns-5 : tie.Need-returns-5
-returns-5 c = then-last closing (left-4 (c .before .before .before)) (c .word3 .ensures)
+returns c =
+    let a : tie.Start = search in
+    let opened : tie.After-word = search in
+    let named : tie.After-then-name = search in
+    let bracket : tie.After-then-word = search in
+    let closed : tie.After-then-expression = search in
+    let b1 = begin gate-word (a .args .s .now) (opened .word .ensures) in
+    let b2 = step b1 gate-name (named .then-name .ensures) in
+    let b3 = step b2 gate-bracket (bracket .then-word .ensures) in
+    let b4 = step b3 gate-expression (closed .then-expression .ensures) in
+    finish b4 (c .then-word2 .ensures)
 
 pub gate-line-spec : {M : Type 1} → statement M
 gate-line-spec =
     tie.close
     (tie.spec
-    (λ c. search needs) (λ c κs. search needs) (λ c. search needs) (λ c. search needs) returns sub-at
-    (λ c. search needs) (λ c. search needs) (λ c. search needs) (λ c κs. search needs) (λ c. search needs)
-    (λ c. search needs) returns-2 sub-at-2 (λ c. search needs) (λ c. search needs) (λ c. search needs)
-    (λ c. search needs) (λ c κs. search needs) (λ c. search needs) (λ c. search needs) returns-3 sub-at-3
-    (λ c. search needs) (λ c. search needs) (λ c. search needs) (λ c κs. search needs) (λ c. search needs)
-    (λ c. search needs) returns-4 sub-at-4 (λ c. search needs) (λ c. search needs) (λ c. search needs)
-    (λ c. search needs) (λ c κs. search needs) returns-5)
+    (λ c. search needs) (λ c κs. search needs) (λ c κs. search needs) (λ c. search needs) (λ c κs. search needs)
+    (λ c κs. search needs) (λ c. search needs) (λ c κs. search needs) returns)

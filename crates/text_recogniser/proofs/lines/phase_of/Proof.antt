@@ -13,7 +13,11 @@ returns c = rw (eq-eqb 105 (c .before .args .letter) (sym (c .if1 .taken)))
 returns-2 : tie.Need-returns-2
 unfolding phaseOf
 returns-2 c =
-    rw (ne-eqb 105 (c .before .before .args .letter) (λ e. c .before .if1 .left (sym e)), eq-eqb 110 (c .before .before .args .letter) (sym (c .if2 .taken)))
+    rw (
+      ne-eqb 105 (c .before .before .args .letter) (λ e. c .before .if1 .left (sym e)),
+      eq-eqb 110
+          (c .before .before .args .letter) (sym (c .if2 .taken)),
+    )
 
 returns-3 : tie.Need-returns-3
 unfolding phaseOf

@@ -1,5 +1,5 @@
--- `text_symbols::table::declare` meets its contract: the lines of inputs are filled in first, then those behind never lines, by the laws on what the loops fill in.
--- Assumes nothing.
+-- `text_symbols::table::declare` meets its contract: the lines of inputs are filled in first, then those behind never
+-- lines, by the laws on what the loops fill in. Assumes nothing.
 use mathlib.Core.Path.{_∙_}
 use Rattle.text_symbols.proofs.FillSteps.{filled-sizes}
 use Rattle.text_symbols.proofs.TreeTable.{names-sized, tables-are}
@@ -9,9 +9,9 @@ use Rattle.text_symbols.proofs.table.declare.Tie as tie
 
 returns : tie.Need-returns
 returns c =
-    let second = c .before .before .before .before in
-    let first = second .before .before .before in
-    let s = first .before .before .before .before .before in
+    let second : tie.After-fill-lines2 = search in
+    let first : tie.After-fill-lines = search in
+    let s : tie.Start = search in
     let a = s .args in
     let one = filled-sizes (first .fill-lines .ensures) in
     let two = filled-sizes (second .fill-lines2 .ensures) in

@@ -1,11 +1,12 @@
--- `text_symbols::table::fill_lines` meets its contract: one line a turn, read from the rest of the text. Assumes nothing.
+-- `text_symbols::table::fill_lines` meets its contract: one line a turn, read from the rest of the text. Assumes
+-- nothing.
 use Prim.Native.Nat.{_+_, _-_, _≤_, _<_}
 use mathlib.Core.Path.{refl}
 use native.Mathlib.Omega.{arith}
 use lib.ListN.{length}
-use Rattle.text_symbols.specs.Lines.{FillNow}
+use Rattle.text_symbols.specs.Tables.{FillNow}
 use Rattle.text_symbols.proofs.FillSteps.{fill-start, line-start, rest-short, line-sizes, fill-next, fill-done}
-use Rattle.text_symbols.proofs.Starts.{lineWord-le}
+use Rattle.text_symbols.proofs.FillSteps.{lineWord-le}
 use Rattle.text_symbols.proofs.table.fill_lines.Statement.{statement}
 use Rattle.text_symbols.proofs.table.fill_lines.Tie as tie
 
@@ -25,7 +26,8 @@ turn c = c .before .before .before
 
 sizes : (c : tie.After-line-of Inv-loop μ-loop) → let l = turn c .loop in
     let line = c .line-of .result in
-    (l .at + line .length ≤ length (entry (turn c) .args .text .now)) × (l .gates + line .gates ≤ length (entry (turn c) .args .text .now))
+    (l .at + line .length ≤ length (entry (turn c) .args .text .now))
+    × (l .gates + line .gates ≤ length (entry (turn c) .args .text .now))
     × (line .name ≤ 6)
 sizes c = line-sizes (entry (turn c) .pre) (turn c .loop .inv) refl (c .line-of .ensures)
 
@@ -91,12 +93,15 @@ element-write-words : tie.Need-element-write-words Inv-loop μ-loop
 element-write-words c = omega (arith, entry (turn (c .before .before .before)) .pre .room)
 
 add-at : tie.Need-add-at Inv-loop μ-loop
-add-at c = let line = c .before .before .before .before in omega (arith, sizes line, entry (turn line) .pre .short)
+add-at c =
+    let line : tie.After-line-of Inv-loop μ-loop = search in
+    omega (arith, sizes line, entry (turn line) .pre .short)
 
 loop-again : tie.Need-loop-again Inv-loop μ-loop
 loop-again c =
-    let line = c .before .before .before .before in
-    fill-next (entry (turn line) .pre) (turn line .loop .inv) refl (line .line-of .ensures) (omega arith) refl (c .before .line-word .ensures)
+    let line : tie.After-line-of Inv-loop μ-loop = search in
+    fill-next (entry (turn line) .pre) (turn line .loop .inv) refl (line .line-of .ensures) (omega arith) refl
+    (c .before .line-word .ensures)
 
 returns : tie.Need-returns Inv-loop μ-loop
 returns c = fill-done (entry (c .before) .pre) (c .before .loop .inv) (omega arith)

@@ -3,7 +3,7 @@ use mathlib.Core.Path.{_≡_}
 use native.Mathlib.Omega.{arith}
 use borrow.Author.Tests.{lt-ltb, le-ltb}
 use borrow.Author.Needs.{needs}
-use Rattle.text_symbols.specs.Lines.{lineWord}
+use Rattle.text_symbols.specs.Tables.{lineWord}
 use Rattle.text_symbols.proofs.table.line_word.Statement.{statement}
 use Rattle.text_symbols.proofs.table.line_word.Tie as tie
 
@@ -13,7 +13,9 @@ returns c = rw (lt-ltb _ _ (c .if1 .taken))
 
 returns-2 : tie.Need-returns-2
 unfolding lineWord
-returns-2 c = let z : c .before .before .args .gates ≡ 0 = c .if2 .taken in rw (le-ltb _ _ (c .before .if1 .left), z) (omega arith)
+returns-2 c =
+    let z : c .before .before .args .gates ≡ 0 = c .if2 .taken in
+    rw (le-ltb _ _ (c .before .if1 .left), z) (omega arith)
 
 returns-3 : tie.Need-returns-3
 unfolding lineWord

@@ -1,4 +1,5 @@
--- `unroll_depth::walk::are_full` meets its contract: after g turns the first g groups have as many passes as gates. Assumes nothing.
+-- `unroll_depth::walk::are_full` meets its contract: after g turns the first g groups have as many passes as gates.
+-- Assumes nothing.
 use mathlib.Core.Path.{_≡_}
 use mathlib.Core.Logic.{⊎-elim}
 use mathlib.Core.Bool.{false≢true}
@@ -31,8 +32,11 @@ loop-again c =
     let starts = l .before .args .starts .now in
     let passes = l .before .args .passes .now in
     let g = l .loop .g in
-    let last : getD starts (g + 1) 0 ≤ getD starts g 0 + getD passes g 0 = omega (arith, c .if1 .left, w .word-of .ensures) in
-    (omega (arith, t .loop-test .taken), λ i k. ⊎-elim (λ (e : i ≡ g). rw e last) (λ ne. l .loop .inv .1 i (omega arith)) (eq-or-ne i g))
+    let last : getD starts (g + 1) 0 ≤ getD starts g 0 + getD passes g 0 =
+    omega (arith, c .if1 .left, w .word-of .ensures) in (
+      omega (arith, t .loop-test .taken),
+      λ i k. ⊎-elim (λ (e : i ≡ g). rw e last) (λ ne. l .loop .inv .1 i (omega arith)) (eq-or-ne i g),
+    )
 
 returns-2 : tie.Need-returns-2 Inv-loop μ-loop
 returns-2 c =
@@ -48,8 +52,8 @@ are-full-spec =
     (λ c κs. omega (arith, c .before .before .pre .0)) (λ c. search needs)
     (λ c. omega (arith, c .before .before .before .pre .0)) (λ c. omega (arith, c .before .before .before .pre .0))
     (λ c. omega (arith, few (c .before .before))) (λ c. omega (arith, few (c .before .before)))
-    (λ c. omega (arith, c .before .before .before .before .pre .0))
-    (λ c. omega (arith, c .before .before .before .before .pre .0))
-    (λ c. omega (arith, c .before .before .before .before .pre .0))
+    (λ c. let s : tie.Start Inv-loop μ-loop = search in omega (arith, s .pre .0))
+    (λ c. let s : tie.Start Inv-loop μ-loop = search in omega (arith, s .pre .0))
+    (λ c. let s : tie.Start Inv-loop μ-loop = search in omega (arith, s .pre .0))
     (λ c. omega (arith, few (c .before .before .before))) (λ c e. absurd (false≢true e)) (λ c. omega arith)
     (λ c. omega arith) loop-again returns-2)

@@ -1,5 +1,7 @@
--- `unroll_depth::walk::walk_loops` meets its contract: after each batch the passes are enough for its settings too, and its lowest setting is known. Assumes nothing.
+-- `unroll_depth::walk::walk_loops` meets its contract: after each batch the passes are enough for its settings too, and
+-- its lowest setting is known. Assumes nothing.
 use mathlib.Core.Path.{_≡_, refl, sym, ap, _∙_}
+use mathlib.Core.List.{List}
 use Prim.Native.Nat.{ℕ, _-_, _+_, _^_, _≤_, _<_}
 use native.Mathlib.Omega.{arith}
 use borrow.Author.Needs.{needs}
@@ -12,19 +14,30 @@ use Rattle.theory_encoding.proofs.Readers.{whole-parts}
 use Rattle.theory_encoding.proofs.Decoded.{decode-inputCount, decode-gateCount}
 use Rattle.lanes_dual_rail.specs.Batches.{lanesOf}
 use Rattle.lanes_dual_rail.specs.LaneWords.{laneSize}
-use Rattle.op_verdict.proofs.Counting.{setting-count, few-settings}
-use Rattle.op_verdict.proofs.Batching.{Place, place-first, place-next, lanesOf-some}
+use Rattle.lanes_settings.proofs.Counting.{setting-count, few-settings}
+use Rattle.lanes_settings.proofs.Batching.{Place, place-first, place-next, lanesOf-some}
+use Rattle.unroll_depth.specs.declared.Found.{Found}
 use Rattle.unroll_depth.specs.Counting.{WalkedBatch}
-use Rattle.unroll_depth.proofs.CountLaws.{starts-few, counting-full, rest-none, rest-then, lowest-first, lowest-all}
+use Rattle.unroll_depth.proofs.CountLaws.{starts-few, counting-full, rest-none, rest-then, lowest-first}
+use Rattle.unroll_depth.proofs.CountLaws.{lowest-all}
 use Rattle.unroll_depth.proofs.walk.walk_loops.Statement.{statement}
 use Rattle.unroll_depth.proofs.walk.walk_loops.Tie as tie
 
+-- the batches before `base` are walked
+record Walking (words : List ℕ) (count : ℕ) (passes₀ passes lanes kept : List ℕ) (found : Found)
+    (base : ℕ) : Type 0 where
+  place : Place (getD words 0 0) base
+  walked : WalkedBatch (decode words) count base passes₀ passes found
+  lanesLong : length lanes ≡ laneSize
+  keptLong : length kept ≡ laneSize
+
 abbrev Inv-loop : tie.InvT-loop
-Inv-loop words graph order ends count members starts passes₀ lanes₀ kept₀ n settings step found₀ base₀ passes lanes kept found base =
-    Place (getD words 0 0) base × WalkedBatch (decode words) count base passes₀ passes found × (length lanes ≡ laneSize) × (length kept ≡ laneSize)
+Inv-loop words graph order ends count members starts passes₀ lanes₀ kept₀ n settings step found₀ base₀ passes lanes kept
+    found base = Walking words count passes₀ passes lanes kept found base
 
 abbrev μ-loop : tie.MeasureT-loop
-μ-loop words graph order ends count members starts passes₀ lanes₀ kept₀ n settings step found₀ base₀ passes lanes kept found base = settings - base
+μ-loop words graph order ends count members starts passes₀ lanes₀ kept₀ n settings step found₀ base₀ passes lanes kept
+    found base = settings - base
 
 -- the number of lanes and of settings, and the function's entry, from the loop's head; the loop's head, from a batch
 abbrev laned : tie.At-loop Inv-loop μ-loop → tie.After-lane-count Inv-loop μ-loop
@@ -46,41 +59,51 @@ abbrev tested : tie.Joined2 Inv-loop μ-loop → tie.In-loop Inv-loop μ-loop
 tested j = turn (j .before .before .before)
 
 abbrev batched : tie.After-count-batch Inv-loop μ-loop → tie.In-loop Inv-loop μ-loop
-batched d = tested (d .before .before .before .before .before .before)
+batched d = let b = d .before .before .before in tested (b .before .before .before)
 
 few : (s : tie.Start Inv-loop μ-loop) → getD (s .args .words .now) 0 0 ≤ 12
-few s = whole-parts (s .args .words .now) (s .pre .0 .whole) .fewInputs
+few s = whole-parts (s .args .words .now) (s .pre .plan .whole) .fewInputs
 
 -- as many settings as the block has, and lanes as a batch has
-settings-are : (c : tie.After-setting-count Inv-loop μ-loop) → c .setting-count .result ≡ settingCount (decode (entry c .args .words .now))
+settings-are : (c : tie.After-setting-count Inv-loop μ-loop)
+    → c .setting-count .result ≡ settingCount (decode (entry c .args .words .now))
 settings-are c =
     let ws = entry c .args .words .now in
-    setting-count (decode ws) (c .before .inputs-of .result) (c .setting-count .result) (c .before .inputs-of .ensures ∙ sym (decode-inputCount ws))
+    setting-count (decode ws) (c .before .inputs-of .result) (c .setting-count .result)
+    (c .before .inputs-of .ensures ∙ sym (decode-inputCount ws))
     (c .setting-count .ensures)
 
-powers-are : (c : tie.After-setting-count Inv-loop μ-loop) → c .setting-count .result ≡ 2 ^ getD (entry c .args .words .now) 0 0
+powers-are : (c : tie.After-setting-count Inv-loop μ-loop)
+    → c .setting-count .result ≡ 2 ^ getD (entry c .args .words .now) 0 0
 powers-are c = c .setting-count .ensures ∙ ap (λ (k : ℕ). 2 ^ k) (c .before .inputs-of .ensures)
 
 many : (l : tie.At-loop Inv-loop μ-loop) → laned l .lane-count .result ≡ lanesOf (getD (start l .args .words .now) 0 0)
 many l = laned l .lane-count .ensures ∙ ap lanesOf (sized l .before .inputs-of .ensures)
 
 -- a batch that is there, and the next
-inside : (t : tie.In-loop Inv-loop μ-loop) → let l = t .before in l .loop .base < 2 ^ getD (start l .args .words .now) 0 0
+inside : (t : tie.In-loop Inv-loop μ-loop) → let l = t .before in
+    l .loop .base < 2 ^ getD (start l .args .words .now) 0 0
 inside t = omega (arith, powers-are (sized (t .before)), t .loop-test .taken)
 
 next : (t : tie.In-loop Inv-loop μ-loop) → let l = t .before in
     Place (getD (start l .args .words .now) 0 0) (l .loop .base + laned l .lane-count .result)
-next t = let l = t .before in place-next (many l) (powers-are (sized l)) (l .loop .inv .0) (t .loop-test .taken)
+next t = let l = t .before in place-next (many l) (powers-are (sized l)) (l .loop .inv .place) (t .loop-test .taken)
 
 loop-holds : tie.Need-loop-holds Inv-loop μ-loop
 loop-holds c =
     let z = c .before .before in
-    let s = entry z in (
-      place-first (getD (s .args .words .now) 0 0),
-      record { counting = rw (c .gates-of .ensures) (s .pre .1 .2); same = rest-none _ _; lowest = lowest-first (settings-are z) },
-      refl,
-      refl,
-    )
+    let s = entry z in
+    record {
+      place = place-first (getD (s .args .words .now) 0 0);
+      walked =
+          record {
+            counting = rw (c .gates-of .ensures) (s .pre .counting);
+            same = rest-none _ _;
+            lowest = lowest-first (settings-are z);
+          };
+      lanesLong = refl;
+      keptLong = refl;
+    }
 
 returns : tie.Need-returns Inv-loop μ-loop
 returns c =
@@ -88,21 +111,24 @@ returns c =
     let t = a .before .before in
     let l = turn (t .before .before .before) .before in
     let s = start l in
-    let i = l .loop .inv .1 in
+    let i = l .loop .inv .walked in
     let z = sized l in
     record {
       reached = settingCount (decode (s .args .words .now));
-      counting = counting-full (settingCount (decode (s .args .words .now))) (s .pre .1 .0) (i .counting) (a .are-full .ensures (c .if3 .taken));
+      counting =
+          counting-full (settingCount (decode (s .args .words .now))) (s .pre .listing) (i .counting)
+          (a .are-full .ensures (c .if3 .taken));
       all = λ few. refl;
       same = i .same;
-      lowest = λ few. lowest-all (i .lowest) (λ unknown. absurd (omega (arith, unknown, settings-are z, t .if2 .taken)));
+      lowest =
+          λ few. lowest-all (i .lowest) (λ unknown. absurd (omega (arith, unknown, settings-are z, t .if2 .taken)));
     }
 
 judge-batch-requires : tie.Need-judge-batch-requires Inv-loop μ-loop
 judge-batch-requires c κs =
     let t = tested (c .before) in
     let i = t .before .loop .inv in
-    (start (t .before) .pre .0, i .0 .aligned (inside t), i .2)
+    (start (t .before) .pre .plan, i .place .aligned (inside t), i .lanesLong)
 
 count-batch-requires : tie.Need-count-batch-requires Inv-loop μ-loop
 count-batch-requires c κs =
@@ -112,17 +138,20 @@ count-batch-requires c κs =
     let s = start l in
     let ws = s .args .words .now in
     let i = l .loop .inv in
-    let p = s .pre .0 in (
-      (
-        record {
-          judged = d .judge-batch .ensures;
-          decoded = rw (decode-gateCount ws) (p .decoded);
-          settings = omega (arith, i .0 .whole (inside t), settings-are (sized l), powers-are (sized l));
-        },
-        i .3,
-      ),
-      ((s .pre .1 .0, i .1 .same .long ∙ s .pre .1 .1), (i .1 .counting, i .1 .lowest)),
-    )
+    let p = s .pre in
+    record {
+      held =
+          record {
+            judged = d .judge-batch .ensures;
+            decoded = rw (decode-gateCount ws) (p .plan .decoded);
+            settings = omega (arith, i .place .whole (inside t), settings-are (sized l), powers-are (sized l));
+          };
+      room = i .keptLong;
+      listing = p .listing;
+      long = i .walked .same .long ∙ p .long;
+      counting = i .walked .counting;
+      lowest = i .walked .lowest;
+    }
 
 add-base : tie.Need-add-base Inv-loop μ-loop
 add-base c =
@@ -140,17 +169,23 @@ loop-again : tie.Need-loop-again Inv-loop μ-loop
 loop-again c =
     let t = batched c in
     let l = t .before in
-    let e = rw (← many l) at (c .count-batch .ensures .0) in (
-      next t,
-      record { counting = e .counting; same = rest-then (l .loop .inv .1 .same) (e .same); lowest = e .lowest },
-      c .count-batch .ensures .1 .0,
-      c .count-batch .ensures .1 .1,
-    )
+    let e = rw (← many l) at (c .count-batch .ensures .0) in
+    record {
+      place = next t;
+      walked =
+          record {
+            counting = e .counting;
+            same = rest-then (l .loop .inv .walked .same) (e .same);
+            lowest = e .lowest;
+          };
+      lanesLong = c .count-batch .ensures .1 .0;
+      keptLong = c .count-batch .ensures .1 .1;
+    }
 
 returns-2 : tie.Need-returns-2 Inv-loop μ-loop
 returns-2 c =
     let l = turn (c .before) .before in
-    let i = l .loop .inv .1 in
+    let i = l .loop .inv .walked in
     let many = leb-false (l .loop .found .total) maxCopies (c .if1 .left) in
     record {
       reached = l .loop .base;
@@ -167,13 +202,13 @@ returns-3 c =
     let i = l .loop .inv in
     let z = sized l in
     let all : l .loop .base ≡ settingCount (decode (s .args .words .now)) =
-    omega (arith, i .0 .within, settings-are z, powers-are z, c .loop-test .left) in
+    omega (arith, i .place .within, settings-are z, powers-are z, c .loop-test .left) in
     record {
       reached = l .loop .base;
-      counting = i .1 .counting;
+      counting = i .walked .counting;
       all = λ few. all;
-      same = i .1 .same;
-      lowest = λ few. lowest-all (i .1 .lowest) (λ unknown. omega (arith, all));
+      same = i .walked .same;
+      lowest = λ few. lowest-all (i .walked .lowest) (λ unknown. omega (arith, all));
     }
 
 pub walk-loops-spec : {M : Type 1} → statement M
@@ -182,5 +217,5 @@ walk-loops-spec =
     (tie.spec
     Inv-loop μ-loop (λ c κs. search needs) (λ c κs. rw (c .inputs-of .ensures) (few (c .before .before)))
     (λ c κs. search needs) (λ c κs. search needs) loop-holds
-    (λ c κs. let s = start (turn (c .before .before .before .before) .before) in (s .pre .1 .0 .fewGroups, starts-few (s .pre .1 .0)))
+    (λ c κs. let s : tie.Start Inv-loop μ-loop = search in (s .pre .listing .fewGroups, starts-few (s .pre .listing)))
     returns judge-batch-requires count-batch-requires add-base loop-less loop-again returns-2 returns-3)

@@ -1,0 +1,2 @@
+-- Mathematics of a block and cells compared; no function of src/ is named.
+pub mod Differences

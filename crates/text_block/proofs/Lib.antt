@@ -1,0 +1,2 @@
+-- Laws of the parts of a block, over plain lists.
+pub mod BlockParts

@@ -1,0 +1,3 @@
+-- Laws of counts, over plain lists.
+pub mod Behind
+pub mod TreeCounts

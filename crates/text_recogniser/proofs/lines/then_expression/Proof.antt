@@ -1,0 +1,27 @@
+-- `text_recogniser::lines::then_expression` meets its contract: it answers a bad byte as it was found, and else reads
+-- what is left. Assumes nothing.
+use borrow.Author.Needs.{needs}
+use Rattle.text_recogniser.specs.Scan.{expressionReader}
+use Rattle.text_scan.proofs.Chain.{found-bad, found-next}
+use Rattle.text_recogniser.proofs.lines.then_expression.Statement.{statement}
+use Rattle.text_recogniser.proofs.lines.then_expression.Tie as tie
+
+returns : tie.Need-returns
+returns c = let a : tie.Start = search in
+    found-bad expressionReader (a .args .s .now) (c .enum-told .given .1)
+
+returns-2 : tie.Need-returns-2
+unfolding expressionReader
+returns-2 c =
+    let a : tie.Start = search in
+    let told : tie.After-found = search in
+    let placed : tie.After-place-of = search in
+    found-next expressionReader (a .args .s .now) (told .found .given .1) (placed .place-of .ensures)
+    (c .expression .ensures)
+
+pub then-expression-spec : {M : Type 1} → statement M
+then-expression-spec =
+    tie.close
+    (tie.spec
+    (λ c. search needs) (λ c. search needs) returns (λ c κs. search needs) (λ c. search needs) (λ c. search needs)
+    (λ c. search needs) (λ c κs. search needs) returns-2)
