@@ -38,6 +38,9 @@ fn committed() -> Scratch {
     for tool in words.filter(|word| word.starts_with("tests/")) {
         scratch.put_script(tool, "#!/bin/sh\n");
     }
+    // What makes the library for the gate.
+    let library = "#!/bin/sh\n[ \"$1\" != --library ] || rt staticlib exports\n";
+    scratch.put_script("tests/levels", library);
     for file in [
         "include/unloop.h",
         "python/unloop.py",
