@@ -29,7 +29,7 @@ planned() {
 # How far it is, of run_rt's variables: the crate at work, or each quarter once.
 tell_progress() {
   local told time at
-  told=$(cat "$log" "$log".* 2>/dev/null | grep -oE '^rt: [A-Za-z0-9_]+ (proved \(|NOT PROVED)' | sort -u | wc -l)
+  told=$(cat "$log" "$log".* 2>/dev/null | grep -oE '^rt: [A-Za-z0-9_]+ (proved \(|NOT PROVED)' | sort -u | wc -l) || true
   time=$(as_time $((SECONDS - began)))
   if [[ -t 2 ]]; then
     at=$((told < total ? told : total - 1))
@@ -57,8 +57,9 @@ await() {
 }
 
 # The program's crates but for the last, in two halves that share only what stands below both: graphs and texts. rt proves one level of crates
-# after the other and waits for each, so that one half alone would leave a processor idle. Each half goes through what is below before the other
-# does, since both leave notes of it at the same place. What is not proved here, `rt check` of the program tells.
+# after the other and waits for each, so that one half alone would leave a processor idle; the half with more levels goes first. Each half goes
+# through what is below before the other does, since both leave notes of it at the same place. What is not proved here, `rt check` of the program
+# tells.
 below=(words_layout words_refusals theory_encoding theory_fixpoint)
 prove_halves() {
   local graphs
@@ -68,9 +69,9 @@ prove_halves() {
   # shellcheck disable=SC2064 # this process
   trap "kill $graphs 2>/dev/null" EXIT INT TERM
   await "$log.graphs" "$graphs" "${below[@]}"
-  rt check op_read text_pieces >"$log.texts" 2>&1 || true
+  nice rt check op_read text_pieces >"$log.texts" 2>&1 || true
   await "$log.graphs" "$graphs" words_block
-  if tells_of "$log.graphs" words_block; then rt check op_write >>"$log.texts" 2>&1 || true; fi
+  if tells_of "$log.graphs" words_block; then nice rt check op_write >>"$log.texts" 2>&1 || true; fi
   wait "$graphs" || true
   trap - EXIT INT TERM
 }
