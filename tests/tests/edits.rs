@@ -28,6 +28,7 @@ fn repository_with(edits: &[&str]) -> Scratch {
     scratch.put_script("tests/edits", &script);
     scratch.put("crates.txt", "a: b io\nb:\n");
     scratch.put("crates/a/src/lib.rt", "// f fits\n// g fits\n");
+    scratch.put("crates/b/src/lib.rt", "");
     scratch.put("target/rlib/a.rlib/toolchain/checked/module", "");
     scratch.put_script("kit/on/here/bin/rattle", RATTLE);
     scratch.put_script("tools/uname", "#!/bin/sh\necho here\n");
