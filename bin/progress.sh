@@ -1,5 +1,5 @@
 # Sourced by building.sh: runs rt and tells on standard error how far it is, on a terminal by one line that is rewritten each second,
-# elsewhere by a line for each quarter of the crates. Goes by the lines `rt: NAME proved ..` that rt writes; all it writes is kept in a log.
+# elsewhere by a line for each quarter of the crates. Goes by the lines `rt: NAME proved ..` that rt writes; all it writes is kept in logs.
 source "$root/bin/machine.sh"
 
 # The crates that rt proves for these names, in its order: level by level, a crate above all that it is built on (crates.txt).
@@ -29,7 +29,7 @@ planned() {
 # How far it is, of run_rt's variables: the crate at work, or each quarter once.
 tell_progress() {
   local told time at
-  told=$(grep -cE '^rt: [A-Za-z0-9_]+ (proved \(|NOT PROVED)' "$log" || true)
+  told=$(cat "$log" "$log".* 2>/dev/null | grep -oE '^rt: [A-Za-z0-9_]+ (proved \(|NOT PROVED)' | sort -u | wc -l) || true
   time=$(as_time $((SECONDS - began)))
   if [[ -t 2 ]]; then
     at=$((told < total ? told : total - 1))
@@ -45,9 +45,41 @@ needs_of() {
   sed -n "s/#.*//; s/^$1://p" "$root/crates.txt"
 }
 
+# Whether a log tells of each of these crates, by now: LOG NAME ..
+tells_of() {
+  local name
+  for name in "${@:2}"; do grep -qE "^rt: $name (proved|NOT PROVED)" "$1" || return 1; done
+}
+
+# Waits until a log tells of these crates, or the process that writes it has ended: LOG PROCESS NAME ..
+await() {
+  until tells_of "$1" "${@:3}" || ! kill -0 "$2" 2>/dev/null; do sleep 0.1; done
+}
+
+# The program's crates but for the last, in two halves that share only what stands below both: graphs and texts. rt proves one level of crates
+# after the other and waits for each, so that one half alone would leave a processor idle; the half with more levels goes first. Each half goes
+# through what is below before the other does, since both leave notes of it at the same place. What is not proved here, `rt check` of the program
+# tells.
+below=(words_layout words_refusals theory_encoding theory_fixpoint)
+prove_halves() {
+  local graphs
+  rt check "${below[@]}" >"$log.below" 2>&1 || return 0
+  rt check op_render >"$log.graphs" 2>&1 &
+  graphs=$!
+  # shellcheck disable=SC2064 # this process
+  trap "kill $graphs 2>/dev/null" EXIT INT TERM
+  await "$log.graphs" "$graphs" "${below[@]}"
+  nice rt check op_read text_pieces >"$log.texts" 2>&1 || true
+  await "$log.graphs" "$graphs" words_block
+  if tells_of "$log.graphs" words_block; then nice rt check op_write >>"$log.texts" 2>&1 || true; fi
+  wait "$graphs" || true
+  trap - EXIT INT TERM
+}
+
 # Runs `rt check NAMES`, or `rt staticlib NAME`. The latter proves what NAME is built on one at a time, so that is proved before it, side by
 # side; NAME itself is proved by it alone.
 call_rt() {
+  if [[ "$2 $3" == 'check unloop' && " ${crates[*]} " == *' op_render '* ]]; then prove_halves; fi
   if [[ $2 == staticlib ]]; then
     # shellcheck disable=SC2046 # one word for each crate
     rt check $(needs_of "$3") || return
@@ -62,6 +94,7 @@ run_rt() {
   shift
   mapfile -t crates < <(planned "${@:3}")
   total=${#crates[@]}
+  rm -f "$log".*
   : >"$log"
   exec {held}> >(
     exec 9>&-

@@ -1,4 +1,4 @@
-//! The table of all gates as crates/graph_ternary/src/table.rt has it, from a statement of the three-valued rule that is read off the definedness
+//! The table of all gates as crates/graph_simulation/src/table.rt has it, from a statement of the three-valued rule that is read off the definedness
 //! of a result: a gate is 0 or 1 exactly when every way to put 0 or 1 for the undefined operands gives that.
 
 /// The kinds in the order of their numbers.

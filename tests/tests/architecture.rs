@@ -59,10 +59,15 @@ fn every_crate_has_a_row_and_a_folder() {
 #[test]
 fn the_edits_are_listed() {
     let list = made("docs/edits", "docs/MUST_FAIL.md");
+    let crates = root().join("crates");
+    let folders =
+        |name: &String| ["must-fail", "must-fail/quick"].map(|at| crates.join(name).join(at));
     let edits: usize = listed()
         .iter()
-        .filter_map(|name| fs::read_dir(root().join("crates").join(name).join("must-fail")).ok())
-        .map(Iterator::count)
-        .sum();
+        .flat_map(folders)
+        .filter_map(|folder| fs::read_dir(folder).ok())
+        .flatten()
+        .filter(|entry| entry.as_ref().is_ok_and(|entry| entry.path().is_file()))
+        .count();
     assert_eq!(list.matches("\n| `").count(), edits, "a row for each edit");
 }

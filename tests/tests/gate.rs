@@ -42,7 +42,7 @@ const LEVELS: &str = "status=$?\n[ \"$1\" != --others ] || echo --test=other\nex
 fn gate() -> Scratch {
     let scratch = repository();
     scratch.put_script("tools/rt", RT);
-    for tool in ["tools/cargo", "tests/probes", "tests/c/run"] {
+    for tool in ["tools/cargo", "tests/edits", "tests/probes", "tests/c/run"] {
         scratch.put_script(tool, OTHER);
     }
     scratch.put_script("tests/levels", &format!("{OTHER}{LEVELS}"));
@@ -59,12 +59,13 @@ fn run(scratch: &Scratch) -> Output {
 }
 
 /// What is called before the tests, which run beside each other.
-const IN_ORDER: [&str; 11] = [
+const IN_ORDER: [&str; 12] = [
     "rt fmt --check",
     "cargo fmt rust",
     "cargo fmt tests",
     "cargo fmt perf",
     "rt ci",
+    "edits",
     "levels --library",
     "probes",
     "cargo clippy rust",
@@ -87,26 +88,36 @@ fn phases_and_the_last_line() {
     let phases: Vec<(&str, usize)> = phases
         .split(", ")
         .map(|phase| {
-            let (name, time) = phase.split_once(' ').unwrap();
-            (name, time.strip_suffix(" s").unwrap().parse().unwrap())
+            let phase = phase.strip_suffix(" s").unwrap();
+            let (name, time) = phase.rsplit_once(' ').unwrap();
+            (name, time.parse().unwrap())
         })
         .collect();
     let names: Vec<&str> = phases.iter().map(|(name, _)| *name).collect();
     assert_eq!(
         names,
-        ["layout", "proofs", "edits", "programs", "library", "lints", "tests"]
+        [
+            "layout",
+            "proofs",
+            "edits",
+            "programs",
+            "quick edits",
+            "library",
+            "lints",
+            "tests"
+        ]
     );
     assert!(phases[1].1 >= 1 && phases[2].1 >= 2, "{phases:?}");
     let calls = scratch.get("calls");
     let calls: Vec<&str> = calls.lines().collect();
-    assert_eq!(calls[..11], IN_ORDER);
-    let mut beside = calls[11..].to_vec();
+    assert_eq!(calls[..12], IN_ORDER);
+    let mut beside = calls[12..].to_vec();
     beside.retain(|&call| call != "cargo test tests --test=other");
     assert_eq!(
         beside,
         ["cargo test perf", "cargo test rust", "run", "levels"]
     );
-    assert_eq!(calls.len(), 16);
+    assert_eq!(calls.len(), 17);
     let folder = scratch.get("room");
     assert!(folder == "\n" || !std::path::Path::new(folder.trim_end()).exists());
 }
@@ -118,6 +129,7 @@ fn failures() {
         "rt fmt",
         "cargo fmt tests",
         "rt ci",
+        "edits",
         "levels --library",
         "probes",
         "cargo clippy rust",

@@ -5,6 +5,7 @@ mod stand_in;
 
 use simulator::executed::{ended, sought_loudly, Scratch};
 use stand_in::{found, repository, set_age};
+use std::os::unix::fs::symlink;
 use std::path::Path;
 use std::process::{Command, Output};
 use std::{fs, thread};
@@ -99,6 +100,28 @@ fn folders_and_names() {
         let ended = run(&scratch, words);
         let building = [WHY, PROGRAM, LIBRARY, DRIVER].concat();
         told(&scratch, &ended, 7, &building, ALL_BUILT);
+    }
+}
+
+/// A program of graphs and texts is proved in two halves side by side before it, what is below both first. Write's crate is left to the half of
+/// texts where the other has told of what it needs, and else to the program's.
+#[test]
+fn two_halves() {
+    for (tells, write) in [
+        ("", ""),
+        ("rt: words_block proved (1 s)\n", "rt check op_write\n"),
+    ] {
+        let scratch = repository();
+        let crates = "prelude:\nnetlist: prelude\nop_read: prelude\nop_render: prelude\nunloop: op_read op_render\n";
+        scratch.put("crates.txt", format!("{crates}exports: prelude netlist\n"));
+        scratch.put("tells", tells);
+        symlink(found("nice"), scratch.path("tools/nice")).unwrap();
+        let ended = run(&scratch, ALL);
+        assert_eq!(ended.status.code(), Some(7), "{ended:?}");
+        let below = "rt check words_layout words_refusals theory_encoding theory_fixpoint\n";
+        let halves = "rt check op_render\nrt check op_read text_pieces\n";
+        let calls = [below, halves, write, ALL_BUILT].concat();
+        assert_eq!(scratch.get("calls"), calls);
     }
 }
 

@@ -3,16 +3,16 @@
 // says that the input does: the loop over reads counts down from a number that no run uses up.
 use bench_session::feed;
 use bench_session::finish;
-use bench_state::ANSWER_BYTES;
-use bench_state::LINE_BYTES;
-use bench_state::State;
-use bench_state::is_over;
-use bench_state::start;
+use bench_session::state::ANSWER_BYTES;
+use bench_session::state::LINE_BYTES;
+use bench_session::state::State;
+use bench_session::state::is_over;
+use bench_session::state::start;
 use graph_gates::GRAPH_WORDS;
 use graph_gates::fanout::FANOUT_WORDS;
 use words_layout::limits::BLOCK_WORDS;
 use words_layout::limits::MAX_TEXT;
-ghost use Rattle.bench_state.specs.Session.{Unprepared, SessionReady, SessionRoom};
+ghost use Rattle.bench_session.specs.Session.{Unprepared, SessionReady, SessionRoom};
 
 // What serving some input came to: the state after it, and whether to read on.
 struct Served {

@@ -8,11 +8,11 @@ use lib.ListN.{length, take, getD}
 use lib.Seq.{take-suc}
 use mathlib.Core.Logic.{_⊎_, inl, inr}
 use Rattle.prelude.proofs.Tests.{lt-or-le}
-use Rattle.bench_stream.specs.Runs.{Run, turn, after, outputs}
-use Rattle.bench_stream.proofs.Pieces.{after-append, outputs-append}
-use Rattle.bench_state.specs.declared.State.{State}
-use Rattle.bench_state.specs.Session.{runOf, SessionRoom, SessionReady, SessionStepped, Progressed, Advanced}
-use Rattle.bench_state.proofs.Written.{nothing-written}
+use Rattle.bench_session.specs.Runs.{Run, turn, after, outputs}
+use Rattle.bench_session.proofs.Pieces.{after-append, outputs-append}
+use Rattle.bench_session.specs.declared.state.State.{State}
+use Rattle.bench_session.specs.Session.{runOf, SessionRoom, SessionReady, SessionStepped, Progressed, Advanced}
+use Rattle.bench_session.proofs.Written.{nothing-written}
 
 module _ (r : Run) (piece : List ℕ) (n : ℕ) (l : n < length piece) where
   one-more : take (n + 1) piece ≡ take n piece ++ (getD piece n 0 ∷ [])

@@ -9,12 +9,12 @@ use Rattle.netlist.specs.Limits.{maxText}
 use Rattle.netlist.specs.StoredBlock.{decode}
 use Rattle.netlist.specs.Operations.{readText}
 use Rattle.netlist.specs.Bench.{lineAnswers, lastLine, benchAfter}
-use Rattle.bench_stream.specs.Runs.{inNetlist, inLines, turn, ending}
-use Rattle.bench_state.specs.declared.State.{State}
-use Rattle.bench_state.specs.declared.State.the-variants.{Netlist, Lines, Ended}
-use Rattle.bench_state.specs.Session.{runOf, Unprepared, Sound, SessionReady, LineRoom, AnswerWritten}
-use Rattle.bench_state.specs.Session.{SessionStepped}
-use Rattle.bench_state.proofs.Written.{nothing-written}
+use Rattle.bench_session.specs.Runs.{inNetlist, inLines, turn, ending}
+use Rattle.bench_session.specs.declared.state.State.{State}
+use Rattle.bench_session.specs.declared.state.State.the-variants.{Netlist, Lines, Ended}
+use Rattle.bench_session.specs.Session.{runOf, Unprepared, Sound, SessionReady, LineRoom, AnswerWritten}
+use Rattle.bench_session.specs.Session.{SessionStepped}
+use Rattle.bench_session.proofs.Written.{nothing-written}
 
 module _ {state : State} (text words line : List ℕ) where
   pub netlist-step : (c : ℕ) {kept : ℕ} {fresh : Bool} {s : State} {t w g f l o : List ℕ} {n : ℕ}

@@ -1,17 +1,21 @@
-// The bench in pieces of its input: the state goes in by value and comes back, the buffers are lent. `feed` takes a
-// piece of input up to the first answer in it, `finish` answers what is left at the input's end. A block is tested and
-// prepared once, when it is read: `graph` and `fanout` are room for what is prepared. Whatever the pieces, what is
-// written is the bench's output (`pieces-bench` in crates/bench_stream).
-use bench_line_part::end_line;
-use bench_line_part::line_byte;
-use bench_netlist_part::end_netlist;
-use bench_netlist_part::netlist_byte;
-use bench_state::Fed;
-use bench_state::State;
+// The bench in pieces of its input: the state goes in by value and comes back (`state`), the buffers are lent. `feed`
+// takes a piece of input up to its first answer, `finish` answers what is left at the input's end. A block is tested
+// and prepared once, when it is read (`netlist_part`): `graph` and `fanout` are room for that; then come set lines
+// (`line_part`). Whatever the pieces, what is written is the bench's output (`pieces-bench` in proofs/Pieces.antt).
+use crate::line_part::end_line;
+use crate::line_part::line_byte;
+use crate::netlist_part::end_netlist;
+use crate::netlist_part::netlist_byte;
+use crate::state::Fed;
+use crate::state::State;
 use graph_gates::GRAPH_WORDS;
 use graph_gates::fanout::FANOUT_WORDS;
-ghost use Rattle.bench_stream.specs.Runs.{turn, ending};
-ghost use Rattle.bench_state.specs.Session.{runOf, SessionReady, AnswerWritten, SessionStepped, Advanced};
+ghost use Rattle.bench_session.specs.Runs.{turn, ending};
+ghost use Rattle.bench_session.specs.Session.{runOf, SessionReady, AnswerWritten, SessionStepped, Advanced};
+
+mod line_part;
+mod netlist_part;
+pub mod state;
 
 // The next state, how many bytes of an answer stand in the buffer, and how many bytes of the piece were taken.
 pub struct Progress {

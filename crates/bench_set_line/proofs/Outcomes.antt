@@ -22,8 +22,8 @@ use Rattle.netlist.specs.SetLine.{setLineReader}
 use Rattle.netlist.specs.Bench.{givenNames, givenValues, showLine, pairsOutcome, parsedOutcome, lineOutcome, answerLine}
 use Rattle.theory_encoding.proofs.Decoded.{decode-inputCount}
 use Rattle.theory_grammar.proofs.SetLines.{setLine-sound}
-use Rattle.text_scan.specs.Scan.{badOf}
-use Rattle.bench_set_form.specs.Line.{firstBadInSetLine}
+use Rattle.text_recogniser.specs.Readers.{badOf}
+use Rattle.bench_set_line.specs.Line.{firstBadInSetLine}
 use Rattle.words_refusals.specs.declared.Test.{Test}
 use Rattle.words_refusals.specs.declared.Test.the-variants.{Passed, Failed}
 use Rattle.words_refusals.specs.Tests.{testAt, refusalOf}

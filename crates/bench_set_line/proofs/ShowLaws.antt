@@ -19,8 +19,8 @@ use Rattle.netlist.specs.Syntax.{valueText, pairText}
 use Rattle.netlist.specs.Bench.{portText, showLine}
 use Rattle.graph_gates.specs.Places.{placeOf}
 use Rattle.graph_gates.specs.Graph.{Decoded}
-use Rattle.graph_ternary.specs.State.{Coded, inputsIn, stateIn, ShownAt}
-use Rattle.graph_ternary.proofs.Outputs.{shown-ready, shown-code}
+use Rattle.graph_simulation.specs.State.{Coded, inputsIn, stateIn, ShownAt}
+use Rattle.graph_simulation.proofs.Outputs.{shown-ready, shown-code}
 use Rattle.graph_simulation.specs.Rounded.{Starting, SettledIn}
 use Rattle.graph_simulation.proofs.Rounds.{operands-same, starting-inputs, settled-of}
 use Rattle.theory_fixpoint.proofs.Values.{valueOf-code}

@@ -1,12 +1,12 @@
-// The answer to one line of the bench, for a block that is prepared: the show line of a set line, or a refusal (2, 4,
-// 5, 11).
-use bench_set_form::test_set_line;
+// The answer to one line of the bench, for a block that is prepared: the line's form (2, `form`), its pairs against the
+// block's inputs (4 and 5, crates/text_pairs), and the show line (11, `show`), or the refusal.
+use crate::form::test_set_line;
 use graph_gates::GRAPH_WORDS;
 use graph_gates::PLACES;
 use graph_gates::fanout::FANOUT_WORDS;
 use graph_simulation::round::UNDEFINED;
+use graph_simulation::table::GATE_ENTRIES;
 use graph_simulation::values::put_setting;
-use graph_ternary::table::GATE_ENTRIES;
 use inputs::fill_inputs;
 use netlist::Answer;
 use show::show;
@@ -27,6 +27,7 @@ ghost use Rattle.graph_simulation.specs.Rounded.{Blank};
 ghost use Rattle.bench_set_line.specs.Shown.{BlockReady};
 ghost use Rattle.bench_set_line.specs.Tables.{LineFor, InForm, SetTableRoom, TablesFor, SetTablesReady, LineRead};
 
+mod form;
 mod inputs;
 mod show;
 

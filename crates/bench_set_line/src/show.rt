@@ -2,9 +2,9 @@
 use graph_gates::GRAPH_WORDS;
 use graph_gates::PLACES;
 use graph_gates::fanout::FANOUT_WORDS;
+use graph_simulation::output::shown_value;
 use graph_simulation::round::settle_prepared;
-use graph_ternary::output::shown_value;
-use graph_ternary::table::GATE_ENTRIES;
+use graph_simulation::table::GATE_ENTRIES;
 use netlist::Answer;
 use text_pieces::put;
 use text_pieces::put_all;

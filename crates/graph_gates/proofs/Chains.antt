@@ -1,6 +1,5 @@
 -- The lists of a fan-out: a slot more in front of one, and what they hold when all slots are in. Cited by this crate's
--- functions and by whoever walks
--- along a list.
+-- functions and by whoever walks along a list.
 --   chain-step, chain-end, chain-le   the walk along a list
 --   linking-none, linking-next        no slot, one more
 --   linked-fanout                     all slots

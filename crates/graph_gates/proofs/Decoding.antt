@@ -1,6 +1,5 @@
 -- From a block's words to its graph: the words are legal, the gates are put one after the other, and at the end the
--- graph is the block's. Cited by
--- `put_node` and `decode_gates`. Assumes nothing.
+-- graph is the block's. Cited by `put_node` and `decode_gates`. Assumes nothing.
 use mathlib.Core.Path.{_≡_, refl, sym, ap, _∙_}
 use mathlib.Core.Logic.{_⊎_, ⊎-elim}
 use mathlib.Core.Bool.{true, false, cond}

@@ -1,6 +1,6 @@
 -- What rounds, single steps, reads and groups say of a block depends on its gates alone. So what is shown of a graph's
--- network holds of every block whose
--- gates the graph has. Cited by whoever works on a graph and promises something of a block. Assumes nothing.
+-- network holds of every block whose gates the graph has. Cited by whoever works on a graph and promises something of a
+-- block. Assumes nothing.
 --   network-gates, network-count      the network's gates are the block's
 --   ..-gates                          the same gates, the same answer
 use mathlib.Core.Path.{_≡_, refl, ap, fun-ext}

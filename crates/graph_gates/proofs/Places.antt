@@ -1,6 +1,5 @@
 -- The place of what an operand word stands for, by what the word is; and a place and what stands there determine each
--- other. Cited by whoever makes or
--- reads a graph. Assumes nothing.
+-- other. Cited by whoever makes or reads a graph. Assumes nothing.
 use mathlib.Core.Path.{_≡_, refl, sym, _∙_}
 use mathlib.Core.Bool.{Bool, true, false, cond}
 use Prim.Native.Nat.{ℕ, _+_, _-_, _≤_, _<_}

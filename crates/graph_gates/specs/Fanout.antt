@@ -1,7 +1,7 @@
 -- The fan-out of a graph: the slots that read each gate, as linked lists in one array. Slot i of gate j has number 4 j
 -- + i; word k has the first slot of gate k's list, and word maxGates + e the one behind slot e. A number stands there
--- plus 1, and 0 ends a list. Cited by the contracts of this crate, of crates/op_settle and of crates/op_groups. Assumes
--- nothing.
+-- plus 1, and 0 ends a list. Cited by the contracts of this crate, of crates/graph_simulation and of crates/op_groups.
+-- Assumes nothing.
 --   slotPlace   the place that a slot reads
 --   Chain       a slot is in the list that starts at another
 --   Fanout      what is promised: a gate's list has the slots that read it and no others, and lists descend

@@ -1,5 +1,5 @@
 -- The search's clock, and what the check of its answer finds position by position. Cited by the contracts of this crate
--- and of crates/graph_leaders. Assumes nothing.
+-- alone. Assumes nothing.
 --   clockEnd     the last time of a search
 --   StandingReady, LeftOne   the numbers of a search
 --   SameRooms    the lengths of its arrays

@@ -27,8 +27,8 @@ use Rattle.theory_fixpoint.proofs.Rounds.{afterRounds-settled}
 use Rattle.graph_gates.specs.Places.{firstInput, firstGate}
 use Rattle.graph_gates.specs.Graph.{network, Graph, Decoded}
 use Rattle.graph_gates.proofs.Network.{network-gates, network-count, rounds-gates, settled-gates}
-use Rattle.graph_ternary.specs.State.{Coded, inputsIn, stateIn}
-use Rattle.graph_ternary.proofs.Codes.{code-same}
+use Rattle.graph_simulation.specs.State.{Coded, inputsIn, stateIn}
+use Rattle.graph_simulation.proofs.Codes.{code-same}
 use Rattle.graph_simulation.specs.Rounded.{Prepared, PreparedFor, Starting, SettledIn}
 use Rattle.graph_simulation.specs.Changes.{definedFrom, Round, Turned}
 use Rattle.graph_simulation.proofs.Updates.{defined-same, code-at, length-stateIn, found-is}

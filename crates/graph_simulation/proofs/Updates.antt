@@ -35,9 +35,9 @@ use Rattle.graph_gates.specs.Graph.{slots, network, Graph}
 use Rattle.graph_gates.specs.Fanout.{Chain, Descends, Fanout}
 use Rattle.graph_gates.proofs.Network.{network-count}
 use Rattle.graph_gates.proofs.Chains.{chain-le, chain-step, chain-end, reading-below, reading-found}
-use Rattle.graph_ternary.specs.State.{Coded, inputsIn, stateIn, gateCode}
-use Rattle.graph_ternary.proofs.Codes.{code-most, code-same}
-use Rattle.graph_ternary.proofs.State.{evaluated-at}
+use Rattle.graph_simulation.specs.State.{Coded, inputsIn, stateIn, gateCode}
+use Rattle.graph_simulation.proofs.Codes.{code-most, code-same}
+use Rattle.graph_simulation.proofs.State.{evaluated-at}
 use Rattle.graph_simulation.specs.Rounded.{Unsettled}
 use Rattle.graph_simulation.specs.Changes.{definedFrom, QueuedIn, Done, Steady, UpdateReady, Updated, UpdatedOne}
 use Rattle.graph_simulation.specs.Changes.{UpdatedList, UpdatedAll, Pending}

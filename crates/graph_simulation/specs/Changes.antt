@@ -19,7 +19,7 @@ use Rattle.theory_fixpoint.specs.Order.{BelowAll}
 use Rattle.graph_gates.specs.Places.{firstGate}
 use Rattle.graph_gates.specs.Graph.{slots, network, Graph}
 use Rattle.graph_gates.specs.Fanout.{Chain, Descends}
-use Rattle.graph_ternary.specs.State.{Coded, inputsIn, stateIn, gateCode}
+use Rattle.graph_simulation.specs.State.{Coded, inputsIn, stateIn, gateCode}
 
 -- how many of the m codes from a place on are not 2, so 0 or 1
 unfoldable pub definedFrom : ℕ → List ℕ → ℕ → ℕ

@@ -16,7 +16,7 @@ use Rattle.netlist.specs.Rounds.{rounds, settled}
 use Rattle.graph_gates.specs.Places.{firstInput, firstGate, placeCount}
 use Rattle.graph_gates.specs.Graph.{network, Graph, Decoded}
 use Rattle.graph_gates.specs.Fanout.{Fanout}
-use Rattle.graph_ternary.specs.State.{Coded, inputsIn, stateIn}
+use Rattle.graph_simulation.specs.State.{Coded, inputsIn, stateIn}
 
 -- prepared for settling: the table of all gates, a graph of m gates and its fan-out
 pub record Prepared (m : ℕ) (table graph fanout : List ℕ) : Type 0 where

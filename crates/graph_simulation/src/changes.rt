@@ -2,15 +2,15 @@
 // gates that changed in the round before, as only their fan-out can change. `values` has the codes before the round, by
 // place, `found` gets the codes of the gates after it, and every gate that changes is put in the queue. A gate that is
 // 0 or 1 keeps its value, as gates are monotone, and is not evaluated again.
+use crate::gate::gate_value;
 use crate::round::UNDEFINED;
+use crate::table::GATE_ENTRIES;
 use graph_gates::FIRST_GATE;
 use graph_gates::GRAPH_WORDS;
 use graph_gates::PLACES;
 use graph_gates::SLOTS;
 use graph_gates::fanout::FANOUT_WORDS;
 use graph_gates::fanout::NEXT_AT;
-use graph_ternary::gate::gate_value;
-use graph_ternary::table::GATE_ENTRIES;
 use words_layout::limits::MAX_GATES;
 ghost use mathlib.Core.Path.{_≡_};
 ghost use Prim.Native.Nat.{_≤_, _<_};

@@ -3,12 +3,12 @@
 use crate::changes::Stretch;
 use crate::changes::next_round;
 use crate::changes::update_all;
+use crate::table::GATE_ENTRIES;
 use graph_gates::GRAPH_WORDS;
 use graph_gates::PLACES;
 use graph_gates::decode_gates;
 use graph_gates::fanout::FANOUT_WORDS;
 use graph_gates::fanout::link_slots;
-use graph_ternary::table::GATE_ENTRIES;
 use words_layout::limits::MAX_GATES;
 use words_layout::offsets::gates_of;
 ghost use mathlib.Core.Path.{_≡_};

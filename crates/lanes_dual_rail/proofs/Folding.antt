@@ -1,6 +1,5 @@
 -- A gate's value is found operand by operand: the three-valued rule of every kind is a fold of an operation of two
--- values. Pairs of words
--- are folded the same way, lane by lane (LaneLaws).
+-- values. Pairs of words are folded the same way, lane by lane (LaneLaws).
 --   both, either, differing   the operations of `and`, `or` and `xor`
 --   combinedValue             a kind's operation; foldedValue, finishedValue   its fold, and what is inverted at the
 --                             end

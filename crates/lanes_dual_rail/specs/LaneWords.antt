@@ -1,6 +1,5 @@
 -- Pairs in one array of words: word 2 × place + v has the lanes at which what stands at the place has value v. Cited by
--- the contracts of this crate and of
--- every crate that works on lanes.
+-- the contracts of this crate and of every crate that works on lanes.
 --   pairAt, putPair              the pair at a place, and the words with another one there
 --   inputsIn, gatesIn            the pairs of all inputs and of the first gates
 --   Filled                       the words of the two constants are there

@@ -24,10 +24,10 @@ use Rattle.theory_encoding.proofs.Decoded.{decode-inputCount}
 use Rattle.lanes_dual_rail.specs.Batches.{lanesOf}
 use Rattle.lanes_dual_rail.proofs.InputLaws.{lanesOf-most}
 use Rattle.lanes_dual_rail.specs.Words.{hasLane, Tells}
-use Rattle.lanes_nevers.specs.Nevers.{mayCome}
-use Rattle.lanes_masks.specs.Lanes.{Judged, isUndefinedAt, isUnsettled, isUnsound, undefinedWord}
+use Rattle.lanes_settings.specs.Nevers.{mayCome}
+use Rattle.lanes_settings.specs.Lanes.{Judged, isUndefinedAt, isUnsettled, isUnsound, undefinedWord}
 use Rattle.lanes_dual_rail.proofs.WordLaws.{tells-and, tells-no-lane, tells-some, tells-lowest}
-use Rattle.lanes_masks.proofs.OutputLaws.{undefined-tells, undefined-some, undefined-unsettled}
+use Rattle.lanes_settings.proofs.OutputLaws.{undefined-tells, undefined-some, undefined-unsettled}
 use Rattle.lanes_settings.specs.Batches.{FirstBatch}
 use Rattle.lanes_settings.proofs.Counting.{lowest-found}
 

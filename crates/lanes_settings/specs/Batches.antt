@@ -8,7 +8,7 @@ use Rattle.netlist.specs.StoredBlock.{decode}
 use Rattle.netlist.specs.Rounds.{isSoundAt}
 use Rattle.lanes_dual_rail.specs.Batches.{lanesOf}
 use Rattle.lanes_dual_rail.specs.LaneWords.{laneSize}
-use Rattle.lanes_masks.specs.Lanes.{Judged}
+use Rattle.lanes_settings.specs.Lanes.{Judged}
 
 -- r is the first setting of the first batch that has one which may come and is not settled, and the lanes hold that
 -- batch's settled values; or it is 2^n, where there is none

@@ -1,14 +1,14 @@
 // The lowest setting that may come and is not settled, by a block's plan: its graph and its gates in layers
 // (crates/lanes_batch).
+use crate::decided::judge_batch;
+use crate::nevers::coming_lanes;
+use crate::outputs::undefined_lanes;
 use crate::setting_count;
+use crate::settled::unsound_lanes;
 use graph_gates::GRAPH_WORDS;
 use lanes_dual_rail::LANE_WORDS;
 use lanes_dual_rail::words::lane_count;
 use lanes_dual_rail::words::lowest_lane;
-use lanes_masks::decided::judge_batch;
-use lanes_masks::outputs::undefined_lanes;
-use lanes_masks::settled::unsound_lanes;
-use lanes_nevers::coming_lanes;
 use words_layout::limits::MAX_GATES;
 use words_layout::offsets::inputs_of;
 use words_layout::offsets::outputs_at;

@@ -19,7 +19,7 @@ use Rattle.netlist.specs.Values.{undefined, val, code, valueOf}
 use Rattle.netlist.specs.Assignments.{bit}
 use Rattle.netlist.specs.Cells.{numberOfBits}
 use Rattle.theory_encoding.proofs.ListFacts.{getD-map}
-use Rattle.graph_ternary.proofs.Codes.{code-low}
+use Rattle.graph_simulation.proofs.Codes.{code-low}
 use Rattle.op_cells.specs.Runs.{Bits}
 
 pub bit-most : (m i : ℕ) → bit m i ≤ 1

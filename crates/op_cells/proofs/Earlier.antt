@@ -26,7 +26,7 @@ use Rattle.netlist.specs.Cells.{cellSize, cellsOf, cellCount, cellAt, Cell, isE
 use Rattle.theory_encoding.specs.Rules.{operandRule}
 use Rattle.theory_encoding.proofs.ListFacts.{all-tab, all-map}
 use Rattle.theory_encoding.proofs.WellFormed.{wellFormed-parts}
-use Rattle.words_gates.proofs.StraightLaws.{lower, lower-operand}
+use Rattle.words_block.proofs.StraightLaws.{lower, lower-operand}
 use Rattle.op_cells.proofs.Made.{operandFor, cellFor, cell-made, length-cellsOf, cellsOf-count}
 
 -- an operand that is there reads no gate but a lower one

@@ -1,7 +1,7 @@
 // Refusal 6 of a run (SPECIFICATION 7.16): which words are cells.
 use crate::CELL_SIZE;
 use netlist::Refusal;
-use words_gates::is_operand;
+use words_block::gates::is_operand;
 use words_layout::limits::MAX_GATES;
 use words_layout::limits::MAX_INPUTS;
 use words_layout::offsets::OPERAND_WORDS;

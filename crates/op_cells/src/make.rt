@@ -19,7 +19,7 @@ ghost use lib.ListN.{length, getD};
 ghost use Rattle.prelude.specs.Lists.{placed};
 ghost use Rattle.netlist.specs.StoredBlock.{operandWords, decode, isMalformed};
 ghost use Rattle.netlist.specs.Cells.{cellSize, cellsOf};
-ghost use Rattle.graph_ternary.specs.Legal.{LegalHead};
+ghost use Rattle.graph_simulation.specs.Legal.{LegalHead};
 ghost use Rattle.op_cells.specs.Made.{cellWordAt, cellPut};
 ghost use Rattle.op_cells.specs.Promise.{CellsPromise};
 

@@ -1,6 +1,5 @@
 -- Compare answers by the two sentences of the definitions: accepted exactly when all outputs agree under every settled
--- setting of ours, and a
--- disagreement is the lowest. Assumes nothing.
+-- setting of ours, and a disagreement is the lowest. Assumes nothing.
 use mathlib.Core.Path.{_≡_, refl, ap}
 use mathlib.Core.Logic.{⊎-elim}
 use mathlib.Core.Bool.{true, false, cond, not}

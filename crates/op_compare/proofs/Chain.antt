@@ -11,7 +11,7 @@ use Rattle.netlist.specs.Rendering.{isStraight}
 use Rattle.netlist.specs.Answers.{refuseIf}
 use Rattle.netlist.specs.Compare.{sameInterface, compareBlocks, compare}
 use Rattle.op_compare.specs.Ready.{BlockPair}
-use Rattle.words_interface.proofs.Interfaces.{interface-inputs, interface-outputs}
+use Rattle.op_compare.proofs.Interfaces.{interface-inputs, interface-outputs}
 
 module _ (ours theirs : List ℕ) where
   pub compare-chain : compare ours theirs

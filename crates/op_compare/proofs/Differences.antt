@@ -34,7 +34,7 @@ use Rattle.lanes_dual_rail.proofs.InputLaws.{lanesOf-most}
 use Rattle.lanes_dual_rail.specs.Words.{hasLane, Tells}
 use Rattle.lanes_dual_rail.proofs.WordLaws.{tells-as, tells-none, tells-and, tells-or, tells-no-lane, tells-some}
 use Rattle.lanes_dual_rail.proofs.WordLaws.{tells-lowest}
-use Rattle.lanes_masks.proofs.OutputLaws.{output-proper, output-lane, any-first}
+use Rattle.lanes_settings.proofs.OutputLaws.{output-proper, output-lane, any-first}
 use Rattle.op_compare.specs.Words.{differingIn, portPair, differingWord, differingWords, differsAt}
 use Rattle.lanes_settings.proofs.Batching.{Place, batch-more}
 use Rattle.op_compare.specs.Ready.{BothJudged}

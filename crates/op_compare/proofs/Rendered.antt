@@ -25,7 +25,7 @@ use Rattle.theory_encoding.proofs.RoundTrip.{decode-encode, whole-wellFormed, e
 use Rattle.theory_fixpoint.proofs.Sweep.{sweep-settled}
 use Rattle.theory_unrolling.proofs.Block.{rendering-inputs, rendering-ports, rendering-straight, rendering-wellFormed}
 use Rattle.theory_unrolling.proofs.Agreement.{outputs-agree}
-use Rattle.words_interface.proofs.Interfaces.{eq-sameNames}
+use Rattle.op_compare.proofs.Interfaces.{eq-sameNames}
 use Rattle.op_compare.proofs.Accepted.{accepted-from}
 
 module _ (b : Block) where

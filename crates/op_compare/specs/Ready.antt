@@ -8,7 +8,7 @@ use lib.ListN.{getD}
 use Rattle.netlist.specs.StoredBlock.{decode, isMalformed}
 use Rattle.netlist.specs.Rendering.{isStraight}
 use Rattle.lanes_batch.specs.Layered.{Planned, StraightPlanned}
-use Rattle.lanes_masks.specs.Lanes.{Judged}
+use Rattle.lanes_settings.specs.Lanes.{Judged}
 
 -- both blocks are whole, theirs is straight, and they have as many inputs and outputs
 pub record BlockPair (ours theirs : List ℕ) : Type 0 where

@@ -11,7 +11,7 @@ use lib.ListN.{getD}
 use Rattle.netlist.specs.StoredBlock.{outputsAt}
 use Rattle.lanes_dual_rail.specs.declared.Pair.{Pair}
 use Rattle.lanes_dual_rail.specs.Words.{hasLane}
-use Rattle.lanes_masks.specs.Lanes.{outputPair}
+use Rattle.lanes_settings.specs.Lanes.{outputPair}
 
 unfoldable pub differingIn : Pair → Pair → ℕ
 differingIn p q = bitOr (bitXor (p .zeros) (q .zeros)) (bitXor (p .ones) (q .ones))

@@ -1,11 +1,12 @@
 // Compare (SPECIFICATION 7.13), an equivalence check by exhaustive simulation: is a loop-free block that was made
-// elsewhere as good as the original?
+// elsewhere as good as the original? Behind 6 and 10 the two interfaces must be the same (12, `interface`); then the
+// settings are searched, up to 64 at a time, for the lowest under which an output differs (`settings`, `outputs`).
+use crate::interface::check_interface;
 use graph_gates::GRAPH_WORDS;
 use lanes_dual_rail::LANE_WORDS;
 use netlist::Answer;
 use words_block::check_straight;
 use words_block::check_words;
-use words_interface::check_interface;
 use words_layout::limits::MAX_GATES;
 use words_refusals::Test;
 use words_refusals::refusal;
@@ -15,8 +16,9 @@ ghost use Rattle.netlist.specs.Answers.{answerOf, Told};
 ghost use Rattle.netlist.specs.Compare.{compareBlocks, compare as compareOf};
 ghost use Rattle.op_compare.specs.Ready.{BlockPair};
 
-pub mod outputs;
-pub mod settings;
+mod interface;
+mod outputs;
+mod settings;
 
 // Compare of two blocks that passed the tests: makes room for a plan of ours, a graph of theirs, and two words a place
 // of each.

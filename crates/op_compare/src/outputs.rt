@@ -1,7 +1,7 @@
 // Where the outputs of two blocks of n inputs differ, from the pairs of each block in a batch: `lanes` of ours,
 // `others` of theirs.
 use lanes_dual_rail::LANE_WORDS;
-use lanes_masks::outputs::output_pair;
+use lanes_settings::outputs::output_pair;
 use words_layout::offsets::outputs_at;
 use words_layout::offsets::outputs_of;
 ghost use mathlib.Core.Path.{_≡_};

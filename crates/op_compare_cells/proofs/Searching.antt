@@ -26,12 +26,12 @@ use Rattle.lanes_dual_rail.specs.Batches.{lanesOf}
 use Rattle.lanes_dual_rail.proofs.InputLaws.{lanesOf-most}
 use Rattle.lanes_dual_rail.specs.Words.{hasLane, Tells}
 use Rattle.lanes_dual_rail.proofs.WordLaws.{tells-no-lane, tells-some, tells-lowest}
-use Rattle.lanes_masks.specs.Lanes.{Judged}
+use Rattle.lanes_settings.specs.Lanes.{Judged}
 use Rattle.lanes_settings.proofs.Batching.{Place, batch-more}
-use Rattle.lanes_cells.specs.Table.{countIn, tableCells, CellTable}
-use Rattle.lanes_cells.specs.CellLanes.{Evaluated}
-use Rattle.lanes_miter.specs.Words.{ListReady, differsAt, Listed, Marks}
-use Rattle.lanes_miter.proofs.Differences.{listed-place, lowest-there, search-accepted, search-found}
+use Rattle.op_compare_cells.specs.Table.{countIn, tableCells, CellTable}
+use Rattle.op_compare_cells.specs.CellLanes.{Evaluated}
+use Rattle.op_compare_cells.specs.Words.{ListReady, differsAt, Listed, Marks}
+use Rattle.op_compare_cells.proofs.Differences.{listed-place, lowest-there, search-accepted, search-found}
 use Rattle.op_compare_cells.specs.Ready.{Comparable, SearchReady}
 use Rattle.op_compare_cells.specs.Found.{Agreed, Found}
 

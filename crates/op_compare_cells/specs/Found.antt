@@ -1,5 +1,5 @@
--- What the search over all settings tells, whichever cells the table is of. Cited by
--- crates/op_compare_cells/src/settings.rt. Assumes nothing.
+-- What the search over all settings tells, whichever cells the table is of. Cited by the contracts of `settings`.
+-- Assumes nothing.
 --   Agreed      no setting below a number disagrees
 --   Found       the answer
 use mathlib.Core.Path.{_≡_}
@@ -11,7 +11,7 @@ use Rattle.netlist.specs.declared.Answer.{Answer}
 use Rattle.netlist.specs.StoredBlock.{decode}
 use Rattle.netlist.specs.Answers.{answerOf}
 use Rattle.netlist.specs.CompareCells.{cellsDisagree, compareBlockCells}
-use Rattle.lanes_cells.specs.Table.{CellTable}
+use Rattle.op_compare_cells.specs.Table.{CellTable}
 
 pub record Agreed (ws shown table : List ℕ) (base : ℕ) : Type 0 where
   pub none : (cells : List ℕ) → CellTable (getD ws 0 0) cells table → (i : ℕ) → i < base

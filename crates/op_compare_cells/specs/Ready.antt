@@ -10,8 +10,8 @@ use lib.ListN.{length, getD}
 use lib.Dec.{ltb}
 use Rattle.netlist.specs.StoredBlock.{isMalformed}
 use Rattle.netlist.specs.Cells.{cellCount, areLegalCells}
-use Rattle.lanes_cells.specs.Table.{countIn, EarlierPlaces}
-use Rattle.lanes_miter.specs.Words.{ListReady}
+use Rattle.op_compare_cells.specs.Table.{countIn, EarlierPlaces}
+use Rattle.op_compare_cells.specs.Words.{ListReady}
 
 unfoldable pub isBelow : ℕ → ℕ → Bool
 isBelow nodes w = ltb w nodes

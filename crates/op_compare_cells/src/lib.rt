@@ -1,10 +1,12 @@
 // CompareCells (SPECIFICATION 7.19), an equivalence check by exhaustive simulation: are lookup cells that were made
-// elsewhere as good as the original block?
+// elsewhere as good as the original block? The cells are decoded once (`table`) and evaluated under up to 64 settings
+// at a time (`evaluate`, `choice`): a cell has two values, so one word a place is enough, bit s for setting s. A
+// `miter` tells where an output and the node listed for it differ.
+use crate::table::TABLE_WORDS;
+use crate::table::decode_cells;
 use graph_gates::GRAPH_WORDS;
 use graph_gates::PLACES;
 use lanes_batch::plan::plan_block;
-use lanes_cells::table::TABLE_WORDS;
-use lanes_cells::table::decode_cells;
 use lanes_dual_rail::LANE_WORDS;
 use netlist::Answer;
 use op_cells::legal::check_cells;
@@ -20,8 +22,12 @@ ghost use Rattle.netlist.specs.CompareCells.{compareBlockCells, compareCells};
 ghost use Rattle.lanes_batch.specs.Layered.{Planned};
 ghost use Rattle.op_compare_cells.specs.Ready.{Comparable};
 
-pub mod list;
-pub mod settings;
+mod choice;
+mod evaluate;
+mod list;
+mod miter;
+mod settings;
+mod table;
 
 // CompareCells of a block whose plan is made: room for the cells' table, for two words a place of the block, and for
 // one a place of the cells.

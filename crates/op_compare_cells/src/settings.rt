@@ -1,14 +1,14 @@
 // The search for the lowest setting under which a block and cells disagree, a batch of up to 64 at a time.
+use crate::evaluate::evaluate_cells;
+use crate::miter::disagreeing_lanes;
+use crate::miter::lowest_differing;
+use crate::table::TABLE_WORDS;
 use graph_gates::GRAPH_WORDS;
 use graph_gates::PLACES;
-use lanes_cells::evaluate::evaluate_cells;
-use lanes_cells::table::TABLE_WORDS;
 use lanes_dual_rail::LANE_WORDS;
 use lanes_dual_rail::words::lane_count;
 use lanes_dual_rail::words::lowest_lane;
-use lanes_masks::decided::judge_batch;
-use lanes_miter::disagreeing_lanes;
-use lanes_miter::lowest_differing;
+use lanes_settings::decided::judge_batch;
 use lanes_settings::setting_count;
 use netlist::Answer;
 use words_layout::limits::MAX_GATES;

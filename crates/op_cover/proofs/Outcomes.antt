@@ -26,7 +26,7 @@ use Rattle.theory_cover.specs.Over.{coverOver}
 use Rattle.theory_cover.specs.Tables.{settledBy}
 use Rattle.theory_cover.specs.Entries.{EntriesWritten}
 use Rattle.theory_cover.proofs.Blocks.{coverEntries-words, cover-from}
-use Rattle.cover_implicants.proofs.Listing.{length-words}
+use Rattle.op_cover.proofs.Listing.{length-words}
 use Rattle.op_cover.specs.Table.{Tabulated}
 
 -- two words an entry

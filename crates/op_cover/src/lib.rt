@@ -1,6 +1,7 @@
 // Cover (SPECIFICATION 4, 7.7): the sound partial assignments from which no single fixed input can be dropped. They are
-// the prime implicants of "settled or never comes", where settings that never come are don't-cares.
-use cover_implicants::cover_entries;
+// the prime implicants of "settled or never comes", where settings that never come are don't-cares. Each setting is
+// decided once, into a table (`table`); `implicants` and the modules that it calls find the entries in it.
+use crate::implicants::cover_entries;
 use graph_gates::GRAPH_WORDS;
 use lanes_dual_rail::LANE_WORDS;
 use netlist::Answer;
@@ -20,7 +21,13 @@ ghost use Rattle.netlist.specs.StoredBlock.{isMalformed};
 ghost use Rattle.netlist.specs.Operations.{coverOf};
 ghost use Rattle.op_cover.specs.Table.{CoverRoom};
 
+mod entries;
+mod everywhere;
+mod implicants;
+mod minimal;
+mod pairs;
 mod table;
+mod tables;
 
 // Cover of a block that is not torn, with arrays for its graph, its gates in layers, two words a place, and a byte a
 // setting. `cover_entries` alters nothing where the entries' words, two an entry, do not fit.

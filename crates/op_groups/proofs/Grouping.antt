@@ -15,8 +15,8 @@ use lib.Dec.{eqb, ltb}
 use borrow.Author.Tests.{eq-eqb, ne-eqb, lt-ltb, le-ltb}
 use Rattle.prelude.proofs.Tests.{eq-or-ne, lt-or-le}
 use Rattle.netlist.specs.Limits.{maxGates}
-use Rattle.graph_links.specs.Links.{FirstFrom}
-use Rattle.graph_links.proofs.Linking.{next-above}
+use Rattle.op_groups.specs.Links.{FirstFrom}
+use Rattle.op_groups.proofs.Linking.{next-above}
 use Rattle.op_groups.specs.Numbering.{noNumber, unnumbered}
 use Rattle.op_groups.specs.Ready.{Removed}
 use Rattle.op_groups.specs.Waiting.{allOpen, Waiting, CountDownAllReady, NumberGroupReady, GroupNumbered}

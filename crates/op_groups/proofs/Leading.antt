@@ -20,7 +20,7 @@ use Rattle.theory_reach.proofs.Next.{ready-reads, ready-intro, mayBeNext-intro,
 use Rattle.graph_gates.specs.Graph.{network}
 use Rattle.graph_gates.proofs.Network.{network-count}
 use Rattle.graph_scc.proofs.Slots.{read-inside}
-use Rattle.graph_leaders.proofs.Leader.{leaders-same, leader-le, leader-same}
+use Rattle.graph_scc.proofs.Leader.{leaders-same, leader-le, leader-same}
 use Rattle.op_groups.specs.Numbering.{unnumbered, numberedGates, NumberReady}
 
 -- the numbered gates are those that are not unnumbered

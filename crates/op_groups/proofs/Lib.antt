@@ -1,4 +1,5 @@
--- Mathematics of numbering; no function of src/ is named.
+-- Mathematics of links and of numbering; no function of src/ is named.
+pub mod Linking
 pub mod Sets
 pub mod Leading
 pub mod Counted

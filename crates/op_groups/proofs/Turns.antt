@@ -15,7 +15,7 @@ use borrow.Author.Tests.{eq-eqb, lt-ltb, le-ltb}
 use Rattle.prelude.specs.Lists.{tab, placed, joined, member, least}
 use Rattle.prelude.proofs.Tests.{not-both, lt-or-le}
 use Rattle.prelude.proofs.Tab.{tab-ext, length-tab, getD-tab, placed-tab}
-use Rattle.graph_links.specs.Links.{Linked}
+use Rattle.op_groups.specs.Links.{Linked}
 use Rattle.netlist.specs.Limits.{maxGates}
 use Rattle.netlist.specs.Netlist.{Block, gateCount}
 use Rattle.netlist.specs.Groups.{sameGroup, groupOf, groups, groupNumber, groupNumbers}

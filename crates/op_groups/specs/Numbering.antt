@@ -15,7 +15,7 @@ use Rattle.netlist.specs.Limits.{maxGates}
 use Rattle.netlist.specs.Netlist.{Block}
 use Rattle.netlist.specs.Groups.{mayBeNext, groups, groupNumber, groupNumbers}
 use Rattle.graph_gates.specs.Graph.{network, Graph}
-use Rattle.graph_leaders.specs.Leaders.{Leads}
+use Rattle.graph_scc.specs.Leaders.{Leads}
 
 -- the code's words_layout::nodes::NONE
 abbrev pub noNumber : ℕ

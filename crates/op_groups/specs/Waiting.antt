@@ -14,7 +14,7 @@ use lib.ListN.{length, getD}
 use lib.Dec.{eqb, ltb, leb}
 use Rattle.prelude.specs.Lists.{countBelow}
 use Rattle.netlist.specs.Limits.{maxGates}
-use Rattle.graph_links.specs.Links.{FirstFrom}
+use Rattle.op_groups.specs.Links.{FirstFrom}
 use Rattle.graph_gates.specs.Places.{firstGate}
 use Rattle.graph_gates.specs.Graph.{slots, Graph}
 use Rattle.graph_gates.specs.Fanout.{slotPlace, Fanout, Empty}

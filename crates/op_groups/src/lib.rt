@@ -1,4 +1,6 @@
-// Groups (SPECIFICATION 5 and 7.8): each gate's place in the order of the strongly connected groups.
+// Groups (SPECIFICATION 5 and 7.8): each gate's place in the order of the strongly connected groups, by Kahn's
+// algorithm on the leaders that crates/graph_scc finds. `links` makes the lists of the gates of each group, here and
+// for whoever puts gates in the order of their groups.
 use crate::assign::assign;
 use netlist::Answer;
 use words_block::check_words;
@@ -11,6 +13,7 @@ ghost use Rattle.netlist.specs.Answers.{Promise};
 ghost use Rattle.netlist.specs.Operations.{groupsOf};
 
 pub mod assign;
+pub mod links;
 pub mod numbering;
 mod ready;
 mod waiting;

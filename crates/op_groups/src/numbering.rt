@@ -1,5 +1,6 @@
 // Topological order of the strongly connected groups by Kahn's algorithm ("Topological sorting of large networks",
 // 1962): of the groups that read no gate without a number outside themselves, the one with the lowest gate is next.
+use crate::links::link;
 use crate::ready::READY_WORDS;
 use crate::ready::lowest;
 use crate::ready::remove;
@@ -9,8 +10,7 @@ use crate::waiting::count_slots;
 use graph_gates::GRAPH_WORDS;
 use graph_gates::fanout::FANOUT_WORDS;
 use graph_gates::fanout::link_slots;
-use graph_leaders::leaders::lead;
-use graph_links::link;
+use graph_scc::leaders::lead;
 use graph_scc::words::word_of;
 use words_layout::fill::fill_words;
 use words_layout::limits::MAX_GATES;

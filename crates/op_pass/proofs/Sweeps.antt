@@ -22,9 +22,9 @@ use Rattle.theory_fixpoint.proofs.Sweep.{length-sweep, getD-sweep}
 use Rattle.graph_gates.specs.Places.{firstGate}
 use Rattle.graph_gates.specs.Graph.{network, Graph, Decoded}
 use Rattle.graph_gates.proofs.Network.{network-gates, network-count}
-use Rattle.graph_ternary.specs.State.{Coded, inputsIn, stateIn, gateCode}
-use Rattle.graph_ternary.proofs.Codes.{code-most}
-use Rattle.graph_ternary.proofs.State.{evaluated-at}
+use Rattle.graph_simulation.specs.State.{Coded, inputsIn, stateIn, gateCode}
+use Rattle.graph_simulation.proofs.Codes.{code-most}
+use Rattle.graph_simulation.proofs.State.{evaluated-at}
 use Rattle.graph_simulation.specs.Rounded.{Unsettled, Starting}
 use Rattle.op_pass.specs.Swept.{SweptIn, sweepCodes}
 use Rattle.graph_simulation.proofs.Updates.{state-at, length-stateIn, inputs-same}

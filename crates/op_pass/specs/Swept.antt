@@ -6,7 +6,7 @@ use Rattle.netlist.specs.Values.{code, valueOf}
 use Rattle.netlist.specs.StoredBlock.{decode}
 use Rattle.netlist.specs.Rendering.{sweep}
 use Rattle.graph_gates.specs.Graph.{network}
-use Rattle.graph_ternary.specs.State.{Coded, inputsIn, stateIn}
+use Rattle.graph_simulation.specs.State.{Coded, inputsIn, stateIn}
 
 -- the inputs are as they were, and the gates have the values of one sweep
 pub record SweptIn (m : ℕ) (graph values values′ : List ℕ) : Type 0 where

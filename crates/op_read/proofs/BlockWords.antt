@@ -19,9 +19,9 @@ use Rattle.netlist.specs.Reading.{blockOf}
 use Rattle.theory_encoding.proofs.ListFacts.{length-joined}
 use Rattle.theory_encoding.proofs.Gates.{length-gateWords}
 use Rattle.theory_encoding.proofs.Outputs.{length-outputWords}
-use Rattle.text_counts.specs.declared.Counts.{Counts}
+use Rattle.text_lines.specs.declared.counts.Counts.{Counts}
 use Rattle.text_names.specs.Packed.{packed}
-use Rattle.text_counts.specs.Counting.{treeCounts}
+use Rattle.text_lines.specs.Counting.{treeCounts}
 use Rattle.text_symbols.specs.Results.{declared, packedNames}
 use Rattle.text_names.proofs.LegalNames.{name-bytes}
 use Rattle.text_lines.proofs.TreeLines.{legal-parts}

@@ -28,12 +28,12 @@ use Rattle.words_refusals.specs.Tests.{testOf, testAt, refusalOf}
 use Rattle.netlist.specs.Operations.{read}
 use Rattle.theory_grammar.proofs.Places.{print-measure}
 use Rattle.theory_grammar.proofs.Limits.{limits-within}
-use Rattle.text_counts.specs.declared.Counts.{Counts}
+use Rattle.text_lines.specs.declared.counts.Counts.{Counts}
 use Rattle.text_names.specs.Packed.{packed}
 use Rattle.text_symbols.specs.Tables.{tableSize}
 use Rattle.text_names.specs.Index.{hashes}
 use Rattle.text_lines.specs.Trees.{TextOf}
-use Rattle.text_counts.specs.Counting.{treeCounts}
+use Rattle.text_lines.specs.Counting.{treeCounts}
 use Rattle.text_symbols.specs.Results.{declared, packedNames, Declared, TableRoom, Filled, declaredTwice, Repeats}
 use Rattle.text_symbols.specs.Results.{IndexReady, NodesIndexed}
 use Rattle.text_symbols.proofs.Room.{node-room, table-room}

@@ -11,9 +11,9 @@ use Rattle.netlist.specs.StoredBlock.{neverWords, gateWords, outputWords}
 use Rattle.netlist.specs.Syntax.{Tree}
 use Rattle.netlist.specs.Reading.{isOverLimit, gateLinesAt, firstDuplicate, excludedNames, firstOutside}
 use Rattle.netlist.specs.Reading.{firstUndeclared, blockOf}
-use Rattle.text_counts.specs.declared.Counts.{Counts}
+use Rattle.text_lines.specs.declared.counts.Counts.{Counts}
 use Rattle.text_lines.specs.Trees.{TextOf}
-use Rattle.text_counts.specs.Counting.{treeCounts}
+use Rattle.text_lines.specs.Counting.{treeCounts}
 use Rattle.text_symbols.specs.Results.{declared, packedNames, NodesIndexed}
 use Rattle.text_expressions.specs.Resolution.{TreeAt}
 use Rattle.text_constraints.specs.declared.NeverTold.{NeverTold}

@@ -1,6 +1,5 @@
 -- The definition of Render meets its whole promise: from the theory of rendering (crate `theory_unrolling`) and of the
--- stored block (`theory_encoding`).
--- Assumes nothing.
+-- stored block (`theory_encoding`). Assumes nothing.
 use mathlib.Core.Path.{_≡_, refl, sym}
 use mathlib.Core.Logic.{⊎-elim}
 use mathlib.Core.Bool.{Bool, true, false, cond, not, _||_, false≢true}
@@ -33,7 +32,7 @@ use Rattle.theory_unrolling.proofs.Block.{rendering-ports, rendering-wellFormed
 use Rattle.theory_unrolling.proofs.Agreement.{sound-outputs-agree}
 use Rattle.theory_cover.proofs.Blocks.{lowest-sound}
 use Rattle.op_render.specs.Promise.{portOf, Renders, LowestOf, renderNumber, RenderPromise}
-use Rattle.unroll_steps.proofs.Cases.{renderBy, render-by}
+use Rattle.op_render.proofs.Cases.{renderBy, render-by}
 
 -- what is rendered when the block is whole, sound, and has few enough copies
 pub rendered-so : (ws : List ℕ) → isMalformed ws ≡ false → copyCount (decode ws) ≤ maxCopies

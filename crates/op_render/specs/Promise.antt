@@ -1,6 +1,5 @@
 -- Render's promise (SPECIFICATION 6 and 7.9), as one record over every slice of words and every slice for the result.
--- `promise-holds` in
--- proofs/Promise.antt shows that the definition of Render meets it.
+-- `promise-holds` in proofs/Promise.antt shows that the definition of Render meets it.
 use Prim.Native.Nat.{ℕ, _<_}
 use mathlib.Core.Path.{_≡_}
 use mathlib.Core.Bool.{true, false, cond, not}
@@ -23,10 +22,9 @@ unfoldable pub portOf : Output → Name
 portOf o = o .port
 
 -- The words `out` render the block of the words `ws`: they are the rendering's, word for word; what they hold is
--- straight, has as many gates
--- as there are copies, the original's input names, never lines and ports, and under every setting that isn't excluded
--- the outputs' values,
--- read from one sweep, are those of the settled original, output by output.
+-- straight, has as many gates as there are copies, the original's input names, never lines and ports, and under every
+-- setting that isn't excluded the outputs' values, read from one sweep, are those of the settled original, output by
+-- output.
 pub record Renders (ws out : List ℕ) : Type 0 where
   pub wordForWord : out ≡ encode (rendering (decode ws))
   pub notTorn : isMalformed out ≡ false

@@ -1,11 +1,13 @@
-// Render (SPECIFICATION 7.9): the loop-free rendering of a block. specs/Promise.antt states the whole claim.
+// Render (SPECIFICATION 7.9): the loop-free rendering of a block, in its steps: the plan and the list of groups
+// (`listing`), the walk over settings (crates/unroll_depth), which tells of 8 and 9, and behind these the room (11) and
+// the rendered block's words (`writing`). specs/Promise.antt states the whole claim.
+use crate::listing::list_block;
+use crate::writing::finish;
+use crate::writing::test_settings;
 use graph_gates::GRAPH_WORDS;
 use netlist::Answer;
 use netlist::Refusal;
 use unroll_depth::walk::walk_batches;
-use unroll_steps::listing::list_block;
-use unroll_steps::writing::finish;
-use unroll_steps::writing::test_settings;
 use words_block::check_words;
 use words_layout::limits::MAX_GATES;
 use words_refusals::Test;
@@ -16,8 +18,11 @@ ghost use lib.ListN.{length};
 ghost use Rattle.netlist.specs.Limits.{maxGates};
 ghost use Rattle.netlist.specs.Answers.{Promise};
 ghost use Rattle.netlist.specs.Operations.{render as renderOf};
-ghost use Rattle.unroll_steps.specs.Steps.{ListRoom};
+ghost use Rattle.op_render.specs.Steps.{ListRoom};
 ghost use Rattle.op_render.specs.Promise.{RenderPromise};
+
+mod listing;
+mod writing;
 
 // Render of a block that is not malformed.
 fn render_with(

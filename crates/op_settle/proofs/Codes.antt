@@ -6,7 +6,7 @@ use Prim.Native.Nat.{ℕ, _+_, _*_, _<_}
 use lib.ListN.{getD}
 use Rattle.netlist.specs.StoredBlock.{isMalformed, gatesAt, gateSize}
 use Rattle.theory_encoding.proofs.Readers.{whole-gate}
-use Rattle.graph_ternary.specs.Legal.{LegalHead}
+use Rattle.graph_simulation.specs.Legal.{LegalHead}
 
 pub legal-head : (ws : List ℕ) (j : ℕ) → isMalformed ws ≡ false → j < getD ws 1 0
     → LegalHead ws (gatesAt (getD ws 0 0) (getD ws 3 0) + gateSize * j)

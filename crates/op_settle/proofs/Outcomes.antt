@@ -16,7 +16,7 @@ use Rattle.theory_encoding.proofs.Decoded.{decode-gateCount}
 use Rattle.theory_fixpoint.proofs.Rounds.{length-settled}
 use Rattle.graph_gates.specs.Places.{firstGate}
 use Rattle.graph_gates.specs.Graph.{Decoded}
-use Rattle.graph_ternary.specs.State.{stateIn}
+use Rattle.graph_simulation.specs.State.{stateIn}
 use Rattle.graph_simulation.specs.Rounded.{Starting, SettledIn}
 use Rattle.graph_simulation.proofs.Rounds.{settled-of, rounds-of, state-codes}
 use Rattle.op_settle.specs.Settled.{Settled}

@@ -1,4 +1,8 @@
--- The laws that the proofs of this crate cite, and the theorem on calls one after another.
+-- Laws of records side by side in lanes and of the turns of a call, and the theorem that a sheet is one call of Settle
+-- after another.
+pub mod SideLaws
+pub mod SettledLaws
+pub mod LaneRecordLaws
 pub mod MaskLaws
 pub mod RecordLaws
 pub mod TurnLaws

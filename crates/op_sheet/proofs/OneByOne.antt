@@ -31,8 +31,7 @@ readOff b fixed ones setting (refused why) =
     record { fixed = fixed; ones = ones; number = refusalNumber why; defined = 0; values = 0 }
 
 -- One call of Settle for one record: with the bytes that its masks stand for, and room for the values. Masks that stand
--- for no setting
--- are 7 without a call.
+-- for no setting are 7 without a call.
 unfoldable pub oneCall : List ℕ → ℕ → Record → Record
 oneCall ws room r =
     cond (isBadMasks (inputCount (decode ws)) (r .fixed) (r .ones)) (refusedRecord (r .fixed) (r .ones))

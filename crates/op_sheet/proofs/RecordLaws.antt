@@ -11,7 +11,7 @@ use Rattle.netlist.specs.Assignments.{areMasks}
 use Rattle.netlist.specs.Answers.{done, refuseIf, answerOf}
 use Rattle.netlist.specs.Sheet.{isBadMasks, showing, refusedRecord, recordOf, sheet}
 use Rattle.theory_encoding.proofs.Decoded.{decode-inputCount}
-use Rattle.lanes_records.specs.Side.{shownAt, ShownFor}
+use Rattle.op_sheet.specs.Records.{shownAt, ShownFor}
 
 -- ---- the call
 

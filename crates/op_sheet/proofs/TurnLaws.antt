@@ -8,7 +8,7 @@ use native.Mathlib.Omega.{arith}
 use lib.ListN.{length, set, length-set}
 use Rattle.netlist.specs.declared.Record.{Record}
 use Rattle.op_sheet.specs.declared.turns.Batch.{Batch}
-use Rattle.lanes_records.specs.Side.{SettledLanes}
+use Rattle.op_sheet.specs.Records.{SettledLanes}
 use Rattle.op_sheet.specs.Side.{Room}
 use Rattle.op_sheet.specs.Order.{sizeAt, BatchAdvanced}
 

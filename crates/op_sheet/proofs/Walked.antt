@@ -22,7 +22,7 @@ use Rattle.netlist.specs.StoredBlock.{decode, isMalformed}
 use Rattle.netlist.specs.Answers.{countOf, answerOf, Shows}
 use Rattle.netlist.specs.Sheet.{answeredRecord, sheetRecords, sheet}
 use Rattle.op_sheet.specs.declared.turns.Batch.{Batch}
-use Rattle.lanes_records.specs.Side.{SettledLanes}
+use Rattle.op_sheet.specs.Records.{SettledLanes}
 use Rattle.op_sheet.specs.Side.{Room}
 use Rattle.op_sheet.specs.Order.{sizeAt, readsAt, recordAt, BatchAdvanced, Answerable, turned}
 use Rattle.op_sheet.proofs.RecordLaws.{sheet-malformed, sheet-done}

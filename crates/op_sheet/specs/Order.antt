@@ -14,7 +14,7 @@ use Rattle.netlist.specs.declared.Record.{Record}
 use Rattle.netlist.specs.StoredBlock.{decode, isMalformed}
 use Rattle.netlist.specs.Sheet.{answeredRecord}
 use Rattle.op_sheet.specs.declared.turns.Batch.{Batch}
-use Rattle.lanes_records.specs.Side.{ShownFor, SettledLanes}
+use Rattle.op_sheet.specs.Records.{ShownFor, SettledLanes}
 use Rattle.op_sheet.specs.Side.{Room}
 
 -- the smaller of 64 and how many records are left

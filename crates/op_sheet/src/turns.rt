@@ -1,9 +1,9 @@
 // The turns of a call, two for each record: up to LANES records are read one after the other, at the last of them they
 // are settled, and then they are answered one after the other.
-use lanes_records::LANES;
-use lanes_records::outputs::SHOWN_WORDS;
-use lanes_records::outputs::show_lane;
-use lanes_records::settling::settle_records;
+use crate::outputs::SHOWN_WORDS;
+use crate::outputs::show_lane;
+use crate::records::LANES;
+use crate::settling::settle_records;
 use netlist::Record;
 use netlist::Refusal;
 use words_layout::masks::are_masks;

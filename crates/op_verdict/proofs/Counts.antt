@@ -14,7 +14,7 @@ use Rattle.prelude.proofs.Counting.{countBelow-le, countBelow-ext}
 use Rattle.netlist.specs.Limits.{maxInputs}
 use Rattle.netlist.specs.Netlist.{Block}
 use Rattle.netlist.specs.Rounds.{settingCount, isSettled, isExcluded, isCounted, isSoundAt, settledSettings}
-use Rattle.lanes_nevers.specs.Nevers.{mayCome}
+use Rattle.lanes_settings.specs.Nevers.{mayCome}
 use Rattle.lanes_settings.specs.Batches.{FirstBatch}
 use Rattle.lanes_settings.proofs.Counting.{few-settings}
 use Rattle.lanes_settings.proofs.Batching.{Place}

@@ -11,7 +11,7 @@ use Rattle.netlist.specs.Rounds.{isCounted, isSoundAt}
 use Rattle.words_layout.specs.Bounds.{countRoom}
 use Rattle.lanes_dual_rail.specs.Batches.{lanesOf}
 use Rattle.lanes_dual_rail.specs.LaneWords.{laneSize}
-use Rattle.lanes_masks.specs.Lanes.{Judged}
+use Rattle.lanes_settings.specs.Lanes.{Judged}
 
 -- no setting below `first` may come and is not settled, and where the batch at `base` is the one at `first`, the lanes
 -- hold its settled values

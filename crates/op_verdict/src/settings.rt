@@ -1,16 +1,15 @@
 // How many settings that may come are settled, a batch of up to 64 at a time, by a block's plan: its graph and its
-// gates
-// in layers (crates/lanes_batch).
+// gates in layers (crates/lanes_batch).
 use graph_gates::GRAPH_WORDS;
 use lanes_dual_rail::LANE_WORDS;
 use lanes_dual_rail::words::count_lanes;
 use lanes_dual_rail::words::lane_count;
-use lanes_masks::decided::judge_batch;
-use lanes_masks::settled::counted_lanes;
-use lanes_nevers::coming_lanes;
+use lanes_settings::decided::judge_batch;
 use lanes_settings::lowest::lowest_in;
 use lanes_settings::lowest::unsettled_batch;
+use lanes_settings::nevers::coming_lanes;
 use lanes_settings::setting_count;
+use lanes_settings::settled::counted_lanes;
 use netlist::Answer;
 use words_layout::limits::MAX_GATES;
 use words_layout::offsets::inputs_of;
@@ -23,7 +22,7 @@ ghost use Rattle.netlist.specs.Rounds.{settledSettings, lowestUnsettled};
 ghost use Rattle.lanes_dual_rail.specs.Batches.{lanesOf};
 ghost use Rattle.lanes_dual_rail.specs.LaneWords.{laneSize};
 ghost use Rattle.lanes_batch.specs.Layered.{Planned};
-ghost use Rattle.lanes_masks.specs.Lanes.{Judged};
+ghost use Rattle.lanes_settings.specs.Lanes.{Judged};
 ghost use Rattle.lanes_settings.specs.Batches.{FirstBatch};
 ghost use Rattle.op_verdict.specs.Counts.{FirstReached, BatchCounted, countedFrom};
 

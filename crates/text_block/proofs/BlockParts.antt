@@ -9,7 +9,7 @@ use Rattle.prelude.specs.Lists.{tab, joined}
 use Rattle.prelude.proofs.Tab.{length-tab}
 use Rattle.prelude.proofs.Stores.{sets-append, length-joined-tab}
 use Rattle.netlist.specs.StoredBlock.{inputsAt, neversAt, gatesAt, outputsAt}
-use Rattle.text_counts.specs.declared.Counts.{Counts}
+use Rattle.text_lines.specs.declared.counts.Counts.{Counts}
 use Rattle.text_names.specs.Ports.{portWords}
 use Rattle.text_block.specs.Words.{nameOf, wordOf, treeBlockWords}
 

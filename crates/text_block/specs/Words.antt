@@ -6,7 +6,7 @@ use lib.ListN.{length, getD}
 use Rattle.prelude.specs.Lists.{tab, joined}
 use Rattle.netlist.specs.Limits.{maxInputs, maxNevers, maxGates, maxOutputs}
 use Rattle.netlist.specs.StoredBlock.{neverSize, gateSize, outputSize, outputsAt}
-use Rattle.text_counts.specs.declared.Counts.{Counts}
+use Rattle.text_lines.specs.declared.counts.Counts.{Counts}
 use Rattle.text_names.specs.Ports.{portWords}
 
 -- the words of name i of a table of numbers

@@ -1,6 +1,6 @@
 // The words of a text's block, from its tables: the counts, the names of the inputs, and the words of never lines,
 // gates and outputs that are there already.
-use text_counts::Counts;
+use text_lines::counts::Counts;
 use words_layout::offsets::GATE_SIZE;
 use words_layout::offsets::INPUTS_AT;
 use words_layout::offsets::NAME_SIZE;

@@ -18,18 +18,18 @@ use Rattle.netlist.specs.Reading.{Mention, mentions, declaredNodes, Binding, li
 use Rattle.netlist.specs.Reading.{gateLinesAt, outputLinesAt, operandMentions, shownMention, usedNames}
 use Rattle.netlist.specs.Reading.{firstOutside, lookup, termGates, linesGates, blockOf}
 use Rattle.theory_grammar.proofs.Places.{printGate-split, printOutput-split, lines-measure, print-measure}
-use Rattle.text_counts.specs.declared.Counts.{Counts}
+use Rattle.text_lines.specs.declared.counts.Counts.{Counts}
 use Rattle.text_symbols.proofs.TreeSearch.{bound-names}
 use Rattle.text_expressions.specs.declared.Walked.{Walked}
 use Rattle.netlist.specs.declared.Refusal.the-variants.{UndeclaredName}
 use Rattle.words_refusals.specs.declared.Test.the-variants.{Passed, Failed}
-use Rattle.text_leaves.specs.Leaves.{earlier}
-use Rattle.text_walk.specs.Walk.{leftOf, declaredNames, unknownAfter, gatesWords}
+use Rattle.text_expressions.specs.Leaves.{earlier}
+use Rattle.text_expressions.specs.Walk.{leftOf, declaredNames, unknownAfter, gatesWords}
 use Rattle.text_expressions.specs.Lines.{LineForm, gateForm, outputForm, outputOf, linesWords, linesCost}
 use Rattle.text_expressions.specs.Lines.{LinesDone}
 use Rattle.text_expressions.specs.Resolution.{TreeAt, firstUnknown, TreeDone}
 use Rattle.text_expressions.proofs.ListFacts.{sum-ones}
-use Rattle.text_walk.proofs.Closings.{words-append, unknown-append}
+use Rattle.text_expressions.proofs.Closings.{words-append, unknown-append}
 use Rattle.text_expressions.proofs.LineSteps.{Lawful}
 use Rattle.text_expressions.proofs.LineForms.{gate-lawful, output-lawful}
 use Rattle.text_expressions.proofs.UsedPlaces.{inside, place-back, used-inside}

@@ -10,10 +10,10 @@ use Rattle.netlist.specs.StoredBlock.{encode}
 use Rattle.netlist.specs.Syntax.{apply, GateLine, Tree}
 use Rattle.netlist.specs.Reading.{gatesIn, lineGates, Binding, bindings, termGates, linesGates, blockOf}
 use Rattle.theory_encoding.proofs.Encoded.{length-encode}
-use Rattle.text_counts.specs.declared.Counts.{Counts}
-use Rattle.text_counts.specs.Counting.{treeCounts}
+use Rattle.text_lines.specs.declared.counts.Counts.{Counts}
+use Rattle.text_lines.specs.Counting.{treeCounts}
 use Rattle.text_block.specs.Words.{wordCount}
-use Rattle.text_walk.proofs.Closings.{gates-count}
+use Rattle.text_expressions.proofs.Closings.{gates-count}
 
 lines-gates : (gs : List GateLine) (bs : List Binding) (first : ℕ)
     → length (linesGates gs bs first) ≡ sum (map lineGates gs)

@@ -21,16 +21,16 @@ use Rattle.netlist.specs.Reading.{Binding, gatesIn, lineGates, operandMentions,
 use Rattle.netlist.specs.Reading.{termGates, lookup}
 use Rattle.theory_grammar.proofs.Places.{printGate-split, printOutput-split}
 use Rattle.text_names.specs.Packed.{packed, nameFront}
-use Rattle.text_walk.specs.declared.Found.{Found}
-use Rattle.text_walk.specs.Walk.{Table, TermAt, TermHere, TermDone, TermRead}
+use Rattle.text_expressions.specs.declared.walk.Found.{Found}
+use Rattle.text_expressions.specs.Walk.{Table, TermAt, TermHere, TermDone, TermRead}
 use Rattle.text_expressions.specs.Lines.{gateForm, outputForm, outputOf, LineAt, LineHere, LineRead}
-use Rattle.text_walk.proofs.Lookups.{front-back}
+use Rattle.text_expressions.proofs.Lookups.{front-back}
 use Rattle.text_names.proofs.LegalNames.{name-bytes}
 use Rattle.text_names.proofs.PortNames.{port-words}
 use Rattle.text_names.specs.Ports.{portWords}
-use Rattle.text_leaves.specs.Leaves.{nameHere}
-use Rattle.text_leaves.specs.declared.Leaf.{Leaf}
-use Rattle.text_walk.proofs.Closings.{gates-count, words-length, name-done, unknown-none}
+use Rattle.text_expressions.specs.Leaves.{nameHere}
+use Rattle.text_expressions.specs.declared.leaves.Leaf.{Leaf}
+use Rattle.text_expressions.proofs.Closings.{gates-count, words-length, name-done, unknown-none}
 use Rattle.text_expressions.proofs.LineSteps.{Lawful}
 
 pub gate-lawful : Lawful gateForm

@@ -16,7 +16,7 @@ use Rattle.theory_grammar.proofs.Shorter.{Ending, ending}
 use Rattle.text_expressions.specs.declared.Walked.{Walked}
 use Rattle.text_expressions.specs.Lines.{LineForm, LineAt, LineHere, LineDone, LineRead, LinesAt, LinesHere}
 use Rattle.text_expressions.specs.Lines.{LinesDone, LinesRead, LinesOn, linesWords, linesCost}
-use Rattle.text_walk.proofs.Closings.{unknown-append, unknown-none}
+use Rattle.text_expressions.proofs.Closings.{unknown-append, unknown-none}
 
 -- a print is its own bytes and then what follows, and a line's entries have five words each
 pub record Lawful {A : Type 0} (F : LineForm A) : Type 0 where

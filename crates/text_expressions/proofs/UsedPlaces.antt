@@ -26,7 +26,7 @@ use Rattle.theory_grammar.proofs.Places.{term-measure, print-measure}
 use Rattle.netlist.specs.declared.Refusal.the-variants.{UndeclaredName}
 use Rattle.words_refusals.specs.declared.Test.the-variants.{Passed, Failed}
 use Rattle.words_refusals.specs.Tests.{testAt}
-use Rattle.text_walk.specs.Walk.{leftOf}
+use Rattle.text_expressions.specs.Walk.{leftOf}
 
 module _ (bound : ℕ) where
   abbrev pub inside : Mention → Bool

@@ -24,15 +24,15 @@ use Rattle.netlist.specs.Reading.{declaredPorts, gateLinesAt, outputLinesAt}
 use Rattle.theory_grammar.proofs.Shorter.{Ending, ending}
 use Rattle.theory_grammar.proofs.Places.{gates-at, outputs-at, print-measure}
 use Rattle.text_names.specs.Packed.{packed}
-use Rattle.text_counts.specs.declared.Counts.{Counts}
-use Rattle.text_counts.specs.Counting.{treeCounts}
+use Rattle.text_lines.specs.declared.counts.Counts.{Counts}
+use Rattle.text_lines.specs.Counting.{treeCounts}
 use Rattle.text_symbols.specs.Results.{declared, packedNames, nodeWords}
 use Rattle.text_lines.proofs.TreeLines.{legal-parts}
 use Rattle.theory_grammar.proofs.Limits.{WithinLimits, limits-within}
-use Rattle.text_counts.proofs.TreeCounts.{named-le}
+use Rattle.text_lines.proofs.TreeCounts.{named-le}
 use Rattle.text_symbols.proofs.TreeTable.{bindings-length}
 use Rattle.text_symbols.proofs.TreeSearch.{bound-names, nodes-length}
-use Rattle.text_walk.specs.Walk.{Table, declaredNames}
+use Rattle.text_expressions.specs.Walk.{Table, declaredNames}
 use Rattle.text_expressions.specs.Lines.{gateForm, outputForm, linesCost, LinesAt, LinesHere, LinesDone}
 use Rattle.text_expressions.specs.Lines.{LinesRead}
 use Rattle.text_expressions.specs.declared.Walked.{Walked}

@@ -15,7 +15,7 @@ use Rattle.netlist.specs.Syntax.{isLegalOutput}
 use Rattle.netlist.specs.Reading.{Mention, Binding, lineGates, mentions, operandMentions, shownMention, lookup}
 use Rattle.netlist.specs.Reading.{termGates}
 use Rattle.text_expressions.specs.declared.Walked.{Walked}
-use Rattle.text_walk.specs.Walk.{Table, unknownAfter, gatesWords}
+use Rattle.text_expressions.specs.Walk.{Table, unknownAfter, gatesWords}
 
 -- the words of an entry: a gate and an output have equally many
 abbrev pub entrySize : ℕ

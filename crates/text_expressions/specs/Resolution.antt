@@ -15,9 +15,9 @@ use Rattle.netlist.specs.StoredBlock.{outputSize, gateSize, gateWords, outputWo
 use Rattle.netlist.specs.Syntax.{Tree}
 use Rattle.netlist.specs.Reading.{Mention, isOverLimit, gateLinesAt, declaredNodes, usedNames, firstOutside, bindings}
 use Rattle.netlist.specs.Reading.{blockOf}
-use Rattle.text_counts.specs.declared.Counts.{Counts}
+use Rattle.text_lines.specs.declared.counts.Counts.{Counts}
 use Rattle.text_lines.specs.Trees.{TextOf}
-use Rattle.text_counts.specs.Counting.{treeCounts}
+use Rattle.text_lines.specs.Counting.{treeCounts}
 use Rattle.text_symbols.specs.Results.{declared, packedNames, nodeWords}
 
 -- the text is this tree's, within the limits, its gate lines start there, these are its counts, and the tables hold its

@@ -1,19 +1,22 @@
-// Resolving the expressions of a text that is known to be the print of a tree, in one walk: the first name that is not
-// declared, and the words of gates and outputs. Never lines have no expressions.
+// Resolving the expressions of a text that is known to be the print of a tree, in one walk over its lines of gates and
+// outputs (`lines`), over each expression (`walk`), and down to names and constants (`leaves`): the first name that is
+// not declared, and the words of gates and outputs. Never lines have no expressions.
 use lines::gate_lines;
 use lines::output_lines;
 use netlist::Refusal;
-use text_counts::Counts;
+use text_lines::counts::Counts;
 use words_layout::limits::MAX_GATES;
 use words_layout::offsets::GATE_SIZE;
 use words_refusals::Test;
 ghost use Rattle.text_symbols.specs.Results.{NodesIndexed};
 ghost use Rattle.text_expressions.specs.Resolution.{ResolveReady, Resolved};
 
+mod leaves;
 mod lines;
+mod walk;
 
-// A line, or some lines: the bytes left behind them, the gates or outputs up to there, and `unknown` as in
-// text_walk's `Found`.
+// A line, or some lines: the bytes left behind them, the gates or outputs up to there, and `unknown` as in `Found` of
+// `walk`.
 pub struct Walked {
     pub left: usize,
     pub number: usize,

@@ -1,9 +1,9 @@
 // The walk over the lines of gates and outputs. Each line's reader gets the rest of the text.
 use crate::Walked;
-use text_leaves::name_here;
+use crate::leaves::name_here;
+use crate::walk::expression;
 use text_names::pack::name_length;
 use text_names::pack::pack;
-use text_walk::expression;
 use words_layout::limits::MAX_GATES;
 use words_layout::offsets::GATE_SIZE;
 use words_layout::offsets::OUTPUT_SIZE;

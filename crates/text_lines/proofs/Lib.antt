@@ -1,4 +1,6 @@
--- Laws of lines, over plain lists.
+-- Laws of lines and of their counts, over plain lists.
+pub mod Behind
+pub mod TreeCounts
 pub mod Scanning
 pub mod Starts
 pub mod JoinedLines

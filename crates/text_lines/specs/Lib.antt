@@ -1,3 +1,4 @@
--- The lines of a text, and those of a tree.
+-- The lines of a text and those of a tree, and how many there are.
+pub mod Counting
 pub mod Lines
 pub mod Trees

@@ -1,4 +1,5 @@
-// The lines of a text: where each starts, and what its bytes say of it.
+// The lines of a text: where each starts, and what its bytes say of it; and in `counts`, how many lines and gates a
+// text has, and the limits (refusal 3).
 use words_layout::bytes::byte_at;
 ghost use mathlib.Core.Path.{_≡_};
 ghost use mathlib.Core.Bool.{false, cond};
@@ -7,6 +8,8 @@ ghost use lib.Dec.{eqb};
 ghost use lib.ListN.{length, drop};
 ghost use Rattle.netlist.specs.Limits.{maxText};
 ghost use Rattle.text_lines.specs.Lines.{times, NoLf, lengthWithLf, lineOpens, nameOffset, LineOf};
+
+pub mod counts;
 
 // A line: its bytes with its LF, where in it the name stands that it declares, and its gates.
 pub struct Line {

@@ -1,5 +1,4 @@
--- What is written for an operand word, by cases. Cited by `put_operand`.
--- Assumes nothing.
+-- What is written for an operand word, by cases. Cited by `put_operand`. Assumes nothing.
 use Prim.Native.Nat.{ℕ, _+_, _-_, _*_, _≤_, _<_}
 use mathlib.Core.Path.{_≡_, refl, _∙_}
 use mathlib.Core.List.{List, [], append-nil}

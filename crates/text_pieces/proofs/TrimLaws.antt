@@ -1,6 +1,5 @@
 -- Bytes without the zeros at their end, appended from the start: the invariant of `put_trimmed`, and a law for each way
--- through it.
--- Assumes nothing.
+-- through it. Assumes nothing.
 use Prim.Native.Nat.{ℕ, suc, _+_, _≤_, _<_}
 use mathlib.Core.Path.{_≡_, refl, sym, ap, _∙_}
 use mathlib.Core.List.{List, [], _∷_, _++_, append-nil, append-assoc}

@@ -1,2 +1,3 @@
--- What the contracts of this crate add to the definitions of `netlist`.
+-- What the contracts of this crate add to the definitions of `netlist`: the pieces, and what is shown of an outcome.
+pub mod Shown
 pub mod Pieces

@@ -1,5 +1,5 @@
 // Bytes, names, numbers and operands, each appended to a text at `at`. Each function answers the new end. What does not
-// fit into the text is left out, and counted all the same.
+// fit into the text is left out, and counted all the same. `refusal_line` puts a refusal's line together of them.
 use words_layout::kinds::signature_of;
 use words_layout::limits::MAX_NAME;
 use words_layout::nodes::CONSTANT_0;
@@ -18,6 +18,8 @@ ghost use Rattle.netlist.specs.StoredBlock.{bytesAt, nameAt};
 ghost use Rattle.netlist.specs.Writing.{decimal, gateName};
 ghost use Rattle.words_layout.specs.Bounds.{writtenRoom};
 ghost use Rattle.text_pieces.specs.Pieces.{Appended, Short, pairPiece, digitAt, operandText};
+
+pub mod refusal_line;
 
 // Appends one byte.
 pub fn put(text: &mut [u8], at: usize, byte: u8) -> usize

@@ -13,11 +13,12 @@ use Rattle.prelude.proofs.Tests.{not-true-false, and-left, and-right, and-intro
 use Rattle.prelude.proofs.Elements.{rest-is-drop}
 use Rattle.prelude.specs.Lists.{ascii, is}
 use Rattle.netlist.specs.Parse.{stuck, stop, expect}
-use Rattle.text_scan.specs.declared.Scan.the-variants.{Next, Bad}
-use Rattle.text_scan.specs.Scan.{scanOf, firstByte}
-use Rattle.text_scan.proofs.First.{byte-taken, byte-left}
-use Rattle.text_scan.proofs.Shortens.{Leaves, Shortens, shortens-expect, shortens-bind, shortens-name, shortens-word}
-use Rattle.text_scan.proofs.Continues.{left-short}
+use Rattle.text_recogniser.specs.declared.scan.Scan.the-variants.{Next, Bad}
+use Rattle.text_recogniser.specs.Readers.{scanOf, firstByte}
+use Rattle.text_recogniser.proofs.First.{byte-taken, byte-left}
+use Rattle.text_recogniser.proofs.Shortens.{Leaves, Shortens, shortens-expect, shortens-bind, shortens-name}
+use Rattle.text_recogniser.proofs.Shortens.{shortens-word}
+use Rattle.text_recogniser.proofs.Continues.{left-short}
 use Rattle.text_recogniser.specs.Scan.{inputName, inputReader, neverEnd, neverReader, gateExpression, gateBracket}
 use Rattle.text_recogniser.specs.Scan.{gateNaming, gateReader, outputShown, outputSpace, outputPort, outputReader}
 use Rattle.text_recogniser.specs.Scan.{lineBehind, lineReader}

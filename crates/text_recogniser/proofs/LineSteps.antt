@@ -10,12 +10,12 @@ use Rattle.prelude.proofs.Elements.{rest-is-drop}
 use Rattle.netlist.specs.Limits.{maxDepth}
 use Rattle.netlist.specs.Syntax.{apply}
 use Rattle.netlist.specs.Parse.{nameReader, pairsReader, neverPairs}
-use Rattle.text_scan.specs.declared.Scan.{Scan}
-use Rattle.text_scan.specs.Scan.{scanOf, wordReader, firstByte}
-use Rattle.text_scan.proofs.Shortens.{Shortens, shortens-name}
-use Rattle.text_scan.proofs.Chain.{Then, word-then, skip-then}
-use Rattle.text_pair_form.proofs.PairSteps.{shortens-pairs}
-use Rattle.text_expression_form.proofs.ShortensTerms.{shortens-term, shortens-expr}
+use Rattle.text_recogniser.specs.declared.scan.Scan.{Scan}
+use Rattle.text_recogniser.specs.Readers.{scanOf, wordReader, firstByte}
+use Rattle.text_recogniser.proofs.Shortens.{Shortens, shortens-name}
+use Rattle.text_recogniser.proofs.Chain.{Then, word-then, skip-then}
+use Rattle.text_recogniser.proofs.PairSteps.{shortens-pairs}
+use Rattle.text_recogniser.proofs.ShortensTerms.{shortens-term, shortens-expr}
 use Rattle.text_recogniser.specs.Scan.{closing, expressionReader, inputName, inputReader, neverEnd, neverReader}
 use Rattle.text_recogniser.specs.Scan.{gateExpression, gateBracket, gateNaming, gateReader, outputShown}
 use Rattle.text_recogniser.specs.Scan.{outputSpace, outputPort, outputReader}

@@ -17,13 +17,14 @@ use Rattle.netlist.specs.Parse.{kindReader, termsReader, exprReader}
 use Rattle.netlist.specs.Parse.{termReader, neverPairs, addInput, addNever, addGate, addOutput, inputLine, neverLine}
 use Rattle.netlist.specs.Parse.{gateLine, outputLine, atEnd, line}
 use Rattle.netlist.specs.Parse.{outputsReader, gatesReader, neversReader, textReader}
-use Rattle.text_scan.specs.declared.Scan.{Scan}
-use Rattle.text_scan.specs.declared.Scan.the-variants.{Next, Bad}
-use Rattle.text_scan.specs.Scan.{scanOf, wordReader, firstByte}
-use Rattle.text_scan.proofs.First.{byte-taken, byte-left}
-use Rattle.text_scan.proofs.Continues.{Continues, thenOf, continues-after-bind, continues-after-expect, continues-word}
-use Rattle.text_scan.proofs.Continues.{continues-same, scan-map}
-use Rattle.text_expression_form.proofs.OperandLists.{afterKind}
+use Rattle.text_recogniser.specs.declared.scan.Scan.{Scan}
+use Rattle.text_recogniser.specs.declared.scan.Scan.the-variants.{Next, Bad}
+use Rattle.text_recogniser.specs.Readers.{scanOf, wordReader, firstByte}
+use Rattle.text_recogniser.proofs.First.{byte-taken, byte-left}
+use Rattle.text_recogniser.proofs.Continues.{Continues, thenOf, continues-after-bind, continues-after-expect}
+use Rattle.text_recogniser.proofs.Continues.{continues-word}
+use Rattle.text_recogniser.proofs.Continues.{continues-same, scan-map}
+use Rattle.text_recogniser.proofs.OperandLists.{afterKind}
 use Rattle.text_recogniser.specs.Scan.{expressionReader, inputName, inputReader, neverEnd, neverReader}
 use Rattle.text_recogniser.specs.Scan.{gateExpression, gateBracket, gateNaming, gateReader, outputShown}
 use Rattle.text_recogniser.specs.Scan.{outputSpace, outputPort, outputReader, lineBehind, lineReader, phaseOf}

@@ -11,11 +11,11 @@ use Rattle.netlist.specs.Parse.{Parsed, got, stuck, parse}
 use Rattle.netlist.specs.declared.Refusal.the-variants.{SyntaxError}
 use Rattle.words_refusals.specs.declared.Test.the-variants.{Passed, Failed}
 use Rattle.words_refusals.specs.Tests.{testAt}
-use Rattle.text_scan.specs.declared.Scan.{Scan}
-use Rattle.text_scan.specs.declared.Scan.the-variants.{Next, Bad as Stuck}
-use Rattle.text_scan.specs.Scan.{badOf, scanOf, lastOnes}
-use Rattle.text_scan.proofs.ListFacts.{last-last}
-use Rattle.text_scan.proofs.Continues.{thenOf, stuck-short, then-read, then-refused}
+use Rattle.text_recogniser.specs.declared.scan.Scan.{Scan}
+use Rattle.text_recogniser.specs.declared.scan.Scan.the-variants.{Next, Bad as Stuck}
+use Rattle.text_recogniser.specs.Readers.{badOf, scanOf, lastOnes}
+use Rattle.text_recogniser.proofs.ListFacts.{last-last}
+use Rattle.text_recogniser.proofs.Continues.{thenOf, stuck-short, then-read, then-refused}
 use Rattle.text_recogniser.specs.Scan.{firstBad, lineReader, phaseOf}
 use Rattle.text_recogniser.proofs.LineChoice.{shortens-line, line-shorter}
 use Rattle.text_recogniser.proofs.Phases.{linesReader, lines-step, lines-over}

@@ -10,8 +10,8 @@ use Rattle.prelude.specs.Lists.{ascii, is}
 use Rattle.netlist.specs.Limits.{maxDepth}
 use Rattle.netlist.specs.Syntax.{Term, apply}
 use Rattle.netlist.specs.Parse.{Reader, expect, bind, nameReader, exprReader, termReader, neverPairs, parse}
-use Rattle.text_scan.specs.Scan.{wordReader, firstByte}
-pub use Rattle.text_scan.specs.Scan.{badOf}
+use Rattle.text_recogniser.specs.Readers.{wordReader, firstByte}
+pub use Rattle.text_recogniser.specs.Readers.{badOf}
 
 -- refusal 2: the first byte that no legal text has behind that beginning, or the length where the text is cut off
 unfoldable pub firstBad : List ℕ → Option ℕ

@@ -1,16 +1,16 @@
 // The readers of lines. Each gets the rest of the text behind a line's opening bracket.
-use text_expression_form::expression;
-use text_pair_form::pairs;
-use text_scan::Scan;
-use text_scan::place_of;
-use text_scan::then_name;
-use text_scan::then_word;
-use text_scan::word;
+use crate::expressions::expression;
+use crate::pairs::pairs;
+use crate::scan::Scan;
+use crate::scan::place_of;
+use crate::scan::then_name;
+use crate::scan::then_word;
+use crate::scan::word;
 use words_layout::bytes::byte_at;
 use words_layout::limits::MAX_DEPTH;
 ghost use mathlib.Core.Path.{_≡_};
 ghost use Rattle.netlist.specs.Parse.{neverPairs};
-ghost use Rattle.text_scan.specs.Scan.{scanOf, scanBehind};
+ghost use Rattle.text_recogniser.specs.Readers.{scanOf, scanBehind};
 ghost use Rattle.text_recogniser.specs.Scan.{expressionReader, inputReader, neverReader, gateReader};
 ghost use Rattle.text_recogniser.specs.Scan.{outputReader};
 ghost use Rattle.text_recogniser.specs.Scan.{lineReader, phaseOf};

@@ -13,9 +13,9 @@ use Rattle.theory_grammar.proofs.Places.{print-measure}
 use Rattle.text_names.specs.Index.{Indexed}
 use Rattle.text_names.proofs.Indexing.{index-none}
 use Rattle.text_lines.specs.Trees.{TextOf}
-use Rattle.text_counts.specs.declared.Counts.{Counts}
-use Rattle.text_counts.specs.Counting.{treeCounts}
-use Rattle.text_counts.proofs.TreeCounts.{named-le}
+use Rattle.text_lines.specs.declared.counts.Counts.{Counts}
+use Rattle.text_lines.specs.Counting.{treeCounts}
+use Rattle.text_lines.proofs.TreeCounts.{named-le}
 use Rattle.text_symbols.specs.Tables.{tableSize}
 use Rattle.text_symbols.specs.Results.{TableRoom, IndexReady}
 

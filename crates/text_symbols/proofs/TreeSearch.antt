@@ -25,10 +25,10 @@ use Rattle.netlist.specs.Reading.{declaredPorts}
 use Rattle.netlist.specs.Reading.{firstRepeat, orElse, Binding, inputBindings, gateBindings, bindings, lookup}
 use Rattle.text_names.specs.Packed.{packed}
 use Rattle.text_names.specs.Search.{indexOf, repeatsAt}
-use Rattle.text_counts.specs.Counting.{treeCounts}
+use Rattle.text_lines.specs.Counting.{treeCounts}
 use Rattle.text_symbols.specs.Results.{declared, packedNames, namePlaces, nodeWords, NameTable, Declared}
 use Rattle.text_symbols.specs.Results.{declaredTwice}
-use Rattle.text_counts.specs.declared.Counts.{Counts}
+use Rattle.text_lines.specs.declared.counts.Counts.{Counts}
 use Rattle.netlist.specs.declared.Refusal.the-variants.{DuplicateDeclaration}
 use Rattle.words_refusals.specs.declared.Test.the-variants.{Passed, Failed}
 use Rattle.words_refusals.specs.Tests.{testAt}

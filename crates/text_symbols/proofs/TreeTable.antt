@@ -24,14 +24,14 @@ use Rattle.text_lines.specs.Lines.{lineOffset, gatesTo}
 use Rattle.text_symbols.specs.Tables.{declaredPlace, placeAt, numberAt, lineWord, wordAt, tableSize, FilledTo}
 use Rattle.text_names.specs.Packed.{packed, nameFrom, packedAt, packedThrough}
 use Rattle.text_lines.specs.Trees.{gateLineText, outputLineText, linesBehind, TextOf}
-use Rattle.text_counts.specs.Counting.{treeCounts}
+use Rattle.text_lines.specs.Counting.{treeCounts}
 use Rattle.text_symbols.specs.Results.{declared, packedNames, namePlaces, nodeWords, TableRoom, Declared}
-use Rattle.text_counts.specs.declared.Counts.{Counts}
+use Rattle.text_lines.specs.declared.counts.Counts.{Counts}
 use Rattle.text_lines.proofs.JoinedLines.{tab-front}
 use Rattle.text_lines.proofs.JoinedLines.{innerOpens, gates-are}
 use Rattle.text_lines.proofs.TreeLines.{TreeLine, legal-parts, gate-line, behind-lines, behind-stand}
 use Rattle.text_symbols.proofs.TreeWalk.{mentionAt, mentionIn, input-walk, behind-walk}
-use Rattle.text_counts.proofs.TreeCounts.{inputs-total, behind-total}
+use Rattle.text_lines.proofs.TreeCounts.{inputs-total, behind-total}
 
 module _ (text : List ℕ) (from i : ℕ) where
   place-in : placeAt text from i ≡ mentionIn text from i .place

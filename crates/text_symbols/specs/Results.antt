@@ -15,11 +15,11 @@ use Rattle.netlist.specs.Syntax.{Tree, isLegalTree}
 use Rattle.netlist.specs.Reading.{Mention, Binding, gateLinesAt, declaredNodes, declaredPorts, bindings, firstRepeat}
 use Rattle.netlist.specs.Reading.{orElse}
 use Rattle.text_names.specs.Packed.{packed}
-use Rattle.text_counts.specs.Counting.{treeCounts}
+use Rattle.text_lines.specs.Counting.{treeCounts}
 use Rattle.text_symbols.specs.Tables.{tableSize}
 use Rattle.text_names.specs.Index.{hashes, Indexed}
 use Rattle.text_lines.specs.Trees.{TextOf}
-use Rattle.text_counts.specs.declared.Counts.{Counts}
+use Rattle.text_lines.specs.declared.counts.Counts.{Counts}
 
 -- every declaration, in the order of the text: the nodes, then the ports
 unfoldable pub declared : Tree → List Mention

@@ -1,6 +1,6 @@
 // Refusal 4 outside never lines: the declarations of a text that repeat another.
 use netlist::Refusal;
-use text_counts::Counts;
+use text_lines::counts::Counts;
 use text_names::index::enter_all;
 use text_names::search::repeat_of_few;
 use words_refusals::Test;

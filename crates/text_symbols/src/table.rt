@@ -1,6 +1,6 @@
 // The table of declared names, in the order of the text: numbers of the names, their places, and the node numbers of
 // inputs and gates.
-use text_counts::Counts;
+use text_lines::counts::Counts;
 use text_lines::line_of;
 use text_names::pack::fill_names;
 use text_names::pack::pack_at;

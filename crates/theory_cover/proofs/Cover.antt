@@ -1,6 +1,5 @@
 -- The cover over any test of settings is exactly the sound and minimal assignments, by ascending first mask, then
--- second; and below every
--- sound assignment there is an entry. Cited by the laws of what is covered. Assumes nothing.
+-- second; and below every sound assignment there is an entry. Cited by the laws of what is covered. Assumes nothing.
 use mathlib.Core.Path.{_≡_, refl, ap, _∙_}
 use mathlib.Core.Logic.{_⊎_, inl, inr, ⊎-elim}
 use mathlib.Core.Bool.{Bool, true, false, not, _&&_, _||_, true≢false}

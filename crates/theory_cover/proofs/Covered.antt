@@ -1,6 +1,5 @@
 -- What the cover over a test of settings covers: exactly the settings that pass; and it is the one assignment that
--- fixes nothing exactly
--- when every setting passes. Assumes nothing.
+-- fixes nothing exactly when every setting passes. Assumes nothing.
 use mathlib.Core.Path.{_≡_, refl, sym, ap, ap₂, _∙_}
 use mathlib.Core.Logic.{⊎-elim}
 use mathlib.Core.Bool.{Bool, true, not}

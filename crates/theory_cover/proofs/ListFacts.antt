@@ -1,6 +1,5 @@
 -- Facts on tests and lists that are nobody's in particular: implication, `keep`, `joined`, and the numbers below a
--- bound that pass a
--- test, which ascend. Assumes nothing.
+-- bound that pass a test, which ascend. Assumes nothing.
 use mathlib.Core.Path.{_≡_, refl, sym, ap, _∙_}
 use mathlib.Core.Logic.{_⊎_, inl, inr, ⊎-elim}
 use mathlib.Core.Bool.{Bool, true, false, cond, not, _&&_, _||_, false≢true}

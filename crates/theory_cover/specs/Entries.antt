@@ -1,5 +1,5 @@
 -- The entries of a cover, which are prime implicants, as the code finds them: pairs of masks, tested against a table in
--- which only sound and minimal assignments are left. Cited by the contracts of this crate. Assumes nothing.
+-- which only sound and minimal assignments are left. Cited by the contracts of crates/op_cover. Assumes nothing.
 use Prim.Native.Nat.{ℕ, _+_, _-_, _*_, _/_, _%_, _^_, _≤_, _<_}
 use mathlib.Core.Path.{_≡_}
 use mathlib.Core.Bool.{Bool, true, false, cond, not, _&&_, _||_}

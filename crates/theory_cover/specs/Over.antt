@@ -1,6 +1,6 @@
 -- The cover (SPECIFICATION 4) over any test p of the settings of n inputs: the definitions of `netlist` with p for "is
 -- settled" and n for the block's inputs. In the field's words these are the prime implicants of p (Quine 1952,
--- McCluskey 1956). Cited by the contracts of this crate and by the operation Cover. Assumes nothing.
+-- McCluskey 1956). Cited by the contracts of crates/op_cover. Assumes nothing.
 use Prim.Native.Nat.{ℕ, _^_, _<_}
 use mathlib.Core.Path.{_≡_}
 use mathlib.Core.Logic.{_⊎_}

@@ -39,16 +39,16 @@ use Rattle.lanes_dual_rail.specs.LaneWords.{laneSize}
 use Rattle.lanes_dual_rail.specs.Words.{hasLane, Tells}
 use Rattle.lanes_dual_rail.proofs.WordLaws.{tells-no-lane, tells-some, tells-lowest}
 use Rattle.lanes_batch.proofs.Layering.{among-part}
-use Rattle.lanes_masks.specs.Lanes.{isUnsound}
+use Rattle.lanes_settings.specs.Lanes.{isUnsound}
 use Rattle.lanes_settings.proofs.Counting.{lowest-found}
-use Rattle.unroll_passes.specs.declared.Turn.{Turn}
-use Rattle.unroll_passes.specs.declared.Counted.{Counted}
-use Rattle.unroll_passes.specs.Pairs.{groupOf}
-use Rattle.unroll_passes.specs.Passes.{Least, GroupBatch, GroupCounted, GroupReady}
-use Rattle.unroll_passes.specs.Passes.{Listing}
+use Rattle.unroll_depth.specs.declared.passes.Turn.{Turn}
+use Rattle.unroll_depth.specs.declared.passes.Counted.{Counted}
+use Rattle.unroll_depth.specs.Pairs.{groupOf}
+use Rattle.unroll_depth.specs.Passes.{Least, GroupBatch, GroupCounted, GroupReady}
+use Rattle.unroll_depth.specs.Passes.{Listing}
 use Rattle.unroll_depth.specs.Counting.{copiesOf, EnoughBelow, StartsFew, Full, Counting, SameRest, BatchHeld}
 use Rattle.unroll_depth.specs.Counting.{AllCounted, LowestBelow}
-use Rattle.unroll_passes.proofs.PairLaws.{part-long}
+use Rattle.unroll_depth.proofs.PairLaws.{part-long}
 
 -- ---- sums over the groups
 

@@ -1,6 +1,5 @@
 -- The passes that groups need, found group by group for one batch of settings after the other, and the lowest setting
--- that
--- is not settled.
+-- that is not settled.
 --   Counting, StartsFew, Full, BatchHeld, AllCounted   all groups
 --   GroupAt, GroupDone, BatchReady   one group of a batch; all of them
 --   LowestBelow, WalkReady, WalkedBatch, WalkedAll, Walked   the walk over batches
@@ -23,8 +22,8 @@ use Rattle.theory_unrolling.specs.Copies.{groupAt}
 use Rattle.lanes_dual_rail.specs.Batches.{lanesOf}
 use Rattle.lanes_dual_rail.specs.LaneWords.{laneSize}
 use Rattle.lanes_batch.specs.Layered.{Planned}
-use Rattle.lanes_masks.specs.Lanes.{Judged}
-use Rattle.unroll_passes.specs.Passes.{Least, Listing}
+use Rattle.lanes_settings.specs.Lanes.{Judged}
+use Rattle.unroll_depth.specs.Passes.{Least, Listing}
 use Rattle.unroll_depth.specs.declared.Found.{Found}
 use Rattle.unroll_depth.specs.declared.walk.At.{At}
 use Rattle.unroll_depth.specs.declared.walk.Batch.{Batch}
@@ -40,8 +39,7 @@ abbrev pub EnoughBelow : Block → List ℕ → ℕ → ℕ → Type 0
 EnoughBelow b group bound p = (s : ℕ) → s < bound → isExcluded b s ≡ false → areSettled b group s p ≡ true
 
 -- The passes of all groups are enough for the settings below `base`, those of the first `done` groups for the settings
--- below `next`, unless the
--- copies are too many; of no group are there too many.
+-- below `next`, unless the copies are too many; of no group are there too many.
 pub record Counting (b : Block) (count base done next : ℕ) (passes : List ℕ) (total : ℕ) : Type 0 where
   pub least : (g : ℕ) → g < count → Least b (groupAt b g) (getD passes g 0)
   pub totalIs : total ≡ copiesOf b count passes

@@ -1,20 +1,19 @@
 // The one walk over batches: each batch is decided once, the passes of its groups are counted, and its lowest setting
-// that
-// may come and is not settled is looked for while none is known. Group g of a block's `count` groups is
+// that may come and is not settled is looked for while none is known. Group g of a block's `count` groups is
 // `members[starts[g]..starts[g + 1]]`, and `passes[g]` has its passes so far.
 use crate::Found;
+use crate::group::count_group;
+use crate::passes::Counted;
+use crate::passes::Turn;
 use graph_gates::GRAPH_WORDS;
 use graph_scc::words::word_of;
 use lanes_dual_rail::LANE_WORDS;
 use lanes_dual_rail::words::lane_count;
 use lanes_dual_rail::words::lowest_lane;
-use lanes_masks::decided::judge_batch;
-use lanes_masks::settled::unsound_lanes;
+use lanes_settings::decided::judge_batch;
 use lanes_settings::lowest::lowest_unsettled;
 use lanes_settings::setting_count;
-use unroll_passes::Counted;
-use unroll_passes::Turn;
-use unroll_passes::group::count_group;
+use lanes_settings::settled::unsound_lanes;
 use words_layout::fill::fill_words;
 use words_layout::limits::MAX_GATES;
 use words_layout::offsets::gates_of;
@@ -30,8 +29,8 @@ ghost use Rattle.netlist.specs.Groups.{groups};
 ghost use Rattle.lanes_dual_rail.specs.Batches.{lanesOf};
 ghost use Rattle.lanes_dual_rail.specs.LaneWords.{laneSize};
 ghost use Rattle.lanes_batch.specs.Layered.{Planned};
-ghost use Rattle.lanes_masks.specs.Lanes.{Judged};
-ghost use Rattle.unroll_passes.specs.Passes.{Listing};
+ghost use Rattle.lanes_settings.specs.Lanes.{Judged};
+ghost use Rattle.unroll_depth.specs.Passes.{Listing};
 ghost use Rattle.unroll_depth.specs.Counting.{StartsFew, Full, GroupAt, GroupDone, BatchReady, LowestBelow};
 ghost use Rattle.unroll_depth.specs.Counting.{WalkReady};
 ghost use Rattle.unroll_depth.specs.Counting.{WalkedBatch, WalkedAll, Walked};
@@ -52,8 +51,7 @@ struct Batch {
 }
 
 // Counts the passes of one group for the settings of the batch; gives the copies of all groups. A group that has as
-// many
-// passes as gates needs no more, whatever the setting.
+// many passes as gates needs no more, whatever the setting.
 fn count_at(
     words: &[u16],
     graph: &[u16; GRAPH_WORDS],
@@ -92,8 +90,7 @@ fn count_at(
 }
 
 // The lowest setting found so far that may come and is not settled, or 2^n: `lowest` is that of the batches before the
-// one
-// at `base`, whose settled values `lanes` holds.
+// one at `base`, whose settled values `lanes` holds.
 fn lowest_with(words: &[u16], base: usize, lowest: usize, lanes: &[u64; LANE_WORDS]) -> usize
     requires { ⌜
         Judged (now words) (getD (now words) 0 0) base (now lanes) × LowestBelow (decode (now words)) base lowest

@@ -1,6 +1,5 @@
 -- The words that are written are those of the definitions: a mapped word is the word of the copied operand, the words
--- of a copy and of an
--- output are those of the rendering's. Cited by Written. Assumes nothing.
+-- of a copy and of an output are those of the rendering's. Cited by Written. Assumes nothing.
 use Prim.Native.Nat.{ℕ, _+_, _-_, _*_, _/_, _≤_, _<_}
 use mathlib.Core.Path.{_≡_, refl, sym, ap, ap₂, _∙_}
 use mathlib.Core.Logic.{inl, inr, ⊎-elim}

@@ -1,2 +1,6 @@
--- Laws on a block's head.
+-- Laws on the words of a block: its names, its gates and their operands, straight blocks, and the head.
+pub mod NameLaws
+mod GateLaws
+mod SlotLaws
+pub mod StraightLaws
 mod HeaderLaws

@@ -7,7 +7,7 @@ use lib.ListN.{getD}
 use Rattle.prelude.specs.Lists.{all, upTo}
 use Rattle.netlist.specs.StoredBlock.{nameSize, neverSize, outputSize, inputsAt, neversAt, gatesAt, outputsAt}
 use Rattle.theory_encoding.specs.Rules.{namesRule, neverRule, nodeRule}
-use Rattle.words_gates.specs.GateSteps.{gatesRule}
+use Rattle.words_block.specs.GateSteps.{gatesRule}
 
 -- the rule of never line i, of those from `at` on, in a block of n inputs
 abbrev pub neverRuleAt : List ℕ → ℕ → ℕ → ℕ → Bool

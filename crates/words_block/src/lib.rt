@@ -1,6 +1,6 @@
 // Two tests of a stored block: are the words malformed (refusal 6), and is the block straight, which is in topological
-// order by gate number (refusal 10)? Every operation that takes a block calls `check_words` first. No function reads
-// past the end of the words.
+// order by gate number (refusal 10)? Each part of a block has its rules in a module: head, names, never lines, gates,
+// outputs. Every operation that takes a block calls `check_words` first. No function reads past the end of the words.
 use netlist::Refusal;
 use words_layout::offsets;
 use words_refusals::Test;
@@ -17,7 +17,9 @@ ghost use Rattle.netlist.specs.StoredBlock.{outputSize, outputsAt, isMalformed,
 ghost use Rattle.netlist.specs.Rendering.{isStraight};
 ghost use Rattle.words_block.specs.Steps.{frontRule, partsRule};
 
+pub mod gates;
 mod header;
+mod names;
 mod nevers;
 mod outputs;
 
@@ -27,7 +29,7 @@ fn front_fits(words: &[u16], n: usize, l: usize) -> bool
     requires { ⌜ l ≤ maxNevers ⌝ }
     ensures { λ r. ⌜ r ≡ frontRule (now (words .entry)) n l ⌝ }
 {
-    if !words_names::fit(words, offsets::INPUTS_AT, offsets::NAME_SIZE, n) {
+    if !crate::names::fit(words, offsets::INPUTS_AT, offsets::NAME_SIZE, n) {
         return false;
     }
     nevers::fit(words, n, offsets::nevers_at(n), l)
@@ -46,10 +48,10 @@ fn parts_fit(words: &[u16], n: usize, l: usize, m: usize, k: usize) -> bool
     if !front_fits(words, n, l) {
         return false;
     }
-    if !words_gates::fit(words, n + m, offsets::gates_behind(n, l), m) {
+    if !crate::gates::fit(words, n + m, offsets::gates_behind(n, l), m) {
         return false;
     }
-    if !words_names::fit(words, outputs_at, offsets::OUTPUT_SIZE, k) {
+    if !crate::names::fit(words, outputs_at, offsets::OUTPUT_SIZE, k) {
         return false;
     }
     outputs::fit(words, n + m, outputs_at, k)
@@ -85,7 +87,7 @@ pub fn check_straight(words: &[u16]) -> Test
     let m = offsets::gates_of(words);
     let at = offsets::gates_at(words);
     refuse_if(
-        !words_gates::read_lower(words, n, at, m),
+        !crate::gates::read_lower(words, n, at, m),
         Refusal::NotStraight,
     )
 }

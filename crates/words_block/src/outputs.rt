@@ -1,5 +1,5 @@
 // What the outputs show: inputs and gates that are there, and no constants.
-use words_gates::is_node;
+use crate::gates::is_node;
 use words_layout::offsets::NAME_SIZE;
 use words_layout::offsets::OUTPUT_SIZE;
 use words_layout::read::word_at;

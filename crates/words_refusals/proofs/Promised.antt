@@ -1,6 +1,5 @@
 -- Laws on tests and promises, cited by every operation. An operation's outcome is a chain of conditions; `around` is
--- what stands around the
--- chain: the condition on the room, or nothing.
+-- what stands around the chain: the condition on the room, or nothing.
 --   passed       a test that passed: the outcome is that of the rest of the chain
 --   failed       a test that failed: the promise holds of the refusal's answer, and the slice is as it was
 --   finished     a result: the promise holds of its count and detail

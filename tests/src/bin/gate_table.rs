@@ -1,4 +1,4 @@
-//! Prints the constant of crates/graph_ternary/src/table.rt.
+//! Prints the constant of crates/graph_simulation/src/table.rt.
 
 fn main() {
     print!("{}", simulator::gate_table::lines());

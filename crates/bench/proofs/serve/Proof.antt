@@ -4,7 +4,7 @@ use mathlib.Core.Path.{sym}
 use native.Mathlib.Omega.{arith}
 use borrow.Author.Needs.{needs}
 use lib.Seq.{length-take-le}
-use Rattle.bench_state.specs.Session.{SessionReady}
+use Rattle.bench_session.specs.Session.{SessionReady}
 use Rattle.bench.proofs.Sizes.{SameSizes, same-sizes}
 use Rattle.bench.proofs.serve.Statement.{statement}
 use Rattle.bench.proofs.serve.Tie as tie

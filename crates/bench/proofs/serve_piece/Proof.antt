@@ -7,7 +7,7 @@ use borrow.Author.Needs.{needs}
 use lib.ListN.{length, take, drop, length-drop}
 use lib.Seq.{length-take-le}
 use Rattle.prelude.proofs.Elements.{rest-is-drop}
-use Rattle.bench_state.specs.Session.{SessionReady}
+use Rattle.bench_session.specs.Session.{SessionReady}
 use Rattle.bench.proofs.Sizes.{SameSizes, same-sizes}
 use Rattle.bench.proofs.serve_piece.Statement.{statement}
 use Rattle.bench.proofs.serve_piece.Tie as tie

@@ -1,7 +1,7 @@
 -- `bench_session::feed` meets its contract: what was taken so far led the run here, and until something is answered
 -- nothing is written. Assumes nothing.
 use Rattle.bench_session.proofs.Bytes.{at-start, one-byte, fed}
-use Rattle.bench_state.specs.Session.{runOf, Progressed}
+use Rattle.bench_session.specs.Session.{runOf, Progressed}
 use lib.ListN.{length}
 use native.Mathlib.Omega.{arith}
 use mathlib.Core.Path.{_≡_, refl}

@@ -8,7 +8,7 @@ use Rattle.netlist.specs.Answers.{inRoom}
 use Rattle.netlist.specs.Bench.{pairsOutcome, answerLine}
 use Rattle.words_refusals.specs.Tests.{testAt}
 use Rattle.words_refusals.proofs.Promised.{passed-none, passed-at, failed-at, keeps-room}
-use Rattle.bench_set_form.specs.Line.{firstBadInSetLine}
+use Rattle.bench_set_line.specs.Line.{firstBadInSetLine}
 use Rattle.bench_set_line.specs.Tables.{LineRead}
 use Rattle.bench_set_line.proofs.Outcomes.{Found, in-form, form-chain, pairs-passed, pairs-failed}
 use borrow.Author.Needs.{needs}

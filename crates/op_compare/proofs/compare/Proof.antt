@@ -1,6 +1,5 @@
 -- `op_compare::compare` meets its contract: the tests are the definition's conditions in its order, and then the
--- settings
--- are searched. Assumes nothing.
+-- settings are searched. Assumes nothing.
 use mathlib.Core.Path.{_≡_, _∙_, sym, ap}
 use mathlib.Core.Bool.{false, not}
 use mathlib.Core.List.{[]}

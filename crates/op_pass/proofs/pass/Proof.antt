@@ -1,5 +1,5 @@
--- `op_settle::pass::pass` meets its contract: the tests are the definition's conditions in its order, and then one
--- sweep finds the values. Assumes nothing.
+-- `op_pass::pass` meets its contract: the tests are the definition's conditions in its order, and then one sweep finds
+-- the values. Assumes nothing.
 use mathlib.Core.Path.{_≡_, _∙_}
 use mathlib.Core.Bool.{false, not}
 use mathlib.Core.List.{map}

@@ -6,7 +6,7 @@ use borrow.Author.Needs.{needs}
 use Rattle.netlist.specs.declared.Refusal.the-variants.{MalformedBlock}
 use Rattle.netlist.specs.Answers.{inRoom}
 use Rattle.words_refusals.proofs.Promised.{passed-false, failed, keeps-room}
-use Rattle.unroll_steps.proofs.Cases.{render-chain}
+use Rattle.op_render.proofs.Cases.{render-chain}
 use Rattle.op_render.proofs.Promise.{whole-promise}
 use Rattle.op_render.proofs.render.Statement.{statement}
 use Rattle.op_render.proofs.render.Tie as tie

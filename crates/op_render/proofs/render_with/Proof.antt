@@ -16,8 +16,8 @@ use Rattle.netlist.specs.Answers.{inRoom}
 use Rattle.words_refusals.specs.Tests.{testOf}
 use Rattle.netlist.specs.Operations.{render}
 use Rattle.words_refusals.proofs.Promised.{passed, passed-false, failed, keeps-room}
-use Rattle.unroll_steps.proofs.Cases.{copied, render-whole}
-use Rattle.unroll_steps.proofs.Told.{passes-placed}
+use Rattle.op_render.proofs.Cases.{copied, render-whole}
+use Rattle.op_render.proofs.Told.{passes-placed}
 use Rattle.op_render.proofs.render_with.Statement.{statement}
 use Rattle.op_render.proofs.render_with.Tie as tie
 

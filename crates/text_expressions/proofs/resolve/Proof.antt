@@ -1,6 +1,5 @@
 -- `text_expressions::resolve` meets its contract: the two walks start where the lines of the tree stand, and together
--- they have used its names in
--- order. Assumes nothing.
+-- they have used its names in order. Assumes nothing.
 use native.Mathlib.Omega.{arith}
 use mathlib.Core.Path.{_≡_}
 use mathlib.Core.List.{[]}

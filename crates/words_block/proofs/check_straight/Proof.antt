@@ -4,7 +4,7 @@ use borrow.Author.Needs.{needs}
 use native.Mathlib.Omega.{arith}
 use Rattle.netlist.specs.StoredBlock.{neversAt, gatesAt, outputsAt}
 use Rattle.theory_encoding.proofs.Readers.{whole-parts}
-use Rattle.words_gates.proofs.StraightLaws.{straight-is}
+use Rattle.words_block.proofs.StraightLaws.{straight-is}
 use Rattle.words_block.proofs.check_straight.Statement.{statement}
 use Rattle.words_block.proofs.check_straight.Tie as tie
 

@@ -2,7 +2,7 @@
 -- nothing.
 use Prim.Native.Nat.{_<_}
 use native.Mathlib.Omega.{arith}
-use Rattle.graph_ternary.proofs.State.{legal-gate}
+use Rattle.graph_simulation.proofs.State.{legal-gate}
 use Rattle.graph_simulation.proofs.Updates.{one-kept, one-undefined, one-room, one-new}
 use borrow.Author.Needs.{needs}
 use Rattle.graph_simulation.proofs.changes.update.Statement.{statement}

@@ -9,7 +9,7 @@ use denote.Ref.{now}
 use Rattle.theory_fixpoint.proofs.Rounds.{rounds-le}
 use Rattle.graph_gates.specs.Graph.{network}
 use Rattle.graph_gates.proofs.Network.{network-count}
-use Rattle.graph_ternary.specs.State.{inputsIn}
+use Rattle.graph_simulation.specs.State.{inputsIn}
 use Rattle.graph_simulation.proofs.Updates.{first-ready, first-state, round-first}
 use Rattle.graph_simulation.proofs.Rounds.{Rounding, rounding-none, rounding-more, rounding-end}
 use Rattle.graph_simulation.proofs.round.settle_with.Statement.{statement}

@@ -1,6 +1,5 @@
 -- `lanes_batch::layered::settle_run` meets its contract: a loop reads nothing behind it, and a gate on no loop reads
--- only gates before it, so each turn
--- settles one layer more. Assumes nothing.
+-- only gates before it, so each turn settles one layer more. Assumes nothing.
 use mathlib.Core.Path.{_≡_, refl, _∙_}
 use Prim.Native.Nat.{_+_, _-_, _≤_, _<_}
 use native.Mathlib.Omega.{arith}

@@ -7,14 +7,14 @@ use Rattle.lanes_dual_rail.proofs.evaluate.rule_pair.Tie as tie
 
 returns : tie.Need-returns
 unfolding rulePair
-returns c = let e = c .before in rw (e .before .some-word .ensures, e .every-word .ensures, c .if1 .taken)
+returns c = let e = c .before in rw (c .if1 .taken) (cc (e .before .some-word .ensures, e .every-word .ensures))
 
 returns-2 : tie.Need-returns-2
 unfolding rulePair
 returns-2 c =
     let e = c .before in
     let s = e .before .before in
-    rw (e .before .some-word .ensures, e .every-word .ensures, ne-eqb (s .args .forced) 0 (c .if1 .left))
+    rw (ne-eqb (s .args .forced) 0 (c .if1 .left)) (cc (e .before .some-word .ensures, e .every-word .ensures))
 
 pub rule-pair-spec : {M : Type 1} → statement M
 rule-pair-spec =

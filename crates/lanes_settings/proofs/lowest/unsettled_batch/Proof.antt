@@ -15,8 +15,8 @@ use Rattle.netlist.specs.Rounds.{isSoundAt}
 use Rattle.theory_encoding.proofs.Readers.{whole-parts}
 use Rattle.lanes_dual_rail.specs.Batches.{lanesOf}
 use Rattle.lanes_dual_rail.specs.LaneWords.{laneSize}
-use Rattle.lanes_masks.specs.Lanes.{undefinedWord}
-use Rattle.lanes_masks.proofs.OutputLaws.{output-there}
+use Rattle.lanes_settings.specs.Lanes.{undefinedWord}
+use Rattle.lanes_settings.proofs.OutputLaws.{output-there}
 use Rattle.lanes_settings.proofs.Counting.{few-settings}
 use Rattle.lanes_settings.proofs.Batching.{Place, place-first, place-next, lanesOf-some, passed-sound}
 use Rattle.lanes_settings.proofs.Batching.{found-unsound, batch-more}

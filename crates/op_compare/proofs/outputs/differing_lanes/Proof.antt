@@ -1,7 +1,7 @@
 -- `op_compare::outputs::differing_lanes` meets its contract: both outputs can be read. Assumes nothing.
 use mathlib.Core.Path.{sym, _∙_}
 use borrow.Author.Needs.{needs}
-use Rattle.lanes_masks.proofs.OutputLaws.{output-there}
+use Rattle.lanes_settings.proofs.OutputLaws.{output-there}
 use Rattle.op_compare.specs.Words.{differingIn, portPair, differingWord}
 use Rattle.op_compare.proofs.outputs.differing_lanes.Statement.{statement}
 use Rattle.op_compare.proofs.outputs.differing_lanes.Tie as tie

@@ -38,8 +38,7 @@ abbrev μ-loop : tie.MeasureT-loop
 μ-loop ours theirs graph order ends their-graph lanes₀ others₀ n count batch base₀ lanes others base = count - base
 
 -- the number of inputs, from the loop's head, and the function's entry; the loop's head, from both blocks decided;
--- these,
--- from a batch looked at
+-- these, from a batch looked at
 abbrev counts : tie.At-loop Inv-loop μ-loop → tie.After-inputs-of Inv-loop μ-loop
 counts l = l .before .before .before
 

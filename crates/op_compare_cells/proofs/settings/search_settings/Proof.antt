@@ -17,7 +17,7 @@ use Rattle.lanes_dual_rail.specs.LaneWords.{laneSize}
 use Rattle.lanes_dual_rail.specs.Words.{hasLane}
 use Rattle.lanes_settings.proofs.Counting.{few-settings}
 use Rattle.lanes_settings.proofs.Batching.{Place, place-first, place-next, lanesOf-some}
-use Rattle.lanes_miter.specs.Words.{differsAt}
+use Rattle.op_compare_cells.specs.Words.{differsAt}
 use Rattle.op_compare_cells.specs.Found.{Agreed}
 use Rattle.op_compare_cells.proofs.Searching.{marked-below, agreed-none, agreed-more, found-none, found-here}
 use Rattle.op_compare_cells.proofs.settings.search_settings.Statement.{statement}

@@ -6,7 +6,7 @@ use native.Mathlib.Omega.{arith}
 use borrow.Author.Needs.{needs}
 use lib.ListN.{length, getD}
 use Rattle.netlist.specs.Limits.{maxGates}
-use Rattle.graph_leaders.proofs.Leader.{filled}
+use Rattle.graph_scc.proofs.Leader.{filled}
 use Rattle.op_groups.specs.Numbering.{noNumber, NumberReady}
 use Rattle.op_groups.proofs.Counted.{counting-none, ready-none, waiting-start}
 use Rattle.op_groups.proofs.Turns.{numbers-none, bare-all, nexts-are}

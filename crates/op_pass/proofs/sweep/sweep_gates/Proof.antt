@@ -2,7 +2,7 @@
 -- nothing.
 use Prim.Native.Nat.{_-_, _≤_}
 use native.Mathlib.Omega.{arith}
-use Rattle.graph_ternary.proofs.State.{legal-gate}
+use Rattle.graph_simulation.proofs.State.{legal-gate}
 use Rattle.op_pass.proofs.Sweeps.{Sweeping, sweeping-none, sweeping-more, sweeping-end}
 use Rattle.op_pass.proofs.sweep.sweep_gates.Statement.{statement}
 use Rattle.op_pass.proofs.sweep.sweep_gates.Tie as tie

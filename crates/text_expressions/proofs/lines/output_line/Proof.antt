@@ -3,7 +3,7 @@ use mathlib.Core.Path.{refl}
 use native.Mathlib.Omega.{arith}
 use Rattle.text_expressions.proofs.LineForms.{output-parts, output-left, output-read}
 use Rattle.text_expressions.specs.Lines.{outputForm}
-use Rattle.text_walk.proofs.Walking.{table-lengths}
+use Rattle.text_expressions.proofs.Walking.{table-lengths}
 use borrow.Author.Needs.{needs}
 use Rattle.text_expressions.proofs.lines.output_line.Statement.{statement}
 use Rattle.text_expressions.proofs.lines.output_line.Tie as tie

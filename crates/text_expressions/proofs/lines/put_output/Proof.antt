@@ -3,7 +3,7 @@ use Prim.Native.Nat.{_*_, _/_, _%_}
 use mathlib.Core.List.{[], _∷_}
 use lib.ListN.{length-set}
 use Rattle.text_names.specs.Ports.{portWords}
-use Rattle.text_walk.proofs.ListFacts.{five-stores}
+use Rattle.text_expressions.proofs.WalkFacts.{five-stores}
 use mathlib.Core.Path.{refl}
 use native.Mathlib.Omega.{arith}
 use borrow.Author.Needs.{needs}

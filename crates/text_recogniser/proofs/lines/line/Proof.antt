@@ -8,7 +8,7 @@ use Prim.Native.Nat.{ℕ, _≤_, _<_}
 use native.Mathlib.Omega.{arith}
 use lib.ListN.{length}
 use Rattle.prelude.proofs.Elements.{byte-there}
-use Rattle.text_scan.specs.Scan.{scanOf}
+use Rattle.text_recogniser.specs.Readers.{scanOf}
 use Rattle.text_recogniser.specs.Scan.{lineReader, lineBehind}
 use Rattle.text_recogniser.proofs.LineChoice.{chosen-input, chosen-never, chosen-gate, chosen-output}
 use Rattle.text_recogniser.proofs.LineChoice.{line-none, restOf, line-rest}

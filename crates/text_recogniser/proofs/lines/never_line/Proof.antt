@@ -1,7 +1,7 @@
 -- `text_recogniser::lines::never_line` meets its contract: a chain of calls, each behind what the one before found.
 -- Assumes nothing.
 use borrow.Author.Needs.{needs}
-use Rattle.text_scan.proofs.Chain.{begin, step, finish}
+use Rattle.text_recogniser.proofs.Chain.{begin, step, finish}
 use Rattle.text_recogniser.proofs.LineSteps.{never-word, never-pairs}
 use Rattle.text_recogniser.proofs.lines.never_line.Statement.{statement}
 use Rattle.text_recogniser.proofs.lines.never_line.Tie as tie

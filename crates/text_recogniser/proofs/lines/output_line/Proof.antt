@@ -1,7 +1,7 @@
 -- `text_recogniser::lines::output_line` meets its contract: a chain of calls, each behind what the one before found.
 -- Assumes nothing.
 use borrow.Author.Needs.{needs}
-use Rattle.text_scan.proofs.Chain.{begin, step, finish}
+use Rattle.text_recogniser.proofs.Chain.{begin, step, finish}
 use Rattle.text_recogniser.proofs.LineSteps.{output-word, output-port, output-space, output-shown}
 use Rattle.text_recogniser.proofs.lines.output_line.Statement.{statement}
 use Rattle.text_recogniser.proofs.lines.output_line.Tie as tie

@@ -2,7 +2,7 @@
 -- what is left. Assumes nothing.
 use borrow.Author.Needs.{needs}
 use Rattle.text_recogniser.specs.Scan.{expressionReader}
-use Rattle.text_scan.proofs.Chain.{found-bad, found-next}
+use Rattle.text_recogniser.proofs.Chain.{found-bad, found-next}
 use Rattle.text_recogniser.proofs.lines.then_expression.Statement.{statement}
 use Rattle.text_recogniser.proofs.lines.then_expression.Tie as tie
 

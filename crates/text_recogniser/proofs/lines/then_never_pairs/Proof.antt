@@ -3,7 +3,7 @@
 use borrow.Author.Needs.{needs}
 use Rattle.netlist.specs.Parse.{neverPairs}
 use Rattle.text_recogniser.proofs.LineSteps.{never-bound}
-use Rattle.text_scan.proofs.Chain.{found-bad, found-next}
+use Rattle.text_recogniser.proofs.Chain.{found-bad, found-next}
 use Rattle.text_recogniser.proofs.lines.then_never_pairs.Statement.{statement}
 use Rattle.text_recogniser.proofs.lines.then_never_pairs.Tie as tie
 

@@ -9,10 +9,10 @@ use Rattle.netlist.specs.StoredBlock.{decode}
 use Rattle.netlist.specs.Groups.{groups}
 use Rattle.theory_reach.proofs.Order.{groups-not-empty}
 use Rattle.theory_unrolling.specs.Copies.{groupAt}
-use Rattle.unroll_passes.specs.declared.Turn.{Turn}
-use Rattle.unroll_passes.specs.declared.Counted.{Counted}
-use Rattle.unroll_passes.specs.Passes.{GroupCounted, GroupReady}
-use Rattle.unroll_passes.proofs.PassLaws.{sofar-small, size-some}
+use Rattle.unroll_depth.specs.declared.passes.Turn.{Turn}
+use Rattle.unroll_depth.specs.declared.passes.Counted.{Counted}
+use Rattle.unroll_depth.specs.Passes.{GroupCounted, GroupReady}
+use Rattle.unroll_depth.proofs.PassLaws.{sofar-small, size-some}
 use Rattle.unroll_depth.proofs.CountLaws.{group-size, starts-few, turn-group, group-ready, counting-known}
 use Rattle.unroll_depth.proofs.CountLaws.{counting-next, rest-none, rest-one}
 use Rattle.unroll_depth.proofs.walk.count_at.Statement.{statement}

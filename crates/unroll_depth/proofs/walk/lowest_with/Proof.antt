@@ -11,7 +11,7 @@ use Rattle.theory_encoding.proofs.Decoded.{decode-inputCount}
 use Rattle.lanes_dual_rail.specs.Batches.{lanesOf}
 use Rattle.lanes_dual_rail.specs.Words.{hasLane, Tells}
 use Rattle.lanes_dual_rail.proofs.InputLaws.{lanesOf-most}
-use Rattle.lanes_masks.specs.Lanes.{isUnsound}
+use Rattle.lanes_settings.specs.Lanes.{isUnsound}
 use Rattle.lanes_settings.proofs.Counting.{few-settings, setting-count}
 use Rattle.unroll_depth.proofs.CountLaws.{lowest-known, lowest-none, lowest-some}
 use Rattle.unroll_depth.proofs.walk.lowest_with.Statement.{statement}

@@ -1,2 +1,0 @@
--- The laws that the proofs above cite. Assumes nothing.
-pub mod Written

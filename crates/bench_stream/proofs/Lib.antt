@@ -1,8 +1,0 @@
--- The theorems: a line that is held in part is answered as the whole one, a block that was read is not malformed, and
--- the outputs of the
--- pieces, joined, are `bench` of the pieces joined.
-pub mod LongLines
-pub mod ReadBlocks
-pub mod ReadNevers
-pub mod Whole
-pub mod Pieces

@@ -1,2 +1,0 @@
--- Mathematics of links; no function of src/ is named.
-pub mod Linking

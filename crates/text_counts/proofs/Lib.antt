@@ -1,3 +1,0 @@
--- Laws of counts, over plain lists.
-pub mod Behind
-pub mod TreeCounts

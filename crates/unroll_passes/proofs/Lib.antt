@@ -1,4 +1,0 @@
--- Mathematics of one group's passes; no function of src/ is named.
-pub mod PairLaws
-pub mod GroupLaws
-pub mod PassLaws

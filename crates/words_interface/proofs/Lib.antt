@@ -1,2 +1,0 @@
--- Mathematics of names compared word by word; no function of src/ is named.
-pub mod Interfaces

@@ -1,2 +1,0 @@
--- Laws on the words of names.
-pub mod NameLaws
