@@ -69,9 +69,9 @@ prove_halves() {
   # shellcheck disable=SC2064 # this process
   trap "kill $graphs 2>/dev/null" EXIT INT TERM
   await "$log.graphs" "$graphs" "${below[@]}"
-  nice rt check op_read text_pieces >"$log.texts" 2>&1 || true
-  await "$log.graphs" "$graphs" words_block
-  if tells_of "$log.graphs" words_block; then nice rt check op_write >>"$log.texts" 2>&1 || true; fi
+  nice -n 5 rt check text_names text_pieces text_recogniser >"$log.texts" 2>&1 || true
+  await "$log.graphs" "$graphs" words_block # Write's crate needs it too
+  nice -n 5 rt check op_read op_write >>"$log.texts" 2>&1 || true
   wait "$graphs" || true
   trap - EXIT INT TERM
 }

@@ -103,26 +103,20 @@ fn folders_and_names() {
     }
 }
 
-/// A program of graphs and texts is proved in two halves side by side before it, what is below both first. Write's crate is left to the half of
-/// texts where the other has told of what it needs, and else to the program's.
+/// A program of graphs and texts is proved in two halves side by side before it, what is below both first.
 #[test]
 fn two_halves() {
-    for (tells, write) in [
-        ("", ""),
-        ("rt: words_block proved (1 s)\n", "rt check op_write\n"),
-    ] {
-        let scratch = repository();
-        let crates = "prelude:\nnetlist: prelude\nop_read: prelude\nop_render: prelude\nunloop: op_read op_render\n";
-        scratch.put("crates.txt", format!("{crates}exports: prelude netlist\n"));
-        scratch.put("tells", tells);
-        symlink(found("nice"), scratch.path("tools/nice")).unwrap();
-        let ended = run(&scratch, ALL);
-        assert_eq!(ended.status.code(), Some(7), "{ended:?}");
-        let below = "rt check words_layout words_refusals theory_encoding theory_fixpoint\n";
-        let halves = "rt check op_render\nrt check op_read text_pieces\n";
-        let calls = [below, halves, write, ALL_BUILT].concat();
-        assert_eq!(scratch.get("calls"), calls);
-    }
+    let scratch = repository();
+    let crates = "prelude:\nnetlist: prelude\nop_read: prelude\nop_render: prelude\nunloop: op_read op_render\n";
+    scratch.put("crates.txt", format!("{crates}exports: prelude netlist\n"));
+    symlink(found("nice"), scratch.path("tools/nice")).unwrap();
+    let ended = run(&scratch, ALL);
+    assert_eq!(ended.status.code(), Some(7), "{ended:?}");
+    let below = "rt check words_layout words_refusals theory_encoding theory_fixpoint\n";
+    let graphs = "rt check op_render\n";
+    let texts = "rt check text_names text_pieces text_recogniser\nrt check op_read op_write\n";
+    let calls = [below, graphs, texts, ALL_BUILT].concat();
+    assert_eq!(scratch.get("calls"), calls);
 }
 
 /// A repository where all is built, an hour ago, of sources of two hours ago; no stamp tells of a later build.
