@@ -16,7 +16,7 @@ use Rattle.op_compare.proofs.outputs.lowest_differing.Tie as tie
 
 abbrev Inv-loop : tie.InvT-loop
 Inv-loop ours theirs n lane lanes others count o₀ o =
-    record { within : o ≤ count; none : (i : ℕ) → i < o → differsAt ours theirs n lanes others lane i ≡ false }
+    (o ≤ count) × ((i : ℕ) → i < o → differsAt ours theirs n lanes others lane i ≡ false)
 
 abbrev μ-loop : tie.MeasureT-loop
 μ-loop ours theirs n lane lanes others count o₀ o = count - o
@@ -38,30 +38,32 @@ returns : tie.Need-returns Inv-loop μ-loop
 unfolding differsAt hasLane bit
 returns c =
     let l = c .before .before .before in
-    sym (least-is (test (l .before)) (getD (start (l .before) .args .ours .now) 2 0) (l .loop .o)
-    (omega (arith, l .before .outputs-of .ensures, l .loop .inv .within)) (l .loop .inv .none)
+    sym
+    (least-is (test (l .before)) (getD (start (l .before) .args .ours .now) 2 0) (l .loop .o)
+    (omega (arith, l .before .outputs-of .ensures, l .loop .inv .0)) (l .loop .inv .1)
     (λ m. rw (← c .before .differing-lanes .ensures) (eq-eqb _ _ (c .if1 .taken))))
 
 loop-again : tie.Need-loop-again Inv-loop μ-loop
 unfolding differsAt hasLane bit
 loop-again c =
-    let l = c .before .before .before in
-    record {
-      within = omega arith;
-      none =
-          below-more (λ i. test (l .before) i ≡ false) (l .loop .o) (l .loop .inv .none)
-          (rw (← c .before .differing-lanes .ensures) (ne-eqb _ _ (c .if1 .left)));
-    }
+    let l = c .before .before .before in (
+      omega arith,
+      below-more (λ i. test (l .before) i ≡ false) (l .loop .o) (l .loop .inv .1)
+          (rw (← c .before .differing-lanes .ensures) (ne-eqb _ _ (c .if1 .left))),
+    )
 
 returns-2 : tie.Need-returns-2 Inv-loop μ-loop
 returns-2 c =
     let l = c .before in
-    sym (least-is (test (l .before)) (getD (start (l .before) .args .ours .now) 2 0) (l .loop .o)
-    (omega (arith, l .before .outputs-of .ensures, l .loop .inv .within)) (l .loop .inv .none)
+    sym
+    (least-is (test (l .before)) (getD (start (l .before) .args .ours .now) 2 0) (l .loop .o)
+    (omega (arith, l .before .outputs-of .ensures, l .loop .inv .0)) (l .loop .inv .1)
     (λ m. absurd (omega (arith, l .before .outputs-of .ensures))))
 
 pub lowest-differing-spec : {M : Type 1} → statement M
 lowest-differing-spec =
-    tie.close (tie.spec Inv-loop μ-loop (λ c κs. search needs) (λ c. (omega arith, λ i l. absurd (omega arith)))
-    differing-lanes-requires (λ c. start (c .before .before .before) .pre .2) returns (λ c. omega arith)
-    (λ c. omega arith) loop-again returns-2)
+    tie.close
+    (tie.spec
+    Inv-loop μ-loop (λ c κs. search needs) (λ c. (omega arith, λ i l. absurd (omega arith))) differing-lanes-requires
+    (λ c. start (c .before .before .before) .pre .2) returns (λ c. omega arith) (λ c. omega arith) loop-again
+    returns-2)

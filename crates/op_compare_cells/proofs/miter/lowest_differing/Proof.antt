@@ -16,7 +16,7 @@ use Rattle.op_compare_cells.proofs.miter.lowest_differing.Tie as tie
 
 abbrev Inv-loop : tie.InvT-loop
 Inv-loop words shown lane lanes nodes count o₀ o =
-    record { within : o ≤ count; none : (i : ℕ) → i < o → differsAt words shown lanes nodes lane i ≡ false }
+    (o ≤ count) × ((i : ℕ) → i < o → differsAt words shown lanes nodes lane i ≡ false)
 
 abbrev μ-loop : tie.MeasureT-loop
 μ-loop words shown lane lanes nodes count o₀ o = count - o
@@ -37,30 +37,31 @@ found : tie.Need-returns Inv-loop μ-loop
 unfolding differsAt hasLane bit
 found c =
     let l = c .before .before .before in
-    sym (least-is (test (l .before)) (getD (start (l .before) .args .words .now) 2 0) (l .loop .o)
-    (omega (arith, l .before .outputs-of .ensures, l .loop .inv .within)) (l .loop .inv .none)
+    sym
+    (least-is (test (l .before)) (getD (start (l .before) .args .words .now) 2 0) (l .loop .o)
+    (omega (arith, l .before .outputs-of .ensures, l .loop .inv .0)) (l .loop .inv .1)
     (λ m. rw (← c .before .differing-lanes .ensures) (eq-eqb _ _ (c .if1 .taken))))
 
 loop-again : tie.Need-loop-again Inv-loop μ-loop
 unfolding differsAt hasLane bit
 loop-again c =
-    let l = c .before .before .before in
-    record {
-      within = omega arith;
-      none =
-          below-more (λ i. test (l .before) i ≡ false) (l .loop .o) (l .loop .inv .none)
-          (rw (← c .before .differing-lanes .ensures) (ne-eqb _ _ (c .if1 .left)));
-    }
+    let l = c .before .before .before in (
+      omega arith,
+      below-more (λ i. test (l .before) i ≡ false) (l .loop .o) (l .loop .inv .1)
+          (rw (← c .before .differing-lanes .ensures) (ne-eqb _ _ (c .if1 .left))),
+    )
 
 none : tie.Need-returns-2 Inv-loop μ-loop
 none c =
     let l = c .before in
-    sym (least-is (test (l .before)) (getD (start (l .before) .args .words .now) 2 0) (l .loop .o)
-    (omega (arith, l .before .outputs-of .ensures, l .loop .inv .within)) (l .loop .inv .none)
+    sym
+    (least-is (test (l .before)) (getD (start (l .before) .args .words .now) 2 0) (l .loop .o)
+    (omega (arith, l .before .outputs-of .ensures, l .loop .inv .0)) (l .loop .inv .1)
     (λ m. absurd (omega (arith, l .before .outputs-of .ensures))))
 
 pub lowest-differing-spec : {M : Type 1} → statement M
 lowest-differing-spec =
-    tie.close (tie.spec Inv-loop μ-loop (λ c κs. search needs) (λ c. (omega arith, λ i l. absurd (omega arith)))
-    differing-lanes-requires (λ c. start (c .before .before .before) .pre .1) found (λ c. omega arith)
-    (λ c. omega arith) loop-again none)
+    tie.close
+    (tie.spec
+    Inv-loop μ-loop (λ c κs. search needs) (λ c. (omega arith, λ i l. absurd (omega arith))) differing-lanes-requires
+    (λ c. start (c .before .before .before) .pre .1) found (λ c. omega arith) (λ c. omega arith) loop-again none)
