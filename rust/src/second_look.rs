@@ -57,6 +57,7 @@ impl Form<'_> {
 
 /// Whether a written text says what the original says: it has the form, the original's pins and ports in their order and, as a netlist, its
 /// never lines; and under every setting that no never line excludes each port shows the original's value, undefined where that is undefined.
+/// A text with some 2,000 nets, twice as many as a block's gates, is not read.
 ///
 /// ```
 /// # use unloop::second_look::{agrees, Form, Language};

@@ -391,6 +391,20 @@ fn no_pins_and_too_many() {
     }
 }
 
+/// As many gates as a block may have are read, and of far more none is.
+#[test]
+fn many_gates_and_too_many() {
+    for (gates, read) in [(1_024, true), (3_000, false)] {
+        let first = "(in a)\n(gate _0 (not a))\n".to_string();
+        let line = |gate: usize| format!("(gate _{gate} (not _{}))\n", gate - 1);
+        let lines: String = (1..gates).map(line).collect();
+        let text = format!("{first}{lines}(out y _{})\n", gates - 1);
+        let form = Form::rendering(Language::Netlist);
+        let looked = agrees(text.as_bytes(), text.as_bytes(), form);
+        assert_eq!(looked.is_ok(), read, "{looked:?}");
+    }
+}
+
 /// Texts that are of no form, have a loop, or another interface.
 #[test]
 fn texts_that_are_spoiled_otherwise() {

@@ -1,20 +1,59 @@
 //! A reader of BLIF models as they are written here: one model of `.names` tables, each of whose rows fixes all of its at most four inputs.
 
 use super::circuit::{Circuit, Function, Reads};
-use super::cursor::{key_of, Cursor, Letters};
+use super::cursor::{key_of, Cursor, Letters, ONES};
 use super::nets::Net;
 
 /// What names are made of: all but blanks and what begins a comment.
 static LETTERS: Letters = Letters::of(&[(b'!', b'"'), (b'$', 254)]);
 
-/// A row of zeros over none to four inputs, as a key, the bits that differ where a digit is 1, and the row's length.
-const ROWS: [(u64, u64, u32); 5] = [
-    (key_of(b"0\n"), key_of(b"\x01"), 2),
-    (key_of(b"0 0\n"), key_of(b"\x01\0\x01"), 4),
-    (key_of(b"00 0\n"), key_of(b"\x01\x01\0\x01"), 5),
-    (key_of(b"000 0\n"), key_of(b"\x01\x01\x01\0\x01"), 6),
-    (key_of(b"0000 0\n"), key_of(b"\x01\x01\x01\x01\0\x01"), 7),
+/// Rows over none to four inputs.
+static ROWS: [Row; 5] = [
+    Row::like(b"0\n", 0),
+    Row::like(b"0 0\n", 1),
+    Row::like(b"00 0\n", 2),
+    Row::like(b"000 0\n", 3),
+    Row::like(b"0000 0\n", 4),
 ];
+
+/// How a row is written: a digit for each of its inputs, and behind a blank the value; without inputs the value alone.
+struct Row {
+    /// A row of zeros, as a key.
+    zeros: u64,
+    /// The bits of the row that are no digit's lowest, and so are those of a row of zeros.
+    fixed: u64,
+    /// The lowest bits of the inputs' digits.
+    inputs: u64,
+    /// Where the lowest bit of the value's digit stands.
+    value: u32,
+    length: usize,
+}
+
+impl Row {
+    const fn like(zeros: &[u8], inputs: u32) -> Row {
+        let length = zeros.len();
+        let value = 8 * (length as u32 - 2);
+        let inputs = ONES & ((1 << (8 * inputs)) - 1);
+        Row {
+            zeros: key_of(zeros),
+            fixed: ((1 << (8 * length)) - 1) & !inputs & !(1 << value),
+            inputs,
+            value,
+            length,
+        }
+    }
+
+    /// Takes such a row: its inputs as bits, the first the lowest, and its value.
+    #[inline(always)]
+    fn take(&self, text: &mut Cursor) -> Option<(u64, u64)> {
+        let differs = text.eight() ^ self.zeros;
+        (differs & self.fixed == 0).then_some(())?;
+        text.pass(self.length);
+        // Bits 0, 8, 16 and 24 come to stand as bits 24 to 27.
+        let inputs = (differs & self.inputs).wrapping_mul(1 << 24 | 1 << 17 | 1 << 10 | 1 << 3);
+        Some((inputs >> 24 & 0xF, differs >> self.value & 1))
+    }
+}
 
 /// Reads a model; `loops`: whether a table may read its own net or one that is driven below it.
 pub fn read(text: &[u8], loops: bool, circuit: &mut Circuit) -> Result<(), String> {
@@ -89,18 +128,18 @@ impl Model<'_> {
     /// A table: its inputs and its net, and then the rows.
     fn table(&mut self) -> Option<()> {
         let (mut text, nets) = (self.text, &mut self.circuit.nets);
-        let mut reads = Reads::none();
+        let (mut list, mut count) = (Reads::NONE, 0);
         let mut net = nets.take(&mut text, &LETTERS)?;
         while text.takes(b" ") {
-            reads.push(net)?;
+            *list.get_mut(count)? = net;
+            count += 1;
             net = nets.take(&mut text, &LETTERS)?;
         }
         text.must(b"\n")?;
-        let operands = reads.count();
         // All rows have the same value, and where none is met it is the other one; a table without rows is 0.
-        let (mut rows, mut values) = (0, 0);
+        let (form, mut rows, mut values) = (&ROWS[count], 0, 0);
         while let Some(b'0' | b'1') = text.next() {
-            let (row, value) = row(&mut text, operands)?;
+            let (row, value) = form.take(&mut text)?;
             rows |= 1 << row;
             values |= 1 << value;
         }
@@ -110,8 +149,8 @@ impl Model<'_> {
             _ => return None,
         };
         self.text = text;
-        let function = Function::of_table(table, operands);
-        self.circuit.push(function, net, reads);
+        let function = Function::of_table(table, count);
+        self.circuit.push(function, net, Reads { list, count });
         Some(())
     }
 
@@ -132,18 +171,4 @@ impl Model<'_> {
         self.text.pass_line();
         Some(())
     }
-}
-
-/// A row of a table: a digit for each of at most four inputs, and behind a blank the value; without inputs the value alone.
-#[inline(always)]
-fn row(text: &mut Cursor, operands: usize) -> Option<(u64, u64)> {
-    let (zeros, digits, length) = ROWS[operands];
-    let row = (text.eight() ^ zeros) & !(u64::MAX << (8 * length));
-    (row & !digits == 0).then_some(())?;
-    text.pass(length as usize);
-    let value = row >> (8 * (length - 2)) & 1;
-    let digits = row & !(u64::MAX << (8 * operands));
-    // Bits 0, 8, 16 and 24, as bits 0 to 3.
-    let row = (digits | digits >> 7 | digits >> 14 | digits >> 21) & 0xF;
-    Some((row, value))
 }

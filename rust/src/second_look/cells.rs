@@ -51,6 +51,10 @@ struct Table<'a> {
 impl Table<'_> {
     /// Takes a comment: one that tells pins or ports, or any other.
     fn comment(&mut self) -> Option<()> {
+        if !matches!(self.text.next(), Some(b'i' | b'o')) {
+            self.text.pass_line();
+            return Some(());
+        }
         if self.text.takes(b"inputs ") {
             let (count, new) = (
                 number(&mut self.text)?,
@@ -93,26 +97,26 @@ impl Table<'_> {
     /// Takes a cell: four operands and the truth word. Of the last operands that are the constant 0 only rows with a 0 are met.
     fn cell(&mut self) -> Option<()> {
         (self.inputs && self.outputs.is_none()).then_some(())?;
-        let (mut text, mut reads) = (self.text, Reads::none());
-        for _ in 0..4 {
-            if text.takes(CONSTANT_ZERO) {
-                reads.push(ZERO)?;
-                continue;
+        let mut text = self.text;
+        let mut operand = || match text.takes(CONSTANT_ZERO) {
+            true => Some(ZERO),
+            false => {
+                let net = match number(&mut text)? {
+                    CONSTANT_ONE => ONE,
+                    number => self.net(number)?,
+                };
+                text.must(b" ").map(|()| net)
             }
-            let net = match number(&mut text)? {
-                CONSTANT_ONE => ONE,
-                number => self.net(number)?,
-            };
-            reads.push(net)?;
-            text.must(b" ")?;
-        }
+        };
+        let list = [operand()?, operand()?, operand()?, operand()?];
+        let last = list.iter().rposition(|&net| net != ZERO);
+        let count = last.map_or(0, |last| last + 1);
         let table = u16::try_from(number(&mut text)?).ok()?;
         text.must(b"\n")?;
         self.text = text;
-        reads.drop_last(ZERO);
         let net = self.circuit.nets.unnamed();
-        let function = Function::of_table(table, reads.count());
-        self.circuit.push(function, net, reads);
+        let function = Function::of_table(table, count);
+        self.circuit.push(function, net, Reads { list, count });
         Some(())
     }
 

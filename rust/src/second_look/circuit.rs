@@ -73,39 +73,16 @@ pub struct Gate {
     pub wide: bool,
 }
 
-/// What a gate reads, in order: at most four nets.
+/// What a gate reads, in order: so many nets, and behind them the constant 0.
 #[derive(Debug, Clone, Copy)]
 pub struct Reads {
-    list: [Net; MOST_READS],
-    count: usize,
+    pub list: [Net; MOST_READS],
+    pub count: usize,
 }
 
 impl Reads {
-    pub fn none() -> Reads {
-        Reads {
-            list: [ZERO; MOST_READS],
-            count: 0,
-        }
-    }
-
-    /// None where there are four already.
-    #[inline(always)]
-    pub fn push(&mut self, read: Net) -> Option<()> {
-        *self.list.get_mut(self.count)? = read;
-        self.count += 1;
-        Some(())
-    }
-
-    /// Leaves out the last of which each is this net.
-    pub fn drop_last(&mut self, net: Net) {
-        while self.count > 0 && self.list[self.count - 1] == net {
-            self.count -= 1;
-        }
-    }
-
-    pub fn count(&self) -> usize {
-        self.count
-    }
+    /// A list to be filled, in which nothing stands.
+    pub const NONE: [Net; MOST_READS] = [ZERO; MOST_READS];
 
     /// All four, the last of which are the constant that changes nothing.
     #[inline(always)]
@@ -157,7 +134,7 @@ impl Circuit {
     }
 
     /// Notes a net that a gate drives, or a setting.
-    #[inline]
+    #[inline(always)]
     pub fn drive(&mut self, net: Net) {
         if self.nets.drive(net) {
             self.twice.get_or_insert(net);
@@ -193,6 +170,7 @@ impl Circuit {
         let shown = shown.find(|&net| !self.nets.is_driven(net));
         let name = |net: Net| self.nets.label(net).told(text);
         match (self.twice, self.nets.open().or(shown)) {
+            _ if u32::try_from(text.len()).is_err() => Err("it is too long".to_string()),
             (Some(net), _) => Err(format!("{} is driven twice", name(net))),
             (None, Some(net)) => Err(format!("nothing drives {}", name(net))),
             _ if !loops && self.loops => Err("a gate reads itself or one below it".to_string()),

@@ -56,9 +56,12 @@ impl Letters {
     /// Whether the bytes of a short key are letters, and may be a name.
     #[inline(always)]
     pub fn are_all(&self, key: u64, length: usize) -> bool {
-        let letters = (0..length).all(|place| self.has((key >> (8 * place)) as u8));
+        let mut left = key;
+        while self.has(left as u8) {
+            left >>= 8;
+        }
         let first = self.digit_first || !(key as u8).is_ascii_digit();
-        letters && first && (1..=self.longest).contains(&length)
+        left == 0 && first && (1..=self.longest).contains(&length)
     }
 
     /// Whether a name may be of these letters.
@@ -140,15 +143,15 @@ impl<'a> Cursor<'a> {
     }
 
     /// The key of what stands here up to a byte below all letters, and its length, where that is among the next eight: of a name, or of no
-    /// name at all.
+    /// name at all. None where fewer than eight bytes are left.
     #[inline(always)]
     pub fn key(&self, letters: &Letters) -> Option<(u64, usize)> {
-        let eight = self.eight();
+        let eight = u64::from_le_bytes(*self.rest.first_chunk()?);
         // A byte's highest bit is set by the subtraction where it is less, and by a borrow only behind such a byte.
         let less = eight.wrapping_sub(ONES * letters.least as u64) & !eight & (ONES << 7);
-        let first = less & less.wrapping_neg();
         let length = less.trailing_zeros() as usize / 8;
-        (less != 0).then(|| (eight & ((first >> 7) - 1), length))
+        // All bits up to the highest of the first such byte, and of these all but that byte's.
+        (less != 0).then(|| (eight & (less ^ (less - 1)) >> 8, length))
     }
 
     /// The name that stands here: all letters from here on, if there are any and they may be one.
@@ -161,17 +164,13 @@ impl<'a> Cursor<'a> {
 
     /// Goes past the rest of the line, and its end if it has one.
     pub fn pass_line(&mut self) {
-        const ENDS: u64 = 0x0A0A_0A0A_0A0A_0A0A;
-        // A byte of the difference is 0 where a line ends; the first that is found to be is.
-        let ends = |eight: &[u8; 8]| {
-            let other = u64::from_le_bytes(*eight) ^ ENDS;
-            other.wrapping_sub(ONES) & !other & (ONES << 7) != 0
-        };
-        while let Some((_, rest)) = self
-            .rest
-            .split_first_chunk()
-            .filter(|(eight, _)| !ends(eight))
-        {
+        while let Some((eight, rest)) = self.rest.split_first_chunk() {
+            // A byte of the difference is 0 where a line ends; the first that is found to be is.
+            let other = u64::from_le_bytes(*eight) ^ (ONES * u64::from(b'\n'));
+            let ends = other.wrapping_sub(ONES) & !other & (ONES << 7);
+            if ends != 0 {
+                return self.pass(ends.trailing_zeros() as usize / 8 + 1);
+            }
             self.rest = rest;
         }
         let line = self.rest.iter().position(|&byte| byte == b'\n');

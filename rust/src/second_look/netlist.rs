@@ -93,34 +93,49 @@ impl Reader<'_> {
     }
 
     /// An expression behind its bracket: a gate that drives this net; its inner ones come before it.
+    #[inline(always)]
     fn expression(&mut self, net: Net, depth: usize) -> Option<()> {
         let mut text = self.text;
         let (word, length) = text.key(&LETTERS)?;
         text.pass(length);
-        let mut reads = Reads::none();
+        let (mut list, mut count) = (Reads::NONE, 0);
         while text.takes(b" ") {
-            reads.push(match text.next()? {
-                b'(' => {
-                    text.pass(1);
+            *list.get_mut(count)? = match self.circuit.nets.known(text, &LETTERS) {
+                Some((net, length)) => {
+                    text.pass(length);
+                    net
+                }
+                None => {
                     self.text = text;
-                    let net = self.inner(depth)?;
+                    let net = self.other_operand(depth)?;
                     text = self.text;
                     net
                 }
-                b'0' => text.must(b"0").map(|()| ZERO)?,
-                b'1' => text.must(b"1").map(|()| ONE)?,
-                _ => self.circuit.nets.take(&mut text, &LETTERS)?,
-            })?;
+            };
+            count += 1;
         }
         text.must(b")")?;
         self.text = text;
-        let function = Function::of_word(word, reads.count())?;
-        self.circuit.push(function, net, reads);
+        let function = Function::of_word(word, count)?;
+        self.circuit.push(function, net, Reads { list, count });
         Some(())
     }
 
-    /// An operand that is an expression, behind its bracket.
+    /// An operand that is an expression, a constant, or a name that may be new.
     #[inline(never)]
+    fn other_operand(&mut self, depth: usize) -> Option<Net> {
+        match self.text.next()? {
+            b'(' => {
+                self.text.pass(1);
+                self.inner(depth)
+            }
+            b'0' => self.text.must(b"0").map(|()| ZERO),
+            b'1' => self.text.must(b"1").map(|()| ONE),
+            _ => self.net(),
+        }
+    }
+
+    /// An operand that is an expression, behind its bracket.
     fn inner(&mut self, depth: usize) -> Option<Net> {
         let net = self.circuit.nets.unnamed();
         (depth < DEPTH).then(|| self.expression(net, depth + 1))??;

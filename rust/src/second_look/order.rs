@@ -50,9 +50,9 @@ impl Order {
             self.drivers[gate.net as usize] = Driver::Gate(number as u32);
         }
         for (_, shown) in &circuit.ports {
-            self.begin(*shown);
-            while let Some(waiting) = self.waiting.pop() {
-                self.go_on(circuit, waiting);
+            let mut next = self.begun(*shown);
+            while let Some(gate) = next {
+                next = self.go_on(circuit, gate).or_else(|| self.waiting.pop());
             }
         }
     }
@@ -67,23 +67,23 @@ impl Order {
         ]
     }
 
-    /// Lets the gate of a net wait, unless it has begun.
+    /// The gate of a net, unless it has begun.
     #[inline(always)]
-    fn begin(&mut self, net: Net) {
+    fn begun(&mut self, net: Net) -> Option<Waiting> {
         let Driver::Gate(gate) = self.drivers[net as usize] else {
-            return;
+            return None;
         };
         self.drivers[net as usize] = Driver::Waits;
-        self.waiting.push(Waiting {
+        Some(Waiting {
             gate,
             followed: 0,
             closes: false,
-        });
+        })
     }
 
-    /// Follows what a gate reads up to the first gate that has not begun, and puts it into the order if there is none.
+    /// Follows what a gate reads up to the first gate that has not begun, for which it waits, and puts it into the order if there is none.
     #[inline(always)]
-    fn go_on(&mut self, circuit: &Circuit, mut waiting: Waiting) {
+    fn go_on(&mut self, circuit: &Circuit, mut waiting: Waiting) -> Option<Waiting> {
         let gate = &circuit.gates[waiting.gate as usize];
         let reads = &gate.reads[..if gate.wide { 4 } else { 2 }];
         while let Some(&read) = reads.get(waiting.followed) {
@@ -92,8 +92,7 @@ impl Order {
                 Driver::Done => {}
                 Driver::Gate(_) => {
                     self.waiting.push(waiting);
-                    self.begin(read);
-                    return;
+                    return self.begun(read);
                 }
                 Driver::Waits => {
                     self.drivers[read as usize] = Driver::Closes;
@@ -104,6 +103,7 @@ impl Order {
             }
         }
         self.put(gate, waiting.closes);
+        None
     }
 
     #[inline(always)]

@@ -112,23 +112,42 @@ impl Module<'_> {
         self.text.must(b" ")?;
         let net = self.net()?;
         self.text.must(b" = ")?;
-        let mut reads = Reads::none();
-        reads.push(self.operand()?)?;
-        self.circuit.push(Function::And(false), net, reads);
+        let (mut list, count) = (Reads::NONE, 1);
+        list[0] = self.operand()?;
+        let function = Function::And(false);
+        self.circuit.push(function, net, Reads { list, count });
         Some(())
     }
 
     /// A gate: behind its word its net and what it reads.
+    #[inline(always)]
     fn gate(&mut self, word: u64) -> Option<()> {
         self.text.must(b" (")?;
         let net = self.net()?;
-        let mut reads = Reads::none();
-        while self.text.takes(b", ") {
-            reads.push(self.operand()?)?;
+        let mut text = self.text;
+        let (mut list, mut count) = (Reads::NONE, 0);
+        while text.takes(b", ") {
+            // What a name of a driven net leads to is declared, and no vector.
+            let nets = &self.circuit.nets;
+            let known = nets.known(text, &LETTERS);
+            *list.get_mut(count)? = match known.filter(|&(net, _)| nets.is_driven(net)) {
+                Some((net, length)) => {
+                    text.pass(length);
+                    net
+                }
+                None => {
+                    self.text = text;
+                    let net = self.operand()?;
+                    text = self.text;
+                    net
+                }
+            };
+            count += 1;
         }
-        self.text.must(b")")?;
-        let function = Function::of_word(word, reads.count())?;
-        self.circuit.push(function, net, reads);
+        text.must(b")")?;
+        self.text = text;
+        let function = Function::of_word(word, count)?;
+        self.circuit.push(function, net, Reads { list, count });
         Some(())
     }
 
@@ -144,24 +163,27 @@ impl Module<'_> {
     }
 
     /// A name that is declared, with a net for each bit of a vector.
+    #[inline(always)]
     fn declare(&mut self, role: Role, width: Option<u16>) -> Option<()> {
         let name = self.name()?;
-        let mut bits = (0..width.unwrap_or(0)).map(|bit| self.circuit.nets.bit(name, bit));
-        let first = bits.next().unwrap_or(name);
-        bits.for_each(drop);
+        let first = match width {
+            None => name,
+            Some(width) => self.circuit.nets.bits(name, width),
+        };
         let new = Declared { role, first, width };
         if role == Role::Input {
             new.nets().for_each(|net| self.circuit.drive(net));
         }
-        if self.room.declared.len() < self.circuit.nets.count() {
-            let more = 2 * self.circuit.nets.count();
-            self.room.declared.resize(more, None);
+        let declared = &mut self.room.declared;
+        if declared.len() <= name as usize {
+            declared.resize(2 * self.circuit.nets.count(), None);
         }
-        let known = self.room.declared[name as usize].replace(new);
+        let known = declared[name as usize].replace(new);
         known.is_none().then_some(())
     }
 
     /// Parts with commas between them.
+    #[inline(always)]
     fn list(&mut self, mut part: impl FnMut(&mut Self) -> Option<()>) -> Option<()> {
         part(self)?;
         while self.text.takes(b", ") {
@@ -170,7 +192,7 @@ impl Module<'_> {
         Some(())
     }
 
-    #[inline(always)]
+    #[inline(never)]
     fn operand(&mut self) -> Option<Net> {
         if self.text.next() != Some(b'1') {
             return self.net();
@@ -207,7 +229,7 @@ impl Module<'_> {
         let name = self.text.name(&ESCAPED)?;
         let plain = name.iter().all(|byte| LETTERS.has(*byte)) && LETTERS.may_be(name);
         let short = plain && name.len() <= 8;
-        let net = self.circuit.nets.named(&self.text, name, short);
+        let net = self.circuit.nets.named(&self.text, name, short)?;
         self.text.must(b" ")?;
         Some(net)
     }

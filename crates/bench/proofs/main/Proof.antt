@@ -1,4 +1,4 @@
--- `bench::main` meets its contract: the buffers are long enough, and nothing is prepared yet. Assumes nothing.
+-- `bench::main` meets its contract: the buffers are long enough, and nothing is prepared yet.
 use mathlib.Core.Path.{refl}
 use Rattle.graph_simulation.proofs.Starts.{empty}
 use borrow.Author.Needs.{needs}
@@ -10,6 +10,5 @@ serve-requires c κs = (search needs, record { long = refl; empty = empty })
 
 pub main-spec : {M : Type 1} → statement M
 main-spec =
-    tie.close
-    (tie.spec
-    (λ c. search needs) (λ c. search needs) (λ c. search needs) (λ c. search needs) serve-requires (λ c. search needs))
+    tie.close (tie.spec (λ c. search needs) (λ c. search needs) (λ c. search needs) (λ c. search needs) serve-requires
+    (λ c. search needs))

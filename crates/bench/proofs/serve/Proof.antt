@@ -1,5 +1,5 @@
 -- `bench::serve` meets its contract: what is ready stays so from read to read. The measure is the number of turns that
--- are left. Assumes nothing.
+-- are left.
 use mathlib.Core.Path.{sym}
 use native.Mathlib.Omega.{arith}
 use borrow.Author.Needs.{needs}
@@ -50,8 +50,7 @@ slice-aggregate-write-all c =
 
 pub serve-spec : {M : Type 1} → statement M
 serve-spec =
-    tie.close
-    (tie.spec
-    Inv-loop μ-loop (λ c κs. search needs) loop-holds serve-some-requires (λ c. omega arith) (λ c. omega arith)
-    loop-again finish-requires slice-reshare-prefix-write-all slice-aggregate-write-all (λ c κs. search needs)
-    (λ c. omega arith) (λ c. omega arith) (λ c. omega arith) (λ c. omega arith) (λ c. search needs))
+    tie.close (tie.spec Inv-loop μ-loop (λ c κs. search needs) loop-holds serve-some-requires (λ c. omega arith)
+    (λ c. omega arith) loop-again finish-requires slice-reshare-prefix-write-all slice-aggregate-write-all
+    (λ c κs. search needs) (λ c. omega arith) (λ c. omega arith) (λ c. omega arith) (λ c. omega arith)
+    (λ c. search needs))

@@ -1,5 +1,5 @@
 -- `bench::serve_piece` meets its contract: `feed` keeps what is ready, and takes something of what is left of the
--- piece. Assumes nothing.
+-- piece.
 use Prim.Native.Nat.{_≤_, _-_}
 use mathlib.Core.Path.{_≡_, sym, ap, _∙_}
 use native.Mathlib.Omega.{arith}
@@ -90,8 +90,6 @@ returns c = c .before .loop .inv .1
 
 pub serve-piece-spec : {M : Type 1} → statement M
 serve-piece-spec =
-    tie.close
-    (tie.spec
-    Inv-loop μ-loop loop-holds (λ c. omega arith) (λ c. omega arith) (λ c. omega arith) feed-requires
-    slice-reshare-prefix-write-all slice-aggregate-write-all (λ c κs. search needs) add-at loop-less loop-again
-    (λ c. omega arith) (λ c. omega arith) (λ c. omega arith) (λ c. omega arith) returns)
+    tie.close (tie.spec Inv-loop μ-loop loop-holds (λ c. omega arith) (λ c. omega arith) (λ c. omega arith)
+    feed-requires slice-reshare-prefix-write-all slice-aggregate-write-all (λ c κs. search needs) add-at loop-less
+    loop-again (λ c. omega arith) (λ c. omega arith) (λ c. omega arith) (λ c. omega arith) returns)

@@ -1,4 +1,4 @@
--- `exports::unloop_compare_cells` meets its contract: its reply keeps the operation's promise. Assumes nothing.
+-- `exports::unloop_compare_cells` meets its contract: its reply keeps the operation's promise.
 use Rattle.exports.proofs.Shown.{shows-told}
 use borrow.Author.Needs.{needs}
 use Rattle.exports.proofs.unloop_compare_cells.Statement.{statement}

@@ -1,4 +1,4 @@
--- `exports::unloop_gather` meets its contract: its reply keeps the operation's promise on both slices. Assumes nothing.
+-- `exports::unloop_gather` meets its contract: its reply keeps the operation's promise on both slices.
 use Rattle.exports.proofs.Shown.{gather-reply}
 use borrow.Author.Needs.{needs}
 use Rattle.exports.proofs.unloop_gather.Statement.{statement}

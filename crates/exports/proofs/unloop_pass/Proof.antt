@@ -1,4 +1,4 @@
--- `exports::unloop_pass` meets its contract: its reply keeps the operation's promise. Assumes nothing.
+-- `exports::unloop_pass` meets its contract: its reply keeps the operation's promise.
 use Rattle.exports.proofs.Shown.{pass-reply}
 use borrow.Author.Needs.{needs}
 use Rattle.exports.proofs.unloop_pass.Statement.{statement}

@@ -1,4 +1,4 @@
--- `exports::unloop_render` meets its contract: it shows an answer that keeps the promise. Assumes nothing.
+-- `exports::unloop_render` meets its contract: it shows an answer that keeps the promise.
 use Rattle.exports.proofs.Shown.{render-reply}
 use borrow.Author.Needs.{needs}
 use Rattle.exports.proofs.unloop_render.Statement.{statement}

@@ -1,7 +1,7 @@
 -- `exports::unloop_sheet` meets its contract: a walk of its MIR, by hand. The borrow of the records is opened once,
 -- before the loop, and closed once, after it. A turn takes one record out of the row, calls `advance` and `answer` with
 -- it, and puts what they leave in its place. All that the proof knows of the five functions that are called is that
--- they meet their contracts. What the turns come to is in Walked of `op_sheet`. Assumes nothing.
+-- they meet their contracts. What the turns come to is in Walked of `op_sheet`.
 use mathlib.Core.Path.{_≡_, refl, sym, _∙_, ap, subst}
 use Prim.Native.Nat.{ℕ, zero, suc, _+_, _-_, _*_, _%_, _≤_, _<_, _^_}
 use native.Mathlib.Nat.{add-zero, add-suc, suc-add, zero-add, lt-suc-self, lt-irrefl}
@@ -226,16 +226,14 @@ module _ {M : Type 1} (𝓤 : URA M) (H : Heap 𝓤) (A : Atoms 𝓤) (W : Given
       (Started 𝓤 H A at-mem run .pre to-started)
   handed-started =
       qed W (Alive ∷ ‵ (owns (ShrSlice (named 0) κ u16 ∷ usize ∷ []) (s, (n, tt)) (v ∷ [], (vint w64 n ∷ [], tt))) ∷ [])
-      ∵ join ! $ frame ! $
-      done !
+      ∵ join ! $ frame ! $ done !
 
   goes-started : ent 𝓤 (⋆ 𝓤 H A (Alive ∷ ‵ Own ∷ [])) (sep 𝓤 (Started 𝓤 H A at-mem run .pre to-started) (sem 𝓤 H A Own))
   goes-started =
       qed W (Alive ∷ ‵ Own ∷ [])
       ∵ move ! (1 ∷ []) $ use1 W (‵ Own ⊛ ‵ Own) (shr-slice-copy 𝓤 H A W (named 0) κ u16 .twice s (v ∷ [])) $ split ! $
       move ! (1 ∷ 2 ∷ 0 ∷ []) $ nothing ! $ owned ! usize (Is usize) (uint-makes 𝓤 H A W w64) n _ (refl, fits .0) $
-      fjoin ! $ move ! (1 ∷ 0 ∷ []) $ fjoin ! $
-      move ! (1 ∷ 0 ∷ []) $
+      fjoin ! $ move ! (1 ∷ 0 ∷ []) $ fjoin ! $ move ! (1 ∷ 0 ∷ []) $
       use2 W (raw (Started 𝓤 H A at-mem run .pre to-started)) handed-started $ frame ! $ done !
 
   said-started : (r : Reply)
@@ -261,8 +259,7 @@ module _ {M : Type 1} (𝓤 : URA M) (H : Heap 𝓤) (A : Atoms 𝓤) (W : Given
 
     handed-placed : t < 2 * c
         → ent 𝓤 (⋆ 𝓤 H A (‵ ftrue ∷ ‵ (owns (usize ∷ usize ∷ []) (c, (t, tt)) (vint w64 c ∷ [], (vint w64 t ∷ [], tt)))
-        ∷ []))
-        (Placed 𝓤 H A at-mem run .pre to-placed)
+        ∷ [])) (Placed 𝓤 H A at-mem run .pre to-placed)
     handed-placed small =
         qed W (‵ ftrue ∷ ‵ (owns (usize ∷ usize ∷ []) (c, (t, tt)) (vint w64 c ∷ [], (vint w64 t ∷ [], tt))) ∷ [])
         ∵ says ! small $ join ! $ done !
@@ -290,14 +287,12 @@ module _ {M : Type 1} (𝓤 : URA M) (H : Heap 𝓤) (A : Atoms 𝓤) (W : Given
       gathers P handed =
           qed W (Alive ∷ ‵ Own ∷ [])
           ∵ move ! (1 ∷ []) $ use1 W (‵ Own ⊛ ‵ Own) (shr-slice-copy 𝓤 H A W (named 0) κ u16 .twice s (v ∷ [])) $
-          split ! $
-          move ! (1 ∷ 2 ∷ 0 ∷ []) $ nothing ! $ owned ! B.the-row (Is B.the-row)
+          split ! $ move ! (1 ∷ 2 ∷ 0 ∷ []) $ nothing ! $ owned ! B.the-row (Is B.the-row)
           (LL.makes B.the-type B′.the-plain 𝓤 H A) x _ had $ fjoin ! $
           owned ! Row (Is Row) (LL.makes R.the-type R′.the-plain 𝓤 H A) z _ was $ fjoin ! $
           owned ! usize (Is usize) (uint-makes 𝓤 H A W w64) t _ (refl, t-fits) $ fjoin ! $
           owned ! usize (Is usize) (uint-makes 𝓤 H A W w64) c _ (refl, c-fits) $ fjoin ! $ move ! (1 ∷ 0 ∷ []) $
-          fjoin ! $ move ! (1 ∷ 0 ∷ []) $
-          use2 W (raw P) handed $ frame ! $ done !
+          fjoin ! $ move ! (1 ∷ 0 ∷ []) $ use2 W (raw P) handed $ frame ! $ done !
 
       abbrev to-advances : Advances 𝓤 H A at-mem run .Ghost
       to-advances = (((κ, tt), (q, tt), tt, args, vals), tt)
@@ -355,19 +350,16 @@ module _ {M : Type 1} (𝓤 : URA M) (H : Heap 𝓤) (A : Atoms 𝓤) (W : Given
     exits =
         qed W (‵ (fobs γ (codedHoleys Row .code (heres Row (after last))))
         ∷ ‵ (fbor κ′ (Held Row (length (after last)) b o γ)) ∷ ‵ (flft κ′ q′)
-        ∷ Alive ∷ ‵ Own ∷ []) ∵
-        suffices ! _ (ends-at 𝓤 H A f.ended stayed (f.clauses 𝓤 H A at-mem run) W
+        ∷ Alive ∷ ‵ Own ∷ []) ∵ suffices ! _ (ends-at 𝓤 H A f.ended stayed (f.clauses 𝓤 H A at-mem run) W
         (((κ, (κ′, tt)), (q, (q′, tt)), tt, x, at), tt) (P′.lowered r) r
-        (tt, (after last, tt)) (tt, (length-after last, tt))) $
-        says-both ! said (turns-all ws rs r said) $
+        (tt, (after last, tt)) (tt, (length-after last, tt))) $ says-both ! said (turns-all ws rs r said) $
         -- the tokens
         nothing ! $ move ! (4 ∷ []) $ split ! $ move ! (1 ∷ []) $ drop ! $ move ! (4 ∷ 1 ∷ []) $ join ! $
         move ! (1 ∷ 0 ∷ []) $ join ! $ frame ! $
         -- [obs; the borrow; what the block owns]
         fjoin ! $ pureI ! (at-slice Row (lentAt (after last)) (v′ ∷ [])) (tt, (tt, tt)) (
           ap (λ (m : ℕ). sliceVal (b, o) m ∷ []) (sym (length-after last)),
-          subst (Room Row) (sym (length-after last))
-              fits,
+          subst (Room Row) (sym (length-after last)) fits,
         ) $ fjoin ! $
         nothing ! $ move ! (1 ∷ 0 ∷ []) $ fjoin ! $ move ! (1 ∷ 0 ∷ []) $ fjoin ! $
         owned ! P.the-row (Is P.the-row) (LL.makes P.the-type P′.the-plain 𝓤 H A) r _ is $ move ! (1 ∷ 0 ∷ []) $ done !
@@ -473,15 +465,12 @@ module _ {M : Type 1} (𝓤 : URA M) (H : Heap 𝓤) (A : Atoms 𝓤) (W : Given
         more k =
             qed W (At t x) ∵ exec ! C Λ En parts.turn-1 (anyQ (afterTurn 𝓤 H X Left)) $
             assigns ! (bin ! (load ! (from ! (stop !)) (look ! 3 refl)) (load ! (from ! (stop !)) (look ! 16 refl)) tt)
-            (from ! (stop !))
-            (init ! 5 refl (tt, tt)) $
+            (from ! (stop !)) (init ! 5 refl (tt, tt)) $
             rewrite ! 5 (λ (y : Bool). ‵ (fat fullShare tyBool l₁₁ 0 (vbool y)))
-            (holds (ltb t last) (lt→ltb t last small)) refl $
-            stays ! (load ! (from ! (stop !)) (look ! 5 refl)) $
+            (holds (ltb t last) (lt→ltb t last small)) refl $ stays ! (load ! (from ! (stop !)) (look ! 5 refl)) $
             -- the place of the turn
             nothing ! $ nothing ! $ owned ! usize (Is usize) (uint-makes 𝓤 H A W w64) t _ (refl, turn-fits t small) $
-            fjoin ! $
-            owned ! usize (Is usize) (uint-makes 𝓤 H A W w64) (r .count) _ (refl, count-fits) $ fjoin ! $
+            fjoin ! $ owned ! usize (Is usize) (uint-makes 𝓤 H A W w64) (r .count) _ (refl, count-fits) $ fjoin ! $
             move ! (1 ∷ 0 ∷ []) $
             use2 W (raw (Placed 𝓤 H A at-mem run .pre (to-placed (r .count) t))) (handed-placed (r .count) t small) $
             calls-at ! (fmOf 𝓤 H (W .laws) 𝓣) (Placed 𝓤 H A at-mem run) known-placed (to-placed (r .count) t)
@@ -498,26 +487,22 @@ module _ {M : Type 1} (𝓤 : URA M) (H : Heap 𝓤) (A : Atoms 𝓤) (W : Given
             rewrite ! 7 (λ (j : ℕ). ‵ (fat fullShare word l₈ 0 (vint w64 j))) e refl $ drop ! $
             -- the record there is taken out of the row, and read
             assigns ! (bin ! (load ! (from ! (stop !)) (look ! 6 refl)) (lit ! tt) (record { fits = far t small }))
-            (from ! (stop !))
-            (init ! 8 refl (tt, record { fits = far t small })) $
+            (from ! (stop !)) (init ! 8 refl (tt, record { fits = far t small })) $
             assigns ! (bin ! (load ! (from ! (fld ! refl (stop !))) (look-in ! 13 (sub ! 0 refl (whole !))))
-            (load ! (from ! (stop !)) (look ! 8 refl)) tt)
-            (from ! (stop !)) (init ! 9 refl (tt, tt)) $
+            (load ! (from ! (stop !)) (look ! 8 refl)) tt) (from ! (stop !)) (init ! 9 refl (tt, tt)) $
             rewrite ! 9 (λ (p : ℕ). ‵ (fat fullShare tyPtr l₁₃ 0 (vptr b p))) (sym (place-is 10 o (at-place t small)))
             refl $
             elem-out ! Row (Is Row) (shows 𝓤 H A Row) (LL.vals R.the-type R′.the-laws) (LL.tells R.the-type R′.the-laws)
             fullShare (after t)
             (at-place t small) zeros b o (within t small) (λ was.
             assigns ! (of-opd ! (load ! (from ! (hop ! (look ! 11 refl) (stop !))) (look-raw ! 0 refl)))
-            (from ! (stop !))
-            (init ! 12 refl (LL.lawful R.the-type R′.the-laws 𝓤 H A W .typed (z t small) _ was .0)) $
+            (from ! (stop !)) (init ! 12 refl (LL.lawful R.the-type R′.the-laws 𝓤 H A W .typed (z t small) _ was .0)) $
             assigns ! (of-opd ! (load ! (from ! (stop !)) (look ! 12 refl))) (from ! (stop !))
             (init ! 9 refl (LL.lawful R.the-type R′.the-laws 𝓤 H A W .typed (z t small) _ was .0)) $
             -- the batch goes on
             move ! (3 ∷ 4 ∷ []) $ use2 W (raw (Advances 𝓤 H A at-mem run .pre (advancing was)) ⊛ ‵ Own)
             (goes-advances (r .count) t count-fits (turn-fits t small) (z t small) was x (held .had)
-            (turn-whole ws rs r said t small) small
-            (held .state .room)) $ split ! $
+            (turn-whole ws rs r said t small) small (held .state .room)) $ split ! $
             calls-at ! (fmOf 𝓤 H (W .laws) 𝓣) (Advances 𝓤 H A at-mem run) known-advances (advancing was)
             (and-then ! (load ! (from ! (stop !)) (look ! 14 refl))
             (and-then ! (load ! (from ! (stop !)) (look ! 17 refl))
@@ -540,8 +525,7 @@ module _ {M : Type 1} (𝓤 : URA M) (H : Heap 𝓤) (A : Atoms 𝓤) (W : Given
             (goes-answered (r .count) t count-fits (turn-fits t small) (z t small) was y (listed y u new) small
             (turn-answers ws rs r said zeros t small (held .state) turn)) $ split ! $
             calls-at ! (fmOf 𝓤 H (W .laws) 𝓣) (Answered 𝓤 H A at-mem run) known-answered
-            (answering was y (listed y u new))
-            (and-then ! (load ! (from ! (stop !)) (look ! 14 refl))
+            (answering was y (listed y u new)) (and-then ! (load ! (from ! (stop !)) (look ! 14 refl))
             (and-then ! (load ! (from ! (stop !)) (look ! 17 refl))
             (and-then ! (load ! (from ! (stop !)) (look ! 5 refl))
             (and-then ! (load ! (from ! (stop !)) (look ! 9 refl))
@@ -557,11 +541,9 @@ module _ {M : Type 1} (𝓤 : URA M) (H : Heap 𝓤) (A : Atoms 𝓤) (W : Given
             land ! (from ! (stop !)) (store ! 13 refl (LL.lawful R.the-type R′.the-laws 𝓤 H A W .typed a _ new′ .0)) $
             -- [the answer; the token; the block; the cell; what it owned; the others; ...]
             assigns ! (bin ! (load ! (from ! (stop !)) (look ! 9 refl)) (lit ! tt) (record { fits = far t small }))
-            (from ! (stop !))
-            (store ! 11 refl (tt, record { fits = far t small })) $
+            (from ! (stop !)) (store ! 11 refl (tt, record { fits = far t small })) $
             assigns ! (bin ! (load ! (from ! (fld ! refl (stop !))) (look-in ! 16 (sub ! 0 refl (whole !))))
-            (load ! (from ! (stop !)) (look ! 11 refl)) tt)
-            (from ! (stop !)) (init ! 14 refl (tt, tt)) $
+            (load ! (from ! (stop !)) (look ! 11 refl)) tt) (from ! (stop !)) (init ! 14 refl (tt, tt)) $
             rewrite ! 14 (λ (p : ℕ). ‵ (fat fullShare tyPtr l₁₅ 0 (vptr b p))) (sym (place-is 10 o (at-place t small)))
             refl $
             assigns ! (of-opd ! (load ! (from ! (stop !)) (look ! 13 refl))) (from ! (hop ! (look ! 14 refl) (stop !)))
@@ -574,8 +556,7 @@ module _ {M : Type 1} (𝓤 : URA M) (H : Heap 𝓤) (A : Atoms 𝓤) (W : Given
             (record { fits = next-fits t small })) (from ! (stop !))
             (store ! 3 refl (tt, record { fits = next-fits t small })) $
             forget ! 5 refl $ forget ! 6 refl $ forget ! 7 refl $ forget ! 8 refl $ forget ! 9 refl $ forget ! 10 refl $
-            forget ! 11 refl $
-            rewrite ! 3 (λ (j : ℕ). ‵ (fat fullShare word l₇ 0 (vint w64 j))) (one-more t) refl $
+            forget ! 11 refl $ rewrite ! 3 (λ (j : ℕ). ‵ (fat fullShare word l₇ 0 (vint w64 j))) (one-more t) refl $
             by ! (k y (record {
               had = listed y u new;
               state = turn-batch ws rs r said zeros t small (held .state) turn;
@@ -587,8 +568,7 @@ module _ {M : Type 1} (𝓤 : URA M) (H : Heap 𝓤) (A : Atoms 𝓤) (W : Given
       ends x X =
           qed W (At last x) ∵ exec ! C Λ En parts.turn-1 (anyQ (afterTurn 𝓤 H X Left)) $
           assigns ! (bin ! (load ! (from ! (stop !)) (look ! 3 refl)) (load ! (from ! (stop !)) (look ! 16 refl)) tt)
-          (from ! (stop !))
-          (init ! 5 refl (tt, tt)) $
+          (from ! (stop !)) (init ! 5 refl (tt, tt)) $
           rewrite ! 5 (λ (t : Bool). ‵ (fat fullShare tyBool l₁₁ 0 (vbool t)))
           (fails (ltb last last) (λ a. lt-irrefl last (ltb→lt last last a))) refl $
           leaves-loop ! (load ! (from ! (stop !)) (look ! 5 refl)) $ exec ! C Λ En parts.t-8 (atRet En Post) $
@@ -612,8 +592,7 @@ module _ {M : Type 1} (𝓤 : URA M) (H : Heap 𝓤) (A : Atoms 𝓤) (W : Given
       below : (k t : ℕ) → suc t + k ≡ last → (x : Batch) → Held-at (suc t) x
           → ent 𝓤 (⋆ 𝓤 H A (At (suc t) x)) (Below (suc k))
       below k t e x held =
-          via 𝓤 (Batched (suc t)) (holds-batched (suc t) x held)
-          (via 𝓤 (Inv k)
+          via 𝓤 (Batched (suc t)) (holds-batched (suc t) x held) (via 𝓤 (Inv k)
           (via 𝓤 (guard 𝓤 (suc t + k ≡ last) (Batched (suc t))) (guardI 𝓤 (suc t + k ≡ last) (Batched (suc t)) e)
           (exI 𝓤 (λ (j : ℕ). guard 𝓤 (j + k ≡ last) (Batched j)) (suc t)))
           (via 𝓤 (guard 𝓤 (k < suc k) (Inv k)) (guardI 𝓤 (k < suc k) (Inv k) (lt-suc-self k))
@@ -624,8 +603,7 @@ module _ {M : Type 1} (𝓤 : URA M) (H : Heap 𝓤) (A : Atoms 𝓤) (W : Given
           → ent 𝓤 (⋆ 𝓤 H A (At t x)) (Wp 𝓤 H C Λ En parts.turn-1 (afterTurn 𝓤 H (Below k) Left))
       turn-at zero t e x held =
           subst (λ (j : ℕ). ent 𝓤 (⋆ 𝓤 H A (At j x)) (Wp 𝓤 H C Λ En parts.turn-1 (afterTurn 𝓤 H (Below zero) Left)))
-          (sym (sym (add-zero t) ∙ e))
-          (ends x (Below zero))
+          (sym (sym (add-zero t) ∙ e)) (ends x (Below zero))
       turn-at (suc k) t e x held =
           let next : suc t + k ≡ last = suc-add t k ∙ sym (add-suc t k) ∙ e in
           let less : t < last = omega (arith, next) in
@@ -639,8 +617,7 @@ module _ {M : Type 1} (𝓤 : URA M) (H : Heap 𝓤) (A : Atoms 𝓤) (W : Given
 
       loops : (x : Batch) → Held-at 0 x → ent 𝓤 (⋆ 𝓤 H A (At 0 x)) (Wp 𝓤 H C Λ En (loop parts.turn-1) Left)
       loops x held =
-          via 𝓤 (Batched 0) (holds-batched 0 x held)
-          (via 𝓤 (Inv last)
+          via 𝓤 (Batched 0) (holds-batched 0 x held) (via 𝓤 (Inv last)
           (via 𝓤 (guard 𝓤 (0 + last ≡ last) (Batched 0)) (guardI 𝓤 (0 + last ≡ last) (Batched 0) (zero-add last))
           (exI 𝓤 (λ (j : ℕ). guard 𝓤 (j + last ≡ last) (Batched j)) 0))
           (loop-rule 𝓤 H (W .laws) 𝓣 _<_ (Nat·lt-wfRel .wf) En parts.turn-1 Left Inv turns last))
@@ -685,8 +662,7 @@ module _ {M : Type 1} (𝓤 : URA M) (H : Heap 𝓤) (A : Atoms 𝓤) (W : Given
           (‵ (fat fullShare P′.mir l₃ 0 (P′.lowered r))) Given′) ∵ exec ! (𝓣 .C)
           (𝓣 .Λ) Names parts.t-3 (atRet Names Post) $
           assigns ! (of-opd ! (load ! (from ! (fld ! refl (stop !))) (look-in ! 26 (sub ! 1 refl (whole !)))))
-          (from ! (stop !))
-          (init ! 24 refl (tt, record { fits = count-fits r is said })) $
+          (from ! (stop !)) (init ! 24 refl (tt, record { fits = count-fits r is said })) $
           assigns ! (bin ! (lit ! tt) (load ! (from ! (stop !)) (look ! 24 refl))
           (record { fits = last-fits r is said })) (from ! (stop !))
           (init ! 22 refl (tt, record { fits = last-fits r is said })) $
@@ -707,23 +683,19 @@ module _ {M : Type 1} (𝓤 : URA M) (H : Heap 𝓤) (A : Atoms 𝓤) (W : Given
           keep ! (0 ∷ 4 ∷ 5 ∷ 22 ∷ 24 ∷ 14 ∷ 20 ∷ 18 ∷ 12 ∷ 10 ∷ 8 ∷ 6 ∷ 34 ∷ 32 ∷ 30 ∷ 28 ∷ 26 ∷ 16 ∷ 36 ∷ 1 ∷ 2 ∷ 3
           ∷ 37 ∷ 35 ∷ 33 ∷ 31 ∷ 29 ∷ 27 ∷ 25 ∷ 23 ∷ 21 ∷ 19 ∷ 17 ∷ 15 ∷ 13 ∷ 11 ∷ 9 ∷ 7 ∷ []) $
           by ! (loops r is said 𝓣 known-placed known-advances known-answered l₀ l₁ l₂ l₃ l₄ l₅ l₆ l₇ l₈ l₉ l₁₀ l₁₁ l₁₂
-          l₁₃ l₁₄ l₁₅ y
-          (record { had = listed y u new; state = batch-first ws rs zeros room }))))))
+          l₁₃ l₁₄ l₁₅ y (record { had = listed y u new; state = batch-first ws rs zeros room }))))))
 
       starts : ent 𝓤 (⋆ 𝓤 H A (Stored (‵ (froom word l₁₀ 0)) (‵ (froom P′.mir l₃ 0))
           (‵ (fobs γ (codedHoleys Row .code (heres Row rs))) ∷ ‵ (fbor κ′ (Held Row n b o γ)) ∷ ‵ (flft κ′ q′) ∷ Alive
-          ∷ ‵ Own ∷ [])))
-          (Wp 𝓤 H (𝓣 .C) (𝓣 .Λ) Names parts.t-1 (atReturn 𝓤 H Names Post))
+          ∷ ‵ Own ∷ []))) (Wp 𝓤 H (𝓣 .C) (𝓣 .Λ) Names parts.t-1 (atReturn 𝓤 H Names Post))
       starts =
           qed W (Stored (‵ (froom word l₁₀ 0)) (‵ (froom P′.mir l₃ 0))
           (‵ (fobs γ (codedHoleys Row .code (heres Row rs))) ∷ ‵ (fbor κ′ (Held Row n b o γ))
           ∷ ‵ (flft κ′ q′) ∷ Alive ∷ ‵ Own ∷ [])) ∵ exec ! (𝓣 .C) (𝓣 .Λ) Names parts.t-1 (atRet Names Post) $
           assigns ! (of-opd ! (load ! (from ! (fld ! refl (stop !))) (look-in ! 26 (sub ! 1 refl (whole !)))))
-          (from ! (stop !))
-          (init ! 10 refl (tt, record { fits = fits .0 })) $
+          (from ! (stop !)) (init ! 10 refl (tt, record { fits = fits .0 })) $
           move ! (35 ∷ 36 ∷ []) $ use2 W (raw (Started 𝓤 H A at-mem run .pre to-started) ⊛ ‵ Own) goes-started $
-          split ! $
-          calls-at ! (fmOf 𝓤 H (W .laws) 𝓣) (Started 𝓤 H A at-mem run) known to-started
+          split ! $ calls-at ! (fmOf 𝓤 H (W .laws) 𝓣) (Started 𝓤 H A at-mem run) known to-started
           (and-then ! (load ! (from ! (stop !)) (look ! 30 refl))
           (and-then ! (load ! (from ! (stop !)) (look ! 12 refl)) (no-more !))) (λ u.
           use1 W (later (some (λ (r : Reply). (Alive ⊛ ‵ (P.the-row .own r (u ∷ []))) ⊛ raw
@@ -793,17 +765,12 @@ unloop-sheet-spec 𝓤 H 𝓜 𝓖 𝓡 =
     (code.unfolded 𝓤 H 𝓜 𝓡)
     (sheet-meets 𝓤 H (𝓖 .A) (givenOf 𝓤 H 𝓜 𝓖) (𝓜 .mem) (𝓡 .run) (tablesOf 𝓤 H 𝓜 (tables 𝓤 H 𝓜 𝓡 code.env))
     (cited 𝓤 H (Started 𝓤 H (𝓖 .A) (𝓜 .mem) (𝓡 .run)) 𝓜 𝓡 code.env #op-sheet·reply-to-sheet started-def.routine
-    code.calls-op-sheet·reply-to-sheet
-    (started-thm.met 𝓤 H 𝓜 𝓖 𝓡))
+    code.calls-op-sheet·reply-to-sheet (started-thm.met 𝓤 H 𝓜 𝓖 𝓡))
     (cited 𝓤 H (Made 𝓤 H (𝓖 .A) (𝓜 .mem) (𝓡 .run)) 𝓜 𝓡 code.env #op-sheet·turns·no-batch made-def.routine
-    code.calls-op-sheet·turns·no-batch
-    (made-thm.met 𝓤 H 𝓜 𝓖 𝓡))
+    code.calls-op-sheet·turns·no-batch (made-thm.met 𝓤 H 𝓜 𝓖 𝓡))
     (cited 𝓤 H (Placed 𝓤 H (𝓖 .A) (𝓜 .mem) (𝓡 .run)) 𝓜 𝓡 code.env #op-sheet·turns·place-at placed-def.routine
-    code.calls-op-sheet·turns·place-at
-    (placed-thm.met 𝓤 H 𝓜 𝓖 𝓡))
+    code.calls-op-sheet·turns·place-at (placed-thm.met 𝓤 H 𝓜 𝓖 𝓡))
     (cited 𝓤 H (Advances 𝓤 H (𝓖 .A) (𝓜 .mem) (𝓡 .run)) 𝓜 𝓡 code.env #op-sheet·turns·advance advanced-def.routine
-    code.calls-op-sheet·turns·advance
-    (advanced-thm.met 𝓤 H 𝓜 𝓖 𝓡))
+    code.calls-op-sheet·turns·advance (advanced-thm.met 𝓤 H 𝓜 𝓖 𝓡))
     (cited 𝓤 H (Answered 𝓤 H (𝓖 .A) (𝓜 .mem) (𝓡 .run)) 𝓜 𝓡 code.env #op-sheet·turns·answer answered-def.routine
-    code.calls-op-sheet·turns·answer
-    (answered-thm.met 𝓤 H 𝓜 𝓖 𝓡)))
+    code.calls-op-sheet·turns·answer (answered-thm.met 𝓤 H 𝓜 𝓖 𝓡)))

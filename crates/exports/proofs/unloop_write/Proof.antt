@@ -1,4 +1,4 @@
--- `exports::unloop_write` meets its contract: its reply keeps the operation's promise. Assumes nothing.
+-- `exports::unloop_write` meets its contract: its reply keeps the operation's promise.
 use Rattle.exports.proofs.Shown.{replies}
 use borrow.Author.Needs.{needs}
 use Rattle.exports.proofs.unloop_write.Statement.{statement}

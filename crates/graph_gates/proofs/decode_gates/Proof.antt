@@ -1,6 +1,6 @@
--- `graph_gates::decode_gates` meets its contract: gate after gate is put. Assumes nothing.
-use mathlib.Core.Path.{_≡_, refl, sym}
-use Prim.Native.Nat.{_+_, _-_, _≤_, _<_}
+-- `graph_gates::decode_gates` meets its contract: gate after gate is put.
+use mathlib.Core.Path.{_≡_}
+use Prim.Native.Nat.{_-_, _≤_, _<_}
 use native.Mathlib.Omega.{arith}
 use borrow.Author.Needs.{needs}
 use Rattle.words_layout.specs.Nodes.{nodesOf}

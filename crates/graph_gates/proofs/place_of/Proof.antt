@@ -1,6 +1,6 @@
--- `graph_gates::place_of` meets its contract: an input, one of the two constants, or a gate. Assumes nothing.
+-- `graph_gates::place_of` meets its contract: an input, one of the two constants, or a gate.
 use mathlib.Core.Path.{_≡_, sym, _∙_}
-use Prim.Native.Nat.{_+_, _-_, _<_}
+use Prim.Native.Nat.{_+_, _-_}
 use native.Mathlib.Omega.{arith}
 use borrow.Author.Needs.{needs}
 use Rattle.graph_gates.proofs.Places.{place-input, place-zero, place-one, place-gate}

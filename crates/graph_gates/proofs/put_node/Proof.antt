@@ -1,7 +1,6 @@
--- `graph_gates::put_node` meets its contract: five stores are the gate's five words, each of which fits. Assumes
--- nothing.
-use mathlib.Core.Path.{_≡_, refl}
-use Prim.Native.Nat.{_≤_, _<_, _%_, _-_}
+-- `graph_gates::put_node` meets its contract: five stores are the gate's five words, each of which fits.
+use mathlib.Core.Path.{refl}
+use Prim.Native.Nat.{_-_}
 use native.Mathlib.Omega.{arith}
 use borrow.Author.Needs.{needs}
 use Rattle.graph_gates.proofs.Decoding.{head-small, place-small, node-put}
@@ -90,16 +89,13 @@ returns c =
     node-put (s .args .words .now) (s .args .graph .now) (s .args .nodes) (s .args .j) _ _ (head .word-in .result)
     (rule .rule-of .result .controlling) (rule .rule-of .result .forced) _ _ _ _ refl refl (head .word-in .ensures)
     (rule .rule-of .ensures .0) (rule .rule-of .ensures .1) (first .slot-place .ensures) (second .slot-place2 .ensures)
-    (third .slot-place3 .ensures)
-    (c .slot-place4 .ensures)
+    (third .slot-place3 .ensures) (c .slot-place4 .ensures)
 
 pub put-node-spec : {M : Type 1} → statement M
 put-node-spec =
-    tie.close
-    (tie.spec
-    (λ c. search needs) (λ c. search needs) (λ c κs. search needs) rule-of-requires (λ c. search needs)
-    (λ c. search needs) (λ c. search needs) head-sum (λ c. search needs) whole-sum word-fits (λ c. search needs)
-    (λ c. search needs) (λ c κs. search needs) first-fits (λ c. search needs) (λ c. search needs) (λ c. search needs)
-    (λ c κs. search needs) second-fits (λ c. search needs) (λ c. search needs) (λ c. search needs)
-    (λ c κs. search needs) third-fits (λ c. search needs) (λ c. search needs) (λ c. search needs)
-    (λ c κs. search needs) fourth-fits (λ c. search needs) (λ c. search needs) (λ c. search needs) returns)
+    tie.close (tie.spec (λ c. search needs) (λ c. search needs) (λ c κs. search needs) rule-of-requires
+    (λ c. search needs) (λ c. search needs) (λ c. search needs) head-sum (λ c. search needs) whole-sum word-fits
+    (λ c. search needs) (λ c. search needs) (λ c κs. search needs) first-fits (λ c. search needs) (λ c. search needs)
+    (λ c. search needs) (λ c κs. search needs) second-fits (λ c. search needs) (λ c. search needs) (λ c. search needs)
+    (λ c κs. search needs) third-fits (λ c. search needs) (λ c. search needs) (λ c. search needs) (λ c κs. search needs)
+    fourth-fits (λ c. search needs) (λ c. search needs) (λ c. search needs) returns)

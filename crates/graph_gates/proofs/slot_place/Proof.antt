@@ -1,6 +1,5 @@
 -- `graph_gates::slot_place` meets its contract: an operand's own place, or the constant behind the last operand.
--- Assumes nothing.
-use mathlib.Core.Path.{_≡_, refl, sym, _∙_}
+use mathlib.Core.Path.{refl, _∙_}
 use Prim.Native.Nat.{_+_, _/_, _≤_, _<_}
 use native.Mathlib.Omega.{arith}
 use borrow.Author.Needs.{needs}
@@ -40,7 +39,5 @@ absent c =
 
 pub slot-place-spec : {M : Type 1} → statement M
 slot-place-spec =
-    tie.close
-    (tie.spec
-    (λ c κs. search needs) (λ c. search needs) (λ c. search needs) (λ c. search needs) (λ c. search needs) cast-word
-    place-of-requires operand absent)
+    tie.close (tie.spec (λ c κs. search needs) (λ c. search needs) (λ c. search needs) (λ c. search needs)
+    (λ c. search needs) cast-word place-of-requires operand absent)

@@ -1,4 +1,4 @@
--- `lanes_settings::setting_count` meets its contract: 2^n fits. Assumes nothing.
+-- `lanes_settings::setting_count` meets its contract: 2^n fits.
 use Prim.Native.Nat.{_*_, _^_}
 use mathlib.Core.Path.{_≡_, _∙_}
 use native.Mathlib.Omega.{arith}

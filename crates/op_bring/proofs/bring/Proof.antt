@@ -1,4 +1,4 @@
--- `op_bring::bring` meets its contract: the two conditions, and then the words. Assumes nothing.
+-- `op_bring::bring` meets its contract: the two conditions, and then the words.
 use mathlib.Core.Path.{_≡_, sym, ap, _∙_}
 use mathlib.Core.Bool.{false}
 use Prim.Native.Nat.{ℕ}
@@ -42,8 +42,7 @@ returns : tie.Need-returns
 returns c =
     let t = c .before .before .before in
     failed (inRoom _) (keeps-room _) _ _ MalformedBlock (bring-start _ _) (t .check-before .ensures)
-    (start t .args .block .now)
-    (c .before .before .match .keys2) (c .refusal .ensures)
+    (start t .args .block .now) (c .before .before .match .keys2) (c .refusal .ensures)
 
 returns-2 : tie.Need-returns-2
 returns-2 c =
@@ -51,8 +50,7 @@ returns-2 c =
     let w = passed-words t in
     let a = start (words-test w) .args in
     failed bare keeps-bare _ _ NoRoom (bring-room (a .old .now) (length (a .block .now)) (whole w)) (room-told t)
-    (a .block .now)
-    (c .before .before .match2 .keys2) (c .refusal2 .ensures)
+    (a .block .now) (c .before .before .match2 .keys2) (c .refusal2 .ensures)
 
 put-brought-requires : tie.Need-put-brought-requires
 put-brought-requires c κs =
@@ -80,8 +78,6 @@ returns-3 c =
 
 pub bring-spec : {M : Type 1} → statement M
 bring-spec =
-    tie.close
-    (tie.spec
-    (λ c κs. search needs) (λ c. search needs) (λ c. search needs) (λ c κs. search needs) returns (λ c. search needs)
-    (λ c κs. search needs) (λ c. search needs) (λ c. search needs) (λ c κs. search needs) returns-2
+    tie.close (tie.spec (λ c κs. search needs) (λ c. search needs) (λ c. search needs) (λ c κs. search needs) returns
+    (λ c. search needs) (λ c κs. search needs) (λ c. search needs) (λ c. search needs) (λ c κs. search needs) returns-2
     put-brought-requires (λ c. search needs) returns-3)

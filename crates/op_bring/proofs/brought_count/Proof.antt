@@ -1,4 +1,4 @@
--- `op_bring::brought_count` meets its contract: the three counts stay, and the fourth is 0. Assumes nothing.
+-- `op_bring::brought_count` meets its contract: the three counts stay, and the fourth is 0.
 use mathlib.Core.Path.{_≡_, sym}
 use native.Mathlib.Omega.{arith}
 use borrow.Author.Needs.{needs}

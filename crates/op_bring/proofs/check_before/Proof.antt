@@ -1,5 +1,4 @@
--- `op_bring::check_before` meets its contract: what the old rules refuse at once, and then what is left. Assumes
--- nothing.
+-- `op_bring::check_before` meets its contract: what the old rules refuse at once, and then what is left.
 use mathlib.Core.Path.{refl}
 use native.Mathlib.Omega.{arith}
 use borrow.Author.Needs.{needs}
@@ -22,11 +21,9 @@ unfolding testOf
 returns-3 c =
     let s : tie.Start = search in
     rw (malformed-inputs (s .args .old .now) (omega arith)
-    (omega (arith, c .before .inputs-of .ensures, c .if3 .taken)))
-    refl
+    (omega (arith, c .before .inputs-of .ensures, c .if3 .taken))) refl
 
 pub check-before-spec : {M : Type 1} → statement M
 check-before-spec =
-    tie.close
-    (tie.spec
-    returns returns-2 (λ c κs. search needs) returns-3 (λ c. search needs) (λ c κs. search needs) (λ c. search needs))
+    tie.close (tie.spec returns returns-2 (λ c κs. search needs) returns-3 (λ c. search needs) (λ c κs. search needs)
+    (λ c. search needs))

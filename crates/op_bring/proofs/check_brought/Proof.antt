@@ -1,4 +1,4 @@
--- `op_bring::check_brought` meets its contract: the words brought over are tested by today's rules. Assumes nothing.
+-- `op_bring::check_brought` meets its contract: the words brought over are tested by today's rules.
 use Prim.Native.Nat.{_+_}
 use mathlib.Core.Path.{_≡_, sym, ap, _∙_}
 use mathlib.Core.Bool.{Bool}
@@ -35,7 +35,5 @@ returns c =
 
 pub check-brought-spec : {M : Type 1} → statement M
 check-brought-spec =
-    tie.close
-    (tie.spec
-    (λ c κs. search needs) (λ c. search needs) (λ c. search needs) slice-aggregate-check-words (λ c κs. search needs)
-    (λ c. search needs) returns)
+    tie.close (tie.spec (λ c κs. search needs) (λ c. search needs) (λ c. search needs) slice-aggregate-check-words
+    (λ c κs. search needs) (λ c. search needs) returns)

@@ -1,5 +1,4 @@
--- `op_bring::put_brought` meets its contract: the counts stand in front, and behind them the words passed. Assumes
--- nothing.
+-- `op_bring::put_brought` meets its contract: the counts stand in front, and behind them the words passed.
 use mathlib.Core.Path.{refl, _∙_, ap}
 use Prim.Native.Nat.{ℕ, _≤_, _-_}
 use mathlib.Core.List.{List}
@@ -15,8 +14,7 @@ use Rattle.op_bring.proofs.put_brought.Statement.{statement}
 use Rattle.op_bring.proofs.put_brought.Tie as tie
 
 abbrev Inv-loop : tie.InvT-loop
-Inv-loop old block₀ count p₀ block p =
-    (4 ≤ p) × Tabled (λ p. getD (brought old) p 0) count block₀ block p
+Inv-loop old block₀ count p₀ block p = (4 ≤ p) × Tabled (λ p. getD (brought old) p 0) count block₀ block p
 
 abbrev μ-loop : tie.MeasureT-loop
 μ-loop old block₀ count p₀ block p = count - p
@@ -65,8 +63,6 @@ returns c =
 
 pub put-brought-spec : {M : Type 1} → statement M
 put-brought-spec =
-    tie.close
-    (tie.spec
-    Inv-loop μ-loop (λ c κs. search needs) (λ c. search needs) (λ c. search needs) loop-holds (λ c. omega arith)
-    (λ c. search needs) (λ c. omega arith) (λ c. search needs) (λ c. omega arith) (λ c. omega arith) (λ c. omega arith)
-    loop-again same-length returns)
+    tie.close (tie.spec Inv-loop μ-loop (λ c κs. search needs) (λ c. search needs) (λ c. search needs) loop-holds
+    (λ c. omega arith) (λ c. search needs) (λ c. omega arith) (λ c. search needs) (λ c. omega arith) (λ c. omega arith)
+    (λ c. omega arith) loop-again same-length returns)

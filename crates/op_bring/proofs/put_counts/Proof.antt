@@ -1,4 +1,4 @@
--- `op_bring::put_counts` meets its contract: the counts passed stand in front. Assumes nothing.
+-- `op_bring::put_counts` meets its contract: the counts passed stand in front.
 use Prim.Native.Nat.{_-_}
 use native.Mathlib.Omega.{arith}
 use borrow.Author.Needs.{needs}
@@ -15,13 +15,10 @@ abbrev μ-loop : tie.MeasureT-loop
 μ-loop old block₀ p₀ block p = 4 - p
 
 loop-again : tie.Need-loop-again Inv-loop μ-loop
-loop-again c =
-    tabled-more (c .before .before .loop .inv) (omega arith) (omega arith) (c .brought-count .ensures)
+loop-again c = tabled-more (c .before .before .loop .inv) (omega arith) (omega arith) (c .brought-count .ensures)
 
 pub put-counts-spec : {M : Type 1} → statement M
 put-counts-spec =
-    tie.close
-    (tie.spec
-    Inv-loop μ-loop (λ c. tabled-none) (λ c κs. search needs) (λ c. search needs) (λ c. search needs) (λ c. omega arith)
-    (λ c. omega arith) loop-again (λ c. c .before .loop .inv .kept)
+    tie.close (tie.spec Inv-loop μ-loop (λ c. tabled-none) (λ c κs. search needs) (λ c. search needs)
+    (λ c. search needs) (λ c. omega arith) (λ c. omega arith) loop-again (λ c. c .before .loop .inv .kept)
     (λ c. tabled-all (c .before .loop .inv) (omega arith)))

@@ -1,5 +1,5 @@
 -- `op_compare::compare` meets its contract: the tests are the definition's conditions in its order, and then the
--- settings are searched. Assumes nothing.
+-- settings are searched.
 use mathlib.Core.Path.{_≡_, _∙_, sym, ap}
 use mathlib.Core.Bool.{false, not}
 use mathlib.Core.List.{[]}
@@ -118,17 +118,13 @@ compare-pair-requires c κs =
 returns-5 : tie.Need-returns-5
 returns-5 c =
     let t = c .before in
-    tell
-    (c .compare-pair .ensures
-    ∙ ap answerOf (sym
-    (passed bare keeps-bare _ _ InterfaceMismatch (behind-straight (interface-test t .before))
+    tell (c .compare-pair .ensures
+    ∙ ap answerOf (sym (passed bare keeps-bare _ _ InterfaceMismatch (behind-straight (interface-test t .before))
     (interface-test t .check-interface .ensures) (t .enum-told7 .given .1))))
 
 pub compare-spec : {M : Type 1} → statement M
 compare-spec =
-    tie.close
-    (tie.spec
-    (λ c κs. search needs) (λ c. search needs) (λ c. search needs) (λ c κs. search needs) returns
+    tie.close (tie.spec (λ c κs. search needs) (λ c. search needs) (λ c. search needs) (λ c κs. search needs) returns
     (λ c κs. search needs) (λ c. search needs) (λ c. search needs) (λ c κs. search needs) returns-2
     check-straight-requires (λ c. search needs) (λ c. search needs) (λ c κs. search needs) returns-3
     check-interface-requires (λ c. search needs) (λ c. search needs) (λ c κs. search needs) returns-4

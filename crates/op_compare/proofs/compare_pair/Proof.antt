@@ -1,4 +1,4 @@
--- `op_compare::compare_pair` meets its contract: the arrays have room for the largest block. Assumes nothing.
+-- `op_compare::compare_pair` meets its contract: the arrays have room for the largest block.
 use mathlib.Core.Path.{refl}
 use Rattle.op_compare.proofs.compare_pair.Statement.{statement}
 use Rattle.op_compare.proofs.compare_pair.Tie as tie

@@ -1,6 +1,5 @@
 -- `op_compare_cells::compare_cells` meets its contract: the tests are the definition's conditions in its order, and
 -- then the settings are searched.
--- Assumes nothing.
 use mathlib.Core.Path.{_≡_, _∙_, sym, ap}
 use mathlib.Core.Bool.{false, not}
 use mathlib.Core.List.{[]}
@@ -134,18 +133,14 @@ compare-passed-requires c κs =
 returns-5 : tie.Need-returns-5
 returns-5 c =
     let t = c .before in
-    tell
-    (c .compare-passed .ensures
-    ∙ ap answerOf (sym
-    (passed bare keeps-bare _ _ MalformedBlock (behind-length (listed-test t .before))
+    tell (c .compare-passed .ensures
+    ∙ ap answerOf (sym (passed bare keeps-bare _ _ MalformedBlock (behind-length (listed-test t .before))
     (listed-test t .check-listed .ensures) (t .enum-told7 .given .1))))
 
 pub compare-cells-spec : {M : Type 1} → statement M
 compare-cells-spec =
-    tie.close
-    (tie.spec
-    (λ c κs. search needs) (λ c. search needs) (λ c. search needs) (λ c κs. search needs) returns
+    tie.close (tie.spec (λ c κs. search needs) (λ c. search needs) (λ c. search needs) (λ c κs. search needs) returns
     (λ c κs. search needs) (λ c κs. search needs) (λ c. search needs) (λ c. search needs) (λ c κs. search needs)
-    returns-2 (λ c κs. whole (whole-told (cells-test c))) (λ c. search needs) (λ c. search needs)
-    (λ c κs. search needs) returns-3 check-listed-requires (λ c. search needs) (λ c. search needs)
-    (λ c κs. search needs) returns-4 compare-passed-requires returns-5)
+    returns-2 (λ c κs. whole (whole-told (cells-test c))) (λ c. search needs) (λ c. search needs) (λ c κs. search needs)
+    returns-3 check-listed-requires (λ c. search needs) (λ c. search needs) (λ c κs. search needs) returns-4
+    compare-passed-requires returns-5)

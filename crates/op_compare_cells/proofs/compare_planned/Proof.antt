@@ -1,7 +1,6 @@
 -- `op_compare_cells::compare_planned` meets its contract: the table is of the cells, and the arrays have room for the
 -- largest block and the most cells.
--- Assumes nothing.
-use mathlib.Core.Path.{_≡_, refl}
+use mathlib.Core.Path.{refl}
 use borrow.Author.Needs.{needs}
 use denote.Ref.{now}
 use Rattle.op_compare_cells.proofs.Searching.{table-for, search-ready}

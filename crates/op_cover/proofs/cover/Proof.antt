@@ -1,4 +1,4 @@
--- `op_cover::cover` meets its contract: torn words are refused, and whole ones are `whole_cover`'s. Assumes nothing.
+-- `op_cover::cover` meets its contract: torn words are refused, and whole ones are `whole_cover`'s.
 use mathlib.Core.Path.{refl}
 use denote.Ref.{now}
 use borrow.Author.Needs.{needs}
@@ -14,8 +14,7 @@ returns c =
     let t = c .before .before .before in
     let s = t .before .before .before in
     failed (inRoom _) (keeps-room _) _ _ MalformedBlock (cover-chain _ _) (t .check-words .ensures)
-    (now (s .args .entries))
-    (c .before .before .match .keys2) (c .refusal .ensures)
+    (now (s .args .entries)) (c .before .before .match .keys2) (c .refusal .ensures)
 
 whole-cover-requires : tie.Need-whole-cover-requires
 whole-cover-requires c κs =
@@ -30,7 +29,5 @@ whole-cover-requires c κs =
 
 pub cover-spec : {M : Type 1} → statement M
 cover-spec =
-    tie.close
-    (tie.spec
-    (λ c κs. search needs) (λ c. search needs) (λ c. search needs) (λ c κs. search needs) returns (λ c. search needs)
-    whole-cover-requires (λ c. search needs) (λ c. search needs))
+    tie.close (tie.spec (λ c κs. search needs) (λ c. search needs) (λ c. search needs) (λ c κs. search needs) returns
+    (λ c. search needs) whole-cover-requires (λ c. search needs) (λ c. search needs))

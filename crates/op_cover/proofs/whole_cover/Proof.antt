@@ -1,5 +1,4 @@
 -- `op_cover::whole_cover` meets its contract: the entries over the table of settled settings are the block's cover.
--- Assumes nothing.
 use mathlib.Core.Path.{_≡_, sym, _∙_}
 use denote.Ref.{now}
 use borrow.Author.Needs.{needs}
@@ -44,8 +43,7 @@ returns c =
     let e = listed t in
     let i = counted e in
     cover-short _ (start (tabled i) .pre .0) (tabled i .tabulate .ensures) (inputs-are i) (e .cover-entries .ensures)
-    (e .cover-entries .kept .1 .1 .0)
-    (t .test-room .ensures) (c .before .before .match .keys2) (c .refusal .ensures)
+    (e .cover-entries .kept .1 .1 .0) (t .test-room .ensures) (c .before .before .match .keys2) (c .refusal .ensures)
 
 returns-2 : tie.Need-returns-2
 returns-2 c =
@@ -53,13 +51,10 @@ returns-2 c =
     let e = listed t in
     let i = counted e in
     cover-done _ (start (tabled i) .pre .0) (tabled i .tabulate .ensures) (inputs-are i) (e .cover-entries .ensures)
-    (e .cover-entries .kept .1 .1 .0)
-    (t .test-room .ensures) (c .enum-told .given .1)
+    (e .cover-entries .kept .1 .1 .0) (t .test-room .ensures) (c .enum-told .given .1)
 
 pub whole-cover-spec : {M : Type 1} → statement M
 whole-cover-spec =
-    tie.close
-    (tie.spec
-    (λ c κs. search needs) (λ c κs. search needs) cover-entries-requires (λ c κs. search needs) (λ c. search needs)
-    (λ c. search needs) (λ c κs. search needs) (λ c. search needs) (λ c. search needs) returns (λ c. search needs)
-    (λ c. search needs) returns-2)
+    tie.close (tie.spec (λ c κs. search needs) (λ c κs. search needs) cover-entries-requires (λ c κs. search needs)
+    (λ c. search needs) (λ c. search needs) (λ c κs. search needs) (λ c. search needs) (λ c. search needs) returns
+    (λ c. search needs) (λ c. search needs) returns-2)

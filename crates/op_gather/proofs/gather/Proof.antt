@@ -1,5 +1,4 @@
--- `op_gather::gather` meets its contract: the words' condition, the rooms', and then both slices are filled. Assumes
--- nothing.
+-- `op_gather::gather` meets its contract: the words' condition, the rooms', and then both slices are filled.
 use Prim.Native.Nat.{_≤_}
 use mathlib.Core.Path.{_≡_, refl}
 use mathlib.Core.Bool.{false}
@@ -48,12 +47,10 @@ returns c =
     record {
       block =
           failed bare keeps-bare _ _ MalformedBlock (gather-chain _ _ _ gatheredWords) (t .check-words .ensures)
-          (a .gathered .now)
-          (c .before .before .match .keys2) (c .refusal .ensures);
+          (a .gathered .now) (c .before .before .match .keys2) (c .refusal .ensures);
       list =
           failed bare keeps-bare _ _ MalformedBlock (gather-chain _ _ _ gatheredOrder) (t .check-words .ensures)
-          (a .order .now)
-          (c .before .before .match .keys2) (c .refusal .ensures) .leaves;
+          (a .order .now) (c .before .before .match .keys2) (c .refusal .ensures) .leaves;
     }
 
 returns-2 : tie.Need-returns-2
@@ -64,12 +61,10 @@ returns-2 c =
     record {
       block =
           failed bare keeps-bare _ _ NoRoom (gather-room _ _ _ gatheredWords (whole t) (t .before .gates-of .ensures))
-          (t .check-rooms .ensures)
-          (a .gathered .now) (c .before .before .match2 .keys2) (c .refusal2 .ensures);
+          (t .check-rooms .ensures) (a .gathered .now) (c .before .before .match2 .keys2) (c .refusal2 .ensures);
       list =
           failed bare keeps-bare _ _ NoRoom (gather-room _ _ _ gatheredOrder (whole t) (t .before .gates-of .ensures))
-          (t .check-rooms .ensures)
-          (a .order .now) (c .before .before .match2 .keys2) (c .refusal2 .ensures) .leaves;
+          (t .check-rooms .ensures) (a .order .now) (c .before .before .match2 .keys2) (c .refusal2 .ensures) .leaves;
     }
 
 gather-block-requires : tie.Need-gather-block-requires
@@ -90,21 +85,15 @@ returns-3 c =
       block =
           finished
           (passed bare keeps-bare _ _ NoRoom (gather-room _ _ _ gatheredWords (whole t) (t .before .gates-of .ensures))
-          (t .check-rooms .ensures)
-          (e .enum-told3 .given .1))
-          refl (put .gather-block .ensures .0);
+          (t .check-rooms .ensures) (e .enum-told3 .given .1)) refl (put .gather-block .ensures .0);
       list =
           finished
           (passed bare keeps-bare _ _ NoRoom (gather-room _ _ _ gatheredOrder (whole t) (t .before .gates-of .ensures))
-          (t .check-rooms .ensures)
-          (e .enum-told3 .given .1))
-          refl (put .gather-block .ensures .1) .leaves;
+          (t .check-rooms .ensures) (e .enum-told3 .given .1)) refl (put .gather-block .ensures .1) .leaves;
     }
 
 pub gather-spec : {M : Type 1} → statement M
 gather-spec =
-    tie.close
-    (tie.spec
-    (λ c κs. search needs) (λ c. search needs) (λ c. search needs) (λ c κs. search needs) returns
+    tie.close (tie.spec (λ c κs. search needs) (λ c. search needs) (λ c. search needs) (λ c κs. search needs) returns
     (λ c κs. search needs) (λ c κs. search needs) (λ c. search needs) (λ c. search needs) (λ c κs. search needs)
     returns-2 gather-block-requires (λ c. search needs) (λ c. search needs) returns-3)

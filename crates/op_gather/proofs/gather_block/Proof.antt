@@ -1,4 +1,4 @@
--- `op_gather::gather_block` meets its contract: the arrays have room for the largest block. Assumes nothing.
+-- `op_gather::gather_block` meets its contract: the arrays have room for the largest block.
 use denote.Ref.{now}
 use Rattle.theory_encoding.proofs.Readers.{whole-parts}
 use borrow.Author.Needs.{needs}
@@ -13,5 +13,4 @@ write-gathered-requires c κs =
 
 pub gather-block-spec : {M : Type 1} → statement M
 gather-block-spec =
-    tie.close
-    (tie.spec write-gathered-requires (λ c. search needs) (λ c. search needs) (λ c. search needs))
+    tie.close (tie.spec write-gathered-requires (λ c. search needs) (λ c. search needs) (λ c. search needs))

@@ -1,4 +1,4 @@
--- `op_gather::scatter` meets its contract: the words' condition, and then the rest. Assumes nothing.
+-- `op_gather::scatter` meets its contract: the words' condition, and then the rest.
 use denote.Ref.{now}
 use Rattle.netlist.specs.declared.Refusal.the-variants.{MalformedBlock}
 use Rattle.netlist.specs.Answers.{inRoom}
@@ -13,8 +13,7 @@ returns c =
     let t = c .before .before .before in
     let s : tie.Start = search in
     failed (inRoom _) (keeps-room _) _ _ MalformedBlock (scatter-chain _ _ _) (t .check-words .ensures)
-    (s .args .original .now)
-    (c .before .before .match .keys2) (c .refusal .ensures)
+    (s .args .original .now) (c .before .before .match .keys2) (c .refusal .ensures)
 
 scatter-block-requires : tie.Need-scatter-block-requires
 scatter-block-requires c κs =
@@ -23,7 +22,5 @@ scatter-block-requires c κs =
 
 pub scatter-spec : {M : Type 1} → statement M
 scatter-spec =
-    tie.close
-    (tie.spec
-    (λ c κs. search needs) (λ c. search needs) (λ c. search needs) (λ c κs. search needs) returns
+    tie.close (tie.spec (λ c κs. search needs) (λ c. search needs) (λ c. search needs) (λ c κs. search needs) returns
     scatter-block-requires (λ c. search needs) (λ c. search needs))

@@ -1,4 +1,4 @@
--- `op_gather::scatter_block` meets its contract: the arrays have room for the largest block. Assumes nothing.
+-- `op_gather::scatter_block` meets its contract: the arrays have room for the largest block.
 use denote.Ref.{now}
 use Rattle.theory_encoding.proofs.Readers.{whole-parts}
 use borrow.Author.Needs.{needs}
@@ -12,5 +12,4 @@ scatter-with-requires c κs =
     record { whole = s .pre; placeRoom = p .fewGates; tableRoom = p .fewGates }
 
 pub scatter-block-spec : {M : Type 1} → statement M
-scatter-block-spec =
-    tie.close (tie.spec scatter-with-requires (λ c. search needs) (λ c. search needs))
+scatter-block-spec = tie.close (tie.spec scatter-with-requires (λ c. search needs) (λ c. search needs))

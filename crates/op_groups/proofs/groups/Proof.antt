@@ -1,5 +1,5 @@
 -- `op_groups::groups` meets its contract: the tests are the definition's conditions in its order, and then the groups
--- are numbered. Assumes nothing.
+-- are numbered.
 use mathlib.Core.Path.{_≡_, _∙_}
 use denote.Ref.{now}
 use borrow.Author.Needs.{needs}
@@ -41,16 +41,14 @@ returns : tie.Need-returns
 returns c =
     let t = c .before .before .before in
     failed (inRoom _) (keeps-room _) _ _ MalformedBlock (groups-chain _ _) (t .check-words .ensures)
-    (now (start t .args .numbers))
-    (c .before .before .match .keys2) (c .refusal .ensures)
+    (now (start t .args .numbers)) (c .before .before .match .keys2) (c .refusal .ensures)
 
 returns-2 : tie.Need-returns-2
 returns-2 c =
     let t = c .before .before .before in
     let w = t .before .before in
     failed bare keeps-bare _ _ NoRoom (behind-words w) (rw (← t .before .gates-of .ensures) (t .test-room .ensures))
-    (now (start (words-test w) .args .numbers))
-    (c .before .before .match2 .keys2) (c .refusal2 .ensures)
+    (now (start (words-test w) .args .numbers)) (c .before .before .match2 .keys2) (c .refusal2 .ensures)
 
 assign-requires : tie.Need-assign-requires
 assign-requires c κs =
@@ -67,16 +65,12 @@ returns-3 c =
     let p = assigned .before .before in
     let t = room-test p in
     let d = assigned .assign .ensures in
-    finished
-    (passed bare keeps-bare _ _ NoRoom (behind-words (t .before .before))
-    (rw (← t .before .gates-of .ensures) (t .test-room .ensures))
-    (p .enum-told3 .given .1))
+    finished (passed bare keeps-bare _ _ NoRoom (behind-words (t .before .before))
+    (rw (← t .before .gates-of .ensures) (t .test-room .ensures)) (p .enum-told3 .given .1))
     (d .countIs) (d .numbersAre)
 
 pub groups-spec : {M : Type 1} → statement M
 groups-spec =
-    tie.close
-    (tie.spec
-    (λ c κs. search needs) (λ c. search needs) (λ c. search needs) (λ c κs. search needs) returns
+    tie.close (tie.spec (λ c κs. search needs) (λ c. search needs) (λ c. search needs) (λ c κs. search needs) returns
     (λ c κs. search needs) (λ c κs. search needs) (λ c. search needs) (λ c. search needs) (λ c κs. search needs)
     returns-2 assign-requires (λ c. search needs) returns-3)

@@ -1,4 +1,4 @@
--- `op_line::clamp` meets its contract: the lesser of the two. Assumes nothing.
+-- `op_line::clamp` meets its contract: the lesser of the two.
 use Rattle.op_line.proofs.clamp.Statement.{statement}
 use Rattle.op_line.proofs.clamp.Tie as tie
 use native.Mathlib.Omega.{arith}

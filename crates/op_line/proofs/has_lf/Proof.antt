@@ -1,9 +1,9 @@
--- `op_line::has_lf` meets its contract: where nothing was found, no byte passed is an LF. Assumes nothing.
+-- `op_line::has_lf` meets its contract: where nothing was found, no byte passed is an LF.
 use Rattle.op_line.proofs.has_lf.Statement.{statement}
 use Rattle.op_line.proofs.has_lf.Tie as tie
-use mathlib.Core.Path.{_≡_, ap}
+use mathlib.Core.Path.{_≡_}
 use mathlib.Core.Bool.{false}
-use Prim.Native.Nat.{ℕ, _≤_, _-_}
+use Prim.Native.Nat.{_≤_, _-_}
 use native.Mathlib.Omega.{arith}
 use Rattle.op_line.proofs.Ends.{NoLf, no-more}
 
@@ -27,7 +27,5 @@ returns c e k l = let p = c .before .loop in p .inv .1 e k (omega arith)
 
 pub has-lf-spec : {M : Type 1} → statement M
 has-lf-spec =
-    tie.close
-    (tie.spec
-    Inv-loop μ-loop loop-holds (λ c. omega arith) (λ c. omega arith) (λ c. omega arith) (λ c. omega arith) loop-again
-    returns)
+    tie.close (tie.spec Inv-loop μ-loop loop-holds (λ c. omega arith) (λ c. omega arith) (λ c. omega arith)
+    (λ c. omega arith) loop-again returns)

@@ -1,5 +1,4 @@
--- `op_line::line` meets its contract: the part between the two ends, which lie in order inside the text. Assumes
--- nothing.
+-- `op_line::line` meets its contract: the part between the two ends, which lie in order inside the text.
 use borrow.Author.Needs.{needs}
 use Rattle.op_line.proofs.line.Statement.{statement}
 use Rattle.op_line.proofs.line.Tie as tie
@@ -28,6 +27,5 @@ returns c =
 
 pub line-spec : {M : Type 1} → statement M
 line-spec =
-    tie.close
-    (tie.spec
-    (λ c κs. search needs) (λ c κs. search needs) sub-result part-result-start part-result-end returns)
+    tie.close (tie.spec (λ c κs. search needs) (λ c κs. search needs) sub-result part-result-start part-result-end
+    returns)

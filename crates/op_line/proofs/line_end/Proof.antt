@@ -1,5 +1,5 @@
 -- `op_line::line_end` meets its contract. The loop goes up from the part that has the LF; its invariant: the end from
--- `at` on is the end. Assumes nothing.
+-- `at` on is the end.
 use Rattle.op_line.proofs.line_end.Statement.{statement}
 use Rattle.op_line.proofs.line_end.Tie as tie
 use mathlib.Core.Path.{_≡_, sym, ap, _∙_}
@@ -50,7 +50,5 @@ returns-2 c =
 
 pub line-end-spec : {M : Type 1} → statement M
 line-end-spec =
-    tie.close
-    (tie.spec
-    Inv-loop μ-loop (λ c κs. tt) skip-behind-requires loop-holds (λ c. omega arith) returns (λ c. omega arith)
-    (λ c. omega arith) loop-again returns-2)
+    tie.close (tie.spec Inv-loop μ-loop (λ c κs. tt) skip-behind-requires loop-holds (λ c. omega arith) returns
+    (λ c. omega arith) (λ c. omega arith) loop-again returns-2)

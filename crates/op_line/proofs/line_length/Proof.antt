@@ -1,4 +1,4 @@
--- `op_line::line_length` meets its contract: the ends lie in order. Assumes nothing.
+-- `op_line::line_length` meets its contract: the ends lie in order.
 use borrow.Author.Needs.{needs}
 use Rattle.op_line.proofs.line_length.Statement.{statement}
 use Rattle.op_line.proofs.line_length.Tie as tie

@@ -1,8 +1,8 @@
 -- `op_line::line_start` meets its contract. The loop goes down from the part that has the LF; its invariant: the start
--- before `at` is the start. Assumes nothing.
+-- before `at` is the start.
 use Rattle.op_line.proofs.line_start.Statement.{statement}
 use Rattle.op_line.proofs.line_start.Tie as tie
-use mathlib.Core.Path.{_≡_, refl, sym, ap, _∙_}
+use mathlib.Core.Path.{_≡_, sym, ap, _∙_}
 use Prim.Native.Nat.{_≤_}
 use native.Mathlib.Omega.{arith}
 use lib.ListN.{length}
@@ -51,7 +51,5 @@ returns-2 c =
 
 pub line-start-spec : {M : Type 1} → statement M
 line-start-spec =
-    tie.close
-    (tie.spec
-    Inv-loop μ-loop (λ c κs. tt) skip-before-requires loop-holds (λ c. omega arith) (λ c. omega arith) returns
-    (λ c. omega arith) (λ c. omega arith) loop-again returns-2)
+    tie.close (tie.spec Inv-loop μ-loop (λ c κs. tt) skip-before-requires loop-holds (λ c. omega arith)
+    (λ c. omega arith) returns (λ c. omega arith) (λ c. omega arith) loop-again returns-2)

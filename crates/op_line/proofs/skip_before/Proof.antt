@@ -1,5 +1,4 @@
--- `op_line::skip_before` meets its contract: a part without an LF does not change where the line starts. Assumes
--- nothing.
+-- `op_line::skip_before` meets its contract: a part without an LF does not change where the line starts.
 use Rattle.op_line.proofs.skip_before.Statement.{statement}
 use Rattle.op_line.proofs.skip_before.Tie as tie
 use mathlib.Core.Path.{_≡_, refl, ap, _∙_}
@@ -36,6 +35,5 @@ returns-2 c = c .before .loop .inv
 
 pub skip-before-spec : {M : Type 1} → statement M
 skip-before-spec =
-    tie.close
-    (tie.spec
-    Inv-loop μ-loop loop-holds (λ c κs. omega arith) returns (λ c. omega arith) loop-again returns-2)
+    tie.close (tie.spec Inv-loop μ-loop loop-holds (λ c κs. omega arith) returns (λ c. omega arith) loop-again
+    returns-2)

@@ -1,4 +1,4 @@
--- `op_line::skip_behind` meets its contract: a part without an LF does not change where the line ends. Assumes nothing.
+-- `op_line::skip_behind` meets its contract: a part without an LF does not change where the line ends.
 use Rattle.op_line.proofs.skip_behind.Statement.{statement}
 use Rattle.op_line.proofs.skip_behind.Tie as tie
 use mathlib.Core.Path.{_≡_, refl, _∙_}
@@ -32,7 +32,5 @@ returns-2 c = c .before .loop .inv
 
 pub skip-behind-spec : {M : Type 1} → statement M
 skip-behind-spec =
-    tie.close
-    (tie.spec
-    Inv-loop μ-loop loop-holds (λ c. omega arith) (λ c κs. omega arith) returns (λ c. omega arith) (λ c. omega arith)
-    loop-again returns-2)
+    tie.close (tie.spec Inv-loop μ-loop loop-holds (λ c. omega arith) (λ c κs. omega arith) returns (λ c. omega arith)
+    (λ c. omega arith) loop-again returns-2)

@@ -1,5 +1,5 @@
 -- `op_pass::pass` meets its contract: the tests are the definition's conditions in its order, and then one sweep finds
--- the values. Assumes nothing.
+-- the values.
 use mathlib.Core.Path.{_≡_, _∙_}
 use mathlib.Core.Bool.{false, not}
 use mathlib.Core.List.{map}
@@ -46,8 +46,7 @@ whole c = passed-false _ MalformedBlock (words-test c .check-words .ensures) (c 
 -- what is left of the chain of conditions behind each
 behind-words : (c : tie.After-enum-told) → let a = start (words-test c) .args in
     pass (now (a .words)) (now (a .setting)) (length (now (a .values)))
-    ≡ inRoom (length (now (a .values)))
-    (refuseIf (not (isStraight (decode (now (a .words))))) NotStraight
+    ≡ inRoom (length (now (a .values))) (refuseIf (not (isStraight (decode (now (a .words))))) NotStraight
     (refuseIf (isBadSetting (decode (now (a .words))) (now (a .setting))) BadSetting
     (passBlock (decode (now (a .words))) (map valueOf (now (a .setting))))))
 behind-words c =
@@ -56,8 +55,7 @@ behind-words c =
 
 behind-straight : (c : tie.After-enum-told3) → let a = start (words-test (straight-test c .before)) .args in
     pass (now (a .words)) (now (a .setting)) (length (now (a .values)))
-    ≡ inRoom (length (now (a .values)))
-    (refuseIf (isBadSetting (decode (now (a .words))) (now (a .setting))) BadSetting
+    ≡ inRoom (length (now (a .values))) (refuseIf (isBadSetting (decode (now (a .words))) (now (a .setting))) BadSetting
     (passBlock (decode (now (a .words))) (map valueOf (now (a .setting)))))
 behind-straight c =
     let t = straight-test c in
@@ -78,22 +76,18 @@ behind-setting c =
 returns : tie.Need-returns
 returns c =
     let t = c .before .before .before in
-    pass-promise
-    (failed (inRoom _) (keeps-room _) _ _ MalformedBlock (pass-chain _ _ _) (t .check-words .ensures)
-    (now (start t .args .values))
-    (c .before .before .match .keys2) (c .refusal .ensures))
+    pass-promise (failed (inRoom _) (keeps-room _) _ _ MalformedBlock (pass-chain _ _ _) (t .check-words .ensures)
+    (now (start t .args .values)) (c .before .before .match .keys2) (c .refusal .ensures))
 
 check-straight-requires : tie.Need-check-straight-requires
-check-straight-requires c κs =
-    whole c
+check-straight-requires c κs = whole c
 
 returns-2 : tie.Need-returns-2
 returns-2 c =
     let t = c .before .before .before in
     pass-promise
     (failed (inRoom _) (keeps-room _) _ _ NotStraight (behind-words (t .before)) (t .check-straight .ensures)
-    (now (start (words-test (t .before)) .args .values))
-    (c .before .before .match2 .keys2) (c .refusal2 .ensures))
+    (now (start (words-test (t .before)) .args .values)) (c .before .before .match2 .keys2) (c .refusal2 .ensures))
 
 returns-3 : tie.Need-returns-3
 returns-3 c =
@@ -101,16 +95,14 @@ returns-3 c =
     let a = start (words-test (straight-test (t .before) .before)) .args in
     pass-promise
     (failed (inRoom _) (keeps-room _) _ _ BadSetting (behind-straight (t .before)) (t .test-setting .ensures)
-    (now (a .values))
-    (c .before .before .match3 .keys2) (c .refusal3 .ensures))
+    (now (a .values)) (c .before .before .match3 .keys2) (c .refusal3 .ensures))
 
 returns-4 : tie.Need-returns-4
 returns-4 c =
     let after-enum-told5 : tie.After-enum-told5 = search in
     let t = c .before .before .before in
     let a = start (words-test (straight-test (setting-test (after-enum-told5) .before) .before)) .args in
-    pass-promise
-    (failed bare keeps-bare _ _ NoRoom (behind-setting (after-enum-told5))
+    pass-promise (failed bare keeps-bare _ _ NoRoom (behind-setting (after-enum-told5))
     (rw (← t .before .gates-of .ensures) (t .test-room .ensures)) (now (a .values))
     (c .before .before .match4 .keys2) (c .refusal4 .ensures))
 
@@ -129,17 +121,13 @@ returns-5 : tie.Need-returns-5
 returns-5 c =
     let t : tie.After-enum-told7 = search in
     let d = c .before .before .sweep-into .ensures in
-    pass-promise
-    (finished
-    (passed bare keeps-bare _ _ NoRoom (behind-setting (room-test t .before .before))
+    pass-promise (finished (passed bare keeps-bare _ _ NoRoom (behind-setting (room-test t .before .before))
     (rw (← room-test t .before .gates-of .ensures) (room-test t .test-room .ensures)) (t .enum-told7 .given .1))
     (d .1) (d .0))
 
 pub pass-spec : {M : Type 1} → statement M
 pass-spec =
-    tie.close
-    (tie.spec
-    (λ c κs. search needs) (λ c. search needs) (λ c. search needs) (λ c κs. search needs) returns
+    tie.close (tie.spec (λ c κs. search needs) (λ c. search needs) (λ c. search needs) (λ c κs. search needs) returns
     check-straight-requires (λ c. search needs) (λ c. search needs) (λ c κs. search needs) returns-2
     (λ c κs. search needs) (λ c. search needs) (λ c. search needs) (λ c κs. search needs) returns-3
     (λ c κs. search needs) (λ c κs. search needs) (λ c. search needs) (λ c. search needs) (λ c κs. search needs)

@@ -1,4 +1,4 @@
--- `op_read::read` meets its contract: 1, 2, and then the rest. Assumes nothing.
+-- `op_read::read` meets its contract: 1, 2, and then the rest.
 use mathlib.Core.Path.{_≡_}
 use borrow.Author.Needs.{needs}
 use borrow.Author.Tests.{ltb-false}
@@ -35,15 +35,13 @@ returns : tie.Need-returns
 returns c =
     let t = c .before .before .before in
     failed (inRoom _) (keeps-room _) _ _ TextTooLong (read-start _ _) (t .refuse-if .ensures)
-    (start t .args .block .now)
-    (c .before .before .match .keys2) (c .refusal .ensures)
+    (start t .args .block .now) (c .before .before .match .keys2) (c .refusal .ensures)
 
 returns-2 : tie.Need-returns-2
 returns-2 c =
     let t = c .before .before .before in
     failed-at (inRoom _) (keeps-room _) _ _ SyntaxError (behind-length (t .before)) (t .form .ensures)
-    (start (length-test (t .before)) .args .block .now)
-    (c .before .before .match2 .keys2) (c .refusal2 .ensures)
+    (start (length-test (t .before)) .args .block .now) (c .before .before .match2 .keys2) (c .refusal2 .ensures)
 
 read-legal-requires : tie.Need-read-legal-requires
 read-legal-requires c κs =
@@ -55,8 +53,6 @@ read-legal-requires c κs =
 
 pub read-spec : {M : Type 1} → statement M
 read-spec =
-    tie.close
-    (tie.spec
-    (λ c κs. search needs) (λ c. search needs) (λ c. search needs) (λ c κs. search needs) returns
+    tie.close (tie.spec (λ c κs. search needs) (λ c. search needs) (λ c. search needs) (λ c κs. search needs) returns
     (λ c κs. search needs) (λ c. search needs) (λ c. search needs) (λ c κs. search needs) returns-2 read-legal-requires
     (λ c. search needs) (λ c. search needs))

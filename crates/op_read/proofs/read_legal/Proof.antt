@@ -1,5 +1,4 @@
--- `op_read::read_legal` meets its contract: 3 from the counts, what the never lines tell, and then the steps. Assumes
--- nothing.
+-- `op_read::read_legal` meets its contract: 3 from the counts, what the never lines tell, and then the steps.
 use native.Mathlib.Omega.{arith}
 use Rattle.op_read.proofs.Stages.{end-inside, rest-short, over, nevers-ready, tables-ready}
 use borrow.Author.Needs.{needs}
@@ -26,8 +25,7 @@ returns c =
     let t = c .before .before .before in
     let f = found t in
     over (entry f .pre) (f .never-lines .ensures) (t .before .tally .ensures) (t .limits .ensures)
-    (entry f .args .block .now)
-    (c .before .before .match .keys2) (c .refusal .ensures)
+    (entry f .args .block .now) (c .before .before .match .keys2) (c .refusal .ensures)
 
 read-nevers-requires : tie.Need-read-nevers-requires
 read-nevers-requires c κs =
@@ -47,13 +45,10 @@ read-tables-requires c κs =
     let t = within .before .before in
     let f = found t in
     tables-ready (entry f .pre) (f .never-lines .ensures) (t .before .tally .ensures) (t .limits .ensures)
-    (within .enum-told .given .1)
-    (told .read-nevers .ensures)
+    (within .enum-told .given .1) (told .read-nevers .ensures)
 
 pub read-legal-spec : {M : Type 1} → statement M
 read-legal-spec =
-    tie.close
-    (tie.spec
-    (λ c κs. search needs) sub-tally part-tally-start (λ c. search needs) tally-requires (λ c κs. search needs)
-    (λ c. search needs) (λ c. search needs) (λ c κs. search needs) returns read-nevers-requires read-tables-requires
-    (λ c. search needs) (λ c. search needs))
+    tie.close (tie.spec (λ c κs. search needs) sub-tally part-tally-start (λ c. search needs) tally-requires
+    (λ c κs. search needs) (λ c. search needs) (λ c. search needs) (λ c κs. search needs) returns read-nevers-requires
+    read-tables-requires (λ c. search needs) (λ c. search needs))

@@ -1,5 +1,5 @@
 -- `op_render::render` meets its promise: the answer and the slice are the definition's, and the definition has every
--- part of it. Assumes nothing.
+-- part of it.
 use mathlib.Core.Path.{refl}
 use denote.Ref.{now}
 use borrow.Author.Needs.{needs}
@@ -44,7 +44,5 @@ returns-2 c = whole-promise (c .before .before .render-with .ensures)
 
 pub render-spec : {M : Type 1} → statement M
 render-spec =
-    tie.close
-    (tie.spec
-    (λ c κs. search needs) (λ c. search needs) (λ c. search needs) (λ c κs. search needs) returns render-with-requires
-    (λ c. search needs) returns-2)
+    tie.close (tie.spec (λ c κs. search needs) (λ c. search needs) (λ c. search needs) (λ c κs. search needs) returns
+    render-with-requires (λ c. search needs) returns-2)

@@ -1,6 +1,5 @@
 -- `op_render::render_with` meets its contract: the tests are the definition's conditions in its order, 8 before 9
 -- before 11.
--- Assumes nothing.
 use mathlib.Core.Path.{_≡_}
 use denote.Ref.{now}
 use lib.ListN.{length}
@@ -100,8 +99,7 @@ finish-requires c κs =
             whole = start l .pre .0 .whole;
             fewGroups = e .listing .fewGroups;
             copies =
-                e .copies _
-                (passes-placed (decode (now (start l .args .words))) _ _ _ (e .listing .countIs)
+                e .copies _ (passes-placed (decode (now (start l .args .words))) _ _ _ (e .listing .countIs)
                 (found .passesAre (copies-fit w)));
             totalIs = found .totalIs (copies-fit w);
             fits = copies-fit w;
@@ -111,9 +109,6 @@ finish-requires c κs =
 
 pub render-with-spec : {M : Type 1} → statement M
 render-with-spec =
-    tie.close
-    (tie.spec
-    (λ c κs. let s : tie.Start = search in s .pre .0) walk-batches-requires
-    (λ c κs. search needs) (λ c. search needs) (λ c. search needs) (λ c κs. search needs) returns
-    test-settings-requires (λ c. search needs) (λ c. search needs) (λ c κs. search needs) returns-2 finish-requires
-    (λ c. search needs) (λ c. search needs))
+    tie.close (tie.spec (λ c κs. let s : tie.Start = search in s .pre .0) walk-batches-requires (λ c κs. search needs)
+    (λ c. search needs) (λ c. search needs) (λ c κs. search needs) returns test-settings-requires (λ c. search needs)
+    (λ c. search needs) (λ c κs. search needs) returns-2 finish-requires (λ c. search needs) (λ c. search needs))

@@ -1,4 +1,4 @@
--- `op_sheet::reply_to_sheet` meets its contract: 6, or the number of records. Assumes nothing.
+-- `op_sheet::reply_to_sheet` meets its contract: 6, or the number of records.
 use mathlib.Core.Path.{sym}
 use mathlib.Core.List.{[]}
 use denote.Ref.{now}
@@ -14,8 +14,7 @@ returns : tie.Need-returns
 returns c =
     let t = c .before .before .before in
     let told = failed bare keeps-bare _ _ MalformedBlock (sheet-chain _ _) (t .before .check-words .ensures) []
-    (t .match .keys2)
-    (c .before .refusal .ensures) in
+    (t .match .keys2) (c .before .refusal .ensures) in
     shows-same (promise-answer told) (c .reply-of .ensures)
 
 returns-2 : tie.Need-returns-2
@@ -27,7 +26,5 @@ returns-2 c =
 
 pub reply-to-sheet-spec : {M : Type 1} → statement M
 reply-to-sheet-spec =
-    tie.close
-    (tie.spec
-    (λ c κs. search needs) (λ c. search needs) (λ c. search needs) (λ c κs. search needs) (λ c κs. search needs)
-    returns (λ c κs. search needs) returns-2)
+    tie.close (tie.spec (λ c κs. search needs) (λ c. search needs) (λ c. search needs) (λ c κs. search needs)
+    (λ c κs. search needs) returns (λ c κs. search needs) returns-2)

@@ -1,5 +1,4 @@
 -- `op_verdict::verdict` meets its contract: torn words are refused, and whole ones are `whole_verdict`'s.
--- Assumes nothing.
 use mathlib.Core.Path.{refl}
 use mathlib.Core.List.{[]}
 use borrow.Author.Needs.{needs}
@@ -24,7 +23,5 @@ whole-verdict-requires c κs =
 
 pub verdict-spec : {M : Type 1} → statement M
 verdict-spec =
-    tie.close
-    (tie.spec
-    (λ c κs. search needs) (λ c. search needs) (λ c. search needs) (λ c κs. search needs) returns
+    tie.close (tie.spec (λ c κs. search needs) (λ c. search needs) (λ c. search needs) (λ c κs. search needs) returns
     whole-verdict-requires (λ c. search needs))

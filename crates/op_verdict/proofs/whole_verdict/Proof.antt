@@ -1,4 +1,4 @@
--- `op_verdict::whole_verdict` meets its contract: the search goes by the block's plan. Assumes nothing.
+-- `op_verdict::whole_verdict` meets its contract: the search goes by the block's plan.
 use mathlib.Core.Path.{_∙_}
 use Rattle.words_refusals.proofs.Promised.{tell}
 use Rattle.op_verdict.proofs.Outcomes.{answer-whole}
@@ -18,5 +18,5 @@ returns c =
 
 pub whole-verdict-spec : {M : Type 1} → statement M
 whole-verdict-spec =
-    tie.close
-    (tie.spec (λ c κs. let s : tie.Start = search in (s .pre .0, s .pre .1 .0)) search-settings-requires returns)
+    tie.close (tie.spec (λ c κs. let s : tie.Start = search in (s .pre .0, s .pre .1 .0)) search-settings-requires
+    returns)

@@ -1,5 +1,5 @@
 -- `op_write::check_room` meets its contract: no text is longer than the longest, and a pass over any text tells the
--- length. Assumes nothing.
+-- length.
 use Prim.Native.Nat.{ℕ}
 use mathlib.Core.Path.{_≡_, ap, _∙_}
 use native.Mathlib.Omega.{arith}
@@ -28,6 +28,4 @@ returns-2 c =
     c .test-room .ensures ∙ ap (λ (n : ℕ). testOf (ltb (s .args .room) n) NoRoom) count
 
 pub check-room-spec : {M : Type 1} → statement M
-check-room-spec =
-    tie.close
-    (tie.spec returns (λ c. search needs) put-block-requires (λ c κs. search needs) returns-2)
+check-room-spec = tie.close (tie.spec returns (λ c. search needs) put-block-requires (λ c κs. search needs) returns-2)

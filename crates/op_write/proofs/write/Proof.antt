@@ -1,17 +1,14 @@
--- `op_write::write` meets its contract: once there is room, the text is written. Assumes nothing.
-use Prim.Native.Nat.{ℕ}
-use mathlib.Core.Path.{_≡_, ap, _∙_}
+-- `op_write::write` meets its contract: once there is room, the text is written.
+use mathlib.Core.Path.{_≡_, _∙_}
 use mathlib.Core.Bool.{false}
 use native.Mathlib.Omega.{arith}
 use lib.ListN.{length}
-use lib.Dec.{ltb}
 use borrow.Author.Needs.{needs}
 use borrow.Author.Tests.{ltb-false}
 use Rattle.prelude.proofs.Slices.{sets-placed}
 use Rattle.netlist.specs.declared.Refusal.the-variants.{MalformedBlock, NoRoom}
 use Rattle.netlist.specs.StoredBlock.{isMalformed}
 use Rattle.netlist.specs.Answers.{inRoom}
-use Rattle.words_refusals.specs.Tests.{testOf}
 use Rattle.words_refusals.proofs.Promised.{passed, passed-false, failed, keeps-room, bare, keeps-bare, finished}
 use Rattle.op_write.specs.Lines.{blockText}
 use Rattle.op_write.proofs.Outcomes.{few-inputs, block-short, write-start, write-room}
@@ -35,8 +32,7 @@ returns : tie.Need-returns
 returns c =
     let t = c .before .before .before in
     failed (inRoom _) (keeps-room _) _ _ MalformedBlock (write-start _ _) (t .check-words .ensures)
-    (start t .args .text .now)
-    (c .before .before .match .keys2) (c .refusal .ensures)
+    (start t .args .text .now) (c .before .before .match .keys2) (c .refusal .ensures)
 
 check-room-requires : tie.Need-check-room-requires
 check-room-requires c κs = whole c
@@ -47,8 +43,7 @@ returns-2 c =
     let w = whole-block t in
     let a = start (words-test w) .args in
     failed bare keeps-bare _ _ NoRoom (write-room (a .words .now) (length (a .text .now)) (whole w))
-    (t .check-room .ensures) (a .text .now)
-    (c .before .before .match2 .keys2) (c .refusal2 .ensures)
+    (t .check-room .ensures) (a .text .now) (c .before .before .match2 .keys2) (c .refusal2 .ensures)
 
 put-block-requires : tie.Need-put-block-requires
 put-block-requires c κs =
@@ -67,15 +62,12 @@ returns-3 c =
     let fits = ltb-false (length (a .text .now)) (length (blockText (a .words .now))) there in
     let count : put .put-block .result ≡ length (blockText (a .words .now)) = let n = put .put-block .ensures .endIs in
     omega (arith, n) in
-    finished
-    (passed bare keeps-bare _ _ NoRoom (write-room (a .words .now) (length (a .text .now)) (whole w))
+    finished (passed bare keeps-bare _ _ NoRoom (write-room (a .words .now) (length (a .text .now)) (whole w))
     (t .check-room .ensures) (e .enum-told3 .given .1))
     count (put .put-block .ensures .textIs ∙ sets-placed (blockText (a .words .now)) (a .text .now) fits)
 
 pub write-spec : {M : Type 1} → statement M
 write-spec =
-    tie.close
-    (tie.spec
-    (λ c κs. search needs) (λ c. search needs) (λ c. search needs) (λ c κs. search needs) returns check-room-requires
-    (λ c. search needs) (λ c. search needs) (λ c κs. search needs) returns-2 put-block-requires (λ c. search needs)
-    returns-3)
+    tie.close (tie.spec (λ c κs. search needs) (λ c. search needs) (λ c. search needs) (λ c κs. search needs) returns
+    check-room-requires (λ c. search needs) (λ c. search needs) (λ c κs. search needs) returns-2 put-block-requires
+    (λ c. search needs) returns-3)

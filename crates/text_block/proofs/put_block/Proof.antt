@@ -1,4 +1,4 @@
--- `text_block::put_block` meets its contract: the five parts, one after the other. Assumes nothing.
+-- `text_block::put_block` meets its contract: the five parts, one after the other.
 use borrow.Author.Needs.{needs}
 use Rattle.text_block.proofs.put_block.Statement.{statement}
 use Rattle.text_block.proofs.put_block.Tie as tie
@@ -53,8 +53,6 @@ returns c =
 
 pub put-block-spec : {M : Type 1} → statement M
 put-block-spec =
-    tie.close
-    (tie.spec
-    put-counts-requires put-names-requires (λ c. search needs) (λ c κs. search needs) put-words-requires
-    (λ c. search needs) (λ c κs. search needs) put-words-requires-2 (λ c. search needs) (λ c κs. search needs)
-    put-words-requires-3 (λ c. search needs) returns)
+    tie.close (tie.spec put-counts-requires put-names-requires (λ c. search needs) (λ c κs. search needs)
+    put-words-requires (λ c. search needs) (λ c κs. search needs) put-words-requires-2 (λ c. search needs)
+    (λ c κs. search needs) put-words-requires-3 (λ c. search needs) returns)

@@ -1,4 +1,4 @@
--- `text_block::put_counts` meets its contract. Assumes nothing.
+-- `text_block::put_counts` meets its contract.
 use native.Mathlib.Omega.{arith}
 use borrow.Author.Needs.{needs}
 use Rattle.text_block.proofs.put_counts.Statement.{statement}
@@ -16,7 +16,6 @@ slice-write-block-4 c = simp length-set (omega arith)
 
 pub put-counts-spec : {M : Type 1} → statement M
 put-counts-spec =
-    tie.close
-    (tie.spec
-    (λ c. search needs) (λ c. search needs) (λ c. search needs) slice-write-block-2 (λ c. search needs)
-    slice-write-block-3 (λ c. search needs) slice-write-block-4 (λ c. search needs) (λ c. search needs))
+    tie.close (tie.spec (λ c. search needs) (λ c. search needs) (λ c. search needs) slice-write-block-2
+    (λ c. search needs) slice-write-block-3 (λ c. search needs) slice-write-block-4 (λ c. search needs)
+    (λ c. search needs))

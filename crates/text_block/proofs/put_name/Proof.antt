@@ -1,4 +1,4 @@
--- `text_block::put_name` meets its contract. Assumes nothing.
+-- `text_block::put_name` meets its contract.
 use native.Mathlib.Omega.{arith}
 use borrow.Author.Needs.{needs}
 use Rattle.text_block.proofs.put_name.Statement.{statement}
@@ -26,9 +26,7 @@ returns c =
 
 pub put-name-spec : {M : Type 1} → statement M
 put-name-spec =
-    tie.close
-    (tie.spec
-    (λ c. search needs) (λ c. search needs) (λ c. search needs) (λ c. search needs) (λ c. search needs)
-    (λ c. search needs) slice-write-block-2 (λ c. search needs) (λ c. search needs) (λ c. search needs)
-    slice-write-block-3 (λ c. search needs) (λ c. search needs) (λ c. search needs) slice-write-block-4
-    (λ c. search needs) returns)
+    tie.close (tie.spec (λ c. search needs) (λ c. search needs) (λ c. search needs) (λ c. search needs)
+    (λ c. search needs) (λ c. search needs) slice-write-block-2 (λ c. search needs) (λ c. search needs)
+    (λ c. search needs) slice-write-block-3 (λ c. search needs) (λ c. search needs) (λ c. search needs)
+    slice-write-block-4 (λ c. search needs) returns)

@@ -1,4 +1,4 @@
--- `text_block::put_names` meets its contract: one name a turn. Assumes nothing.
+-- `text_block::put_names` meets its contract: one name a turn.
 use native.Mathlib.Omega.{arith}
 use mathlib.Core.Path.{_≡_, refl, _∙_}
 use Rattle.text_block.proofs.put_names.Statement.{statement}
@@ -30,8 +30,7 @@ loop-again c =
     let l = at-loop .loop in (
       omega arith,
       sets-joined-next (nameOf (a .names .now)) 4 (name-size (a .names .now)) (a .block .now) (l .block) _ 4 (l .i)
-          (l .inv .1)
-          (c .before .before .put-name .ensures),
+          (l .inv .1) (c .before .before .put-name .ensures),
       c .before .before .put-name .kept .0 ∙ l .inv .2,
     )
 
@@ -46,7 +45,5 @@ returns c =
 
 pub put-names-spec : {M : Type 1} → statement M
 put-names-spec =
-    tie.close
-    (tie.spec
-    Inv-loop μ-loop loop-holds (λ c. omega arith) (λ c. omega arith) (λ c. omega arith) (λ c. omega arith)
-    (λ c κs. omega arith) (λ c. omega arith) (λ c. omega arith) loop-again same-length returns)
+    tie.close (tie.spec Inv-loop μ-loop loop-holds (λ c. omega arith) (λ c. omega arith) (λ c. omega arith)
+    (λ c. omega arith) (λ c κs. omega arith) (λ c. omega arith) (λ c. omega arith) loop-again same-length returns)

@@ -1,5 +1,5 @@
 -- `text_expressions::resolve` meets its contract: the two walks start where the lines of the tree stand, and together
--- they have used its names in order. Assumes nothing.
+-- they have used its names in order.
 use native.Mathlib.Omega.{arith}
 use mathlib.Core.Path.{_≡_}
 use mathlib.Core.List.{[]}
@@ -45,8 +45,7 @@ read-behind c = c .before .before .before
 -- where the output lines begin
 outputs-left : (c : tie.After-gate-lines) → c .gate-lines .result .left ≡ length (outputsText (start c .pre .0 .here))
 outputs-left c = gates-done (start c .pre .0 .here) (start c .args .gates .now)
-    (c .gate-lines .last .1 .1 .1 .1 .1 .1 .0) (c .gate-lines .result)
-    (c .gate-lines .ensures) .left
+    (c .gate-lines .last .1 .1 .1 .1 .1 .1 .0) (c .gate-lines .result) (c .gate-lines .ensures) .left
 
 -- what the two walks have done, of whatever tree
 gates-walked : (c : tie.After-output-lines) →
@@ -55,8 +54,7 @@ gates-walked : (c : tie.After-output-lines) →
     (t : Tree) (w : TreeAt t (s .args .text .now) (s .args .end) (s .args .c) (s .args .names .now)
     (s .args .words .now))
     → LinesDone gateForm (s .args .c .inputs) (bindings t) (t .gates) (gateLinesAt t) (gatesText w) (outputsText w) 0 0
-    (s .args .gates .now)
-    (gates .gate-lines .last .1 .1 .1 .1 .1 .1 .0) (gates .gate-lines .result)
+    (s .args .gates .now) (gates .gate-lines .last .1 .1 .1 .1 .1 .1 .0) (gates .gate-lines .result)
 gates-walked c t w =
     let gates = lines-read c in
     gates-done w (start gates .args .gates .now) (gates .gate-lines .last .1 .1 .1 .1 .1 .1 .0)
@@ -75,17 +73,7 @@ outputs-walked c t w =
     let s = start gates in
     let o = c .output-lines in
     outputs-done w (gates .gate-lines .result .left) (gates .gate-lines .result .unknown) (s .args .outputs .now)
-    (o .last .1 .1 .1 .1 .1 .1 .0) (o .result)
-    (gates-walked c t w .left) (o .ensures (s .args .c .inputs))
-
-add-nodes : tie.Need-add-nodes
-add-nodes c = omega (arith, nodes-few (entry c .pre .0 .here))
-
-sub-gate-lines : tie.Need-sub-gate-lines
-sub-gate-lines c = omega (arith, end-inside (entry c .pre .0 .here))
-
-part-gate-lines-start : tie.Need-part-gate-lines-start
-part-gate-lines-start c = omega (arith, end-inside (entry c .pre .0 .here))
+    (o .last .1 .1 .1 .1 .1 .1 .0) (o .result) (gates-walked c t w .left) (o .ensures (s .args .c .inputs))
 
 slice-aggregate-gate-lines : tie.Need-slice-aggregate-gate-lines
 slice-aggregate-gate-lines c = numbers-length (entry (c .before .before) .pre .0 .here)
@@ -127,8 +115,7 @@ returns c =
     let s = start gates in
     record {
       done = λ t w. known-done w (s .args .gates .now) (gates .gate-lines .last .1 .1 .1 .1 .1 .1 .0)
-          (s .args .outputs .now)
-          (outputs .output-lines .last .1 .1 .1 .1 .1 .1 .0) (gates .gate-lines .result)
+          (s .args .outputs .now) (outputs .output-lines .last .1 .1 .1 .1 .1 .1 .0) (gates .gate-lines .result)
           (outputs .output-lines .result) (gates-walked outputs t w)
           (outputs-walked outputs t w) (c .if1 .taken) (s .pre .0 .gateRoom) (s .pre .0 .outputRoom);
     }
@@ -146,8 +133,7 @@ sub-unknown c =
       arith,
       unknown-short w (s .args .gates .now) (gates .gate-lines .last .1 .1 .1 .1 .1 .1 .0) (s .args .outputs .now)
           (outputs .output-lines .last .1 .1 .1 .1 .1 .1 .0) (gates .gate-lines .result)
-          (outputs .output-lines .result) (gates-walked outputs t w)
-          (outputs-walked outputs t w),
+          (outputs .output-lines .result) (gates-walked outputs t w) (outputs-walked outputs t w),
     )
 
 returns-2 : tie.Need-returns-2
@@ -157,17 +143,16 @@ returns-2 c =
     let s = start gates in
     record {
       done = λ t w. undeclared-done w (s .args .gates .now) (gates .gate-lines .last .1 .1 .1 .1 .1 .1 .0)
-          (s .args .outputs .now)
-          (outputs .output-lines .last .1 .1 .1 .1 .1 .1 .0) (gates .gate-lines .result)
+          (s .args .outputs .now) (outputs .output-lines .last .1 .1 .1 .1 .1 .1 .0) (gates .gate-lines .result)
           (outputs .output-lines .result) (gates-walked outputs t w)
           (outputs-walked outputs t w) (c .before .if1 .left) (s .pre .0 .gateRoom) (s .pre .0 .outputRoom);
     }
 
 pub resolve-spec : {M : Type 1} → statement M
 resolve-spec =
-    tie.close
-    (tie.spec
-    add-nodes sub-gate-lines part-gate-lines-start (λ c. search needs) slice-aggregate-gate-lines
-    slice-aggregate-gate-lines-2 gate-lines-requires sub-output-lines (λ c. search needs) (λ c. search needs)
-    (λ c. search needs) slice-aggregate-output-lines slice-aggregate-output-lines-2 output-lines-requires
-    (λ c. search needs) returns add-length sub-unknown (λ c. search needs) returns-2)
+    tie.close (tie.spec (λ c. omega (arith, nodes-few (entry c .pre .0 .here)))
+    (λ c. omega (arith, end-inside (entry c .pre .0 .here))) (λ c. omega (arith, end-inside (entry c .pre .0 .here)))
+    (λ c. search needs) slice-aggregate-gate-lines slice-aggregate-gate-lines-2 gate-lines-requires sub-output-lines
+    (λ c. search needs) (λ c. search needs) (λ c. search needs) slice-aggregate-output-lines
+    slice-aggregate-output-lines-2 output-lines-requires (λ c. search needs) returns add-length sub-unknown
+    (λ c. search needs) returns-2)

@@ -1,5 +1,4 @@
--- `text_lines::count` meets its contract: what was counted and what is left to count are the whole count. Assumes
--- nothing.
+-- `text_lines::count` meets its contract: what was counted and what is left to count are the whole count.
 use Prim.Native.Nat.{_-_, _≤_}
 use native.Mathlib.Omega.{arith}
 use lib.ListN.{length, getD}
@@ -28,9 +27,6 @@ adds c =
     let a = start (turn c) .args in
     omega (arith, c .one-if .ensures, one-le (eqb (getD (a .s .now) (turn c .loop .i) 0) (a .b)))
 
-add-n : tie.Need-add-n Inv-loop μ-loop
-add-n c = omega (arith, adds c, turn c .loop .inv .few)
-
 loop-again : tie.Need-loop-again Inv-loop μ-loop
 loop-again c =
     let a = start (turn c) .args in
@@ -54,7 +50,6 @@ returns c =
 
 pub count-spec : {M : Type 1} → statement M
 count-spec =
-    tie.close
-    (tie.spec
-    Inv-loop μ-loop (λ c. counted-none) (λ c. omega arith) (λ c κs. search needs) (λ c. omega (arith, adds c)) add-n
-    (λ c. omega arith) (λ c. omega arith) loop-again cast-result returns)
+    tie.close (tie.spec Inv-loop μ-loop (λ c. counted-none) (λ c. omega arith) (λ c κs. search needs)
+    (λ c. omega (arith, adds c)) (λ c. omega (arith, adds c, turn c .loop .inv .few)) (λ c. omega arith)
+    (λ c. omega arith) loop-again cast-result returns)

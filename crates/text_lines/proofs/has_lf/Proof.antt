@@ -1,4 +1,4 @@
--- `text_lines::has_lf` meets its contract: where nothing was found, no byte passed is an LF. Assumes nothing.
+-- `text_lines::has_lf` meets its contract: where nothing was found, no byte passed is an LF.
 use Rattle.text_lines.proofs.has_lf.Statement.{statement}
 use Rattle.text_lines.proofs.has_lf.Tie as tie
 use mathlib.Core.Path.{_≡_}
@@ -28,7 +28,5 @@ returns c e k l = let p = c .before .loop in p .inv .1 e k (omega arith)
 
 pub has-lf-spec : {M : Type 1} → statement M
 has-lf-spec =
-    tie.close
-    (tie.spec
-    Inv-loop μ-loop loop-holds (λ c. omega arith) (λ c. omega arith) (λ c. omega arith) (λ c. omega arith) loop-again
-    returns)
+    tie.close (tie.spec Inv-loop μ-loop loop-holds (λ c. omega arith) (λ c. omega arith) (λ c. omega arith)
+    (λ c. omega arith) loop-again returns)

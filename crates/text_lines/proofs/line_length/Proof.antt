@@ -1,5 +1,4 @@
--- `text_lines::line_length` meets its contract: the bytes passed and the rest of the line are the line. Assumes
--- nothing.
+-- `text_lines::line_length` meets its contract: the bytes passed and the rest of the line are the line.
 use Prim.Native.Nat.{_+_, _-_, _≤_}
 use mathlib.Core.Path.{_≡_}
 use native.Mathlib.Omega.{arith}
@@ -40,8 +39,5 @@ returns-2 c =
 
 pub line-length-spec : {M : Type 1} → statement M
 line-length-spec =
-    tie.close
-    (tie.spec
-    Inv-loop μ-loop (λ c κs. search needs) loop-holds (λ c. omega arith) (λ c. omega arith) returns (λ c. omega arith)
-    (λ c. omega arith)
-    loop-again returns-2)
+    tie.close (tie.spec Inv-loop μ-loop (λ c κs. search needs) loop-holds (λ c. omega arith) (λ c. omega arith) returns
+    (λ c. omega arith) (λ c. omega arith) loop-again returns-2)

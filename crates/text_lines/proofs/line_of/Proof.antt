@@ -1,8 +1,8 @@
--- `text_lines::line_of` meets its contract: a line's brackets are those among its bytes. Assumes nothing.
+-- `text_lines::line_of` meets its contract: a line's brackets are those among its bytes.
 use mathlib.Core.Path.{_≡_, _∙_}
 use native.Mathlib.Omega.{arith}
 use borrow.Author.Needs.{needs}
-use Rattle.text_lines.specs.Lines.{lineOpens, nameOffset}
+use Rattle.text_lines.specs.Lines.{lineOpens}
 use Rattle.text_lines.proofs.Scanning.{lineLength-le, line-part, opens-within}
 use Rattle.text_lines.proofs.line_of.Statement.{statement}
 use Rattle.text_lines.proofs.line_of.Tie as tie
@@ -34,7 +34,5 @@ returns c =
 
 pub line-of-spec : {M : Type 1} → statement M
 line-of-spec =
-    tie.close
-    (tie.spec
-    (λ c κs. search needs) (λ c κs. search needs) (λ c κs. search needs) slice-aggregate-count count-requires
-    (λ c κs. search needs) returns)
+    tie.close (tie.spec (λ c κs. search needs) (λ c κs. search needs) (λ c κs. search needs) slice-aggregate-count
+    count-requires (λ c κs. search needs) returns)

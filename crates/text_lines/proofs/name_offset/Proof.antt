@@ -1,4 +1,4 @@
--- `text_lines::name_offset` meets its contract. Assumes nothing.
+-- `text_lines::name_offset` meets its contract.
 use borrow.Author.Tests.{eq-eqb, ne-eqb}
 use Rattle.text_lines.specs.Lines.{nameOffset}
 use Rattle.text_lines.proofs.name_offset.Statement.{statement}

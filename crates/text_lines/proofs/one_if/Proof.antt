@@ -1,4 +1,4 @@
--- `text_lines::one_if` meets its contract. Assumes nothing.
+-- `text_lines::one_if` meets its contract.
 use borrow.Author.Tests.{eq-eqb, ne-eqb}
 use Rattle.text_lines.proofs.one_if.Statement.{statement}
 use Rattle.text_lines.proofs.one_if.Tie as tie

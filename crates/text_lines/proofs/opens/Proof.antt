@@ -1,5 +1,4 @@
--- `text_lines::opens` meets its contract: the brackets passed and those left in the line are the line's. Assumes
--- nothing.
+-- `text_lines::opens` meets its contract: the brackets passed and those left in the line are the line's.
 use Prim.Native.Nat.{_-_, _≤_}
 use native.Mathlib.Omega.{arith}
 use lib.ListN.{length, getD}
@@ -24,17 +23,13 @@ abbrev turn : tie.After-one-if Inv-loop μ-loop → tie.At-loop Inv-loop μ-loop
 turn c = let tested = c .before .before in tested .before .before .before
 
 adds : (c : tie.After-one-if Inv-loop μ-loop) → c .one-if .result ≤ 1
-adds c =
-    omega (arith, c .one-if .ensures, one-le (eqb (getD (start (turn c) .args .s .now) (turn c .loop .i) 0) 40))
+adds c = omega (arith, c .one-if .ensures, one-le (eqb (getD (start (turn c) .args .s .now) (turn c .loop .i) 0) 40))
 
 returns : tie.Need-returns Inv-loop μ-loop
 returns c =
     let at-loop = c .before .before .before in
     let l = at-loop .loop in
     opens-last (start at-loop .args .s .now) (l .i) (omega arith) (l .n) (c .if1 .taken) (l .inv .left)
-
-add-n : tie.Need-add-n Inv-loop μ-loop
-add-n c = omega (arith, adds c, turn c .loop .inv .few)
 
 loop-again : tie.Need-loop-again Inv-loop μ-loop
 loop-again c =
@@ -55,7 +50,6 @@ returns-2 c =
 
 pub opens-spec : {M : Type 1} → statement M
 opens-spec =
-    tie.close
-    (tie.spec
-    Inv-loop μ-loop (λ c. counted-none) (λ c. omega arith) returns (λ c. omega arith) (λ c κs. search needs) add-n
-    (λ c. omega arith) (λ c. omega arith) loop-again returns-2)
+    tie.close (tie.spec Inv-loop μ-loop (λ c. counted-none) (λ c. omega arith) returns (λ c. omega arith)
+    (λ c κs. search needs) (λ c. omega (arith, adds c, turn c .loop .inv .few)) (λ c. omega arith) (λ c. omega arith)
+    loop-again returns-2)

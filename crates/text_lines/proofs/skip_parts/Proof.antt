@@ -1,5 +1,4 @@
--- `text_lines::skip_parts` meets its contract: a part without an LF and what is left of the line are the line. Assumes
--- nothing.
+-- `text_lines::skip_parts` meets its contract: a part without an LF and what is left of the line are the line.
 use Rattle.text_lines.proofs.skip_parts.Statement.{statement}
 use Rattle.text_lines.proofs.skip_parts.Tie as tie
 use mathlib.Core.Path.{_≡_}
@@ -32,7 +31,5 @@ returns-2 c = c .before .loop .inv
 
 pub skip-parts-spec : {M : Type 1} → statement M
 skip-parts-spec =
-    tie.close
-    (tie.spec
-    Inv-loop μ-loop loop-holds (λ c. omega arith) (λ c κs. omega arith) returns (λ c. omega arith) (λ c. omega arith)
-    loop-again returns-2)
+    tie.close (tie.spec Inv-loop μ-loop loop-holds (λ c. omega arith) (λ c κs. omega arith) returns (λ c. omega arith)
+    (λ c. omega arith) loop-again returns-2)

@@ -1,5 +1,4 @@
--- `text_pieces::put_decimal` meets its contract: the digits of a tenth, and one more. The number itself falls. Assumes
--- nothing.
+-- `text_pieces::put_decimal` meets its contract: the digits of a tenth, and one more. The number itself falls.
 use Prim.Native.Nat.{ℕ, _<_}
 use native.Mathlib.Omega.{arith}
 use borrow.Author.Needs.{needs}
@@ -18,12 +17,10 @@ abbrev μ-put-decimal : Measures 1 put-decimal-kinds.ps ℕ
 μ-put-decimal κs a = a .1 .1 .0
 
 abbrev put-decimal-at : ℕ → In 1 put-decimal-kinds.ps
-put-decimal-at t =
-    and 1 put-decimal-kinds.ps (is 1 put-decimal-kinds.ps μ-put-decimal t) put-decimal.Pre
+put-decimal-at t = and 1 put-decimal-kinds.ps (is 1 put-decimal-kinds.ps μ-put-decimal t) put-decimal.Pre
 
 abbrev put-decimal-below : ℕ → In 1 put-decimal-kinds.ps
-put-decimal-below t =
-    and 1 put-decimal-kinds.ps (falls 1 put-decimal-kinds.ps _<_ μ-put-decimal t) put-decimal.Pre
+put-decimal-below t = and 1 put-decimal-kinds.ps (falls 1 put-decimal-kinds.ps _<_ μ-put-decimal t) put-decimal.Pre
 
 put-decimal-add-put : (t : ℕ) → put-decimal-lts.Need-add-put (
   put-reads.Asked,
@@ -136,16 +133,6 @@ pub +put-decimal-spec : {M : Type 1} → statement M
   put-decimal-below t,
   put-decimal.Post,
 )
-    (put-decimal-at t)
-    put-decimal.Post
-    (put-decimal-add-put t)
-    (put-decimal-cast-put t)
-    (put-decimal-put-requires t)
-    (put-decimal-same-length t)
-    (put-decimal-returns t)
-    (put-decimal-put-decimal-requires t)
-    (put-decimal-add-put-2 t)
-    (put-decimal-cast-put-2 t)
-    (put-decimal-put-requires-2 t)
-    (put-decimal-same-length-2 t)
-    (put-decimal-returns-2 t)
+    (put-decimal-at t) put-decimal.Post (put-decimal-add-put t) (put-decimal-cast-put t) (put-decimal-put-requires t)
+    (put-decimal-same-length t) (put-decimal-returns t) (put-decimal-put-decimal-requires t) (put-decimal-add-put-2 t)
+    (put-decimal-cast-put-2 t) (put-decimal-put-requires-2 t) (put-decimal-same-length-2 t) (put-decimal-returns-2 t)

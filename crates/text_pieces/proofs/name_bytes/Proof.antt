@@ -1,4 +1,4 @@
--- `text_pieces::name_bytes` meets its contract: a word below 65,536 is two bytes. Assumes nothing.
+-- `text_pieces::name_bytes` meets its contract: a word below 65,536 is two bytes.
 use Prim.Native.Nat.{_+_}
 use native.Mathlib.Omega.{arith}
 use borrow.Author.Needs.{needs}
@@ -43,8 +43,6 @@ returns c =
 
 pub name-bytes-spec : {M : Type 1} → statement M
 name-bytes-spec =
-    tie.close
-    (tie.spec
-    (λ c κs. search needs) (λ c. search needs) (λ c κs. search needs) (λ c. search needs) (λ c κs. search needs)
-    (λ c. search needs) (λ c κs. search needs) (λ c. search needs) cast-t10 (λ c. search needs) cast-t14
-    (λ c. search needs) cast-t18 (λ c. search needs) cast-t22 returns)
+    tie.close (tie.spec (λ c κs. search needs) (λ c. search needs) (λ c κs. search needs) (λ c. search needs)
+    (λ c κs. search needs) (λ c. search needs) (λ c κs. search needs) (λ c. search needs) cast-t10 (λ c. search needs)
+    cast-t14 (λ c. search needs) cast-t18 (λ c. search needs) cast-t22 returns)

@@ -1,4 +1,4 @@
--- `text_pieces::put_digit` meets its contract: nothing below the unit, and one digit from there on. Assumes nothing.
+-- `text_pieces::put_digit` meets its contract: nothing below the unit, and one digit from there on.
 use borrow.Author.Needs.{needs}
 use Rattle.text_pieces.proofs.DecimalLaws.{digit-none, digit-some}
 use Rattle.text_pieces.proofs.Appending.{appended-none}

@@ -1,4 +1,4 @@
--- `text_pieces::put_gate_name` meets its contract: `_`, and then the number. Assumes nothing.
+-- `text_pieces::put_gate_name` meets its contract: `_`, and then the number.
 use native.Mathlib.Omega.{arith}
 use borrow.Author.Needs.{needs}
 use Rattle.prelude.specs.Lists.{ascii}

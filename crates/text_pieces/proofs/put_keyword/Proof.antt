@@ -1,5 +1,4 @@
 -- `text_pieces::put_keyword` meets its contract: the keyword of the kind's signature, without the zeros at its end.
--- Assumes nothing.
 use borrow.Author.Needs.{needs}
 use Rattle.netlist.specs.Kinds.{keyword}
 use Rattle.text_pieces.proofs.put_keyword.Statement.{statement}
@@ -20,6 +19,4 @@ returns c =
 
 pub put-keyword-spec : {M : Type 1} → statement M
 put-keyword-spec =
-    tie.close
-    (tie.spec
-    (λ c κs. search needs) (λ c. search needs) put-trimmed-requires (λ c. search needs) returns)
+    tie.close (tie.spec (λ c κs. search needs) (λ c. search needs) put-trimmed-requires (λ c. search needs) returns)

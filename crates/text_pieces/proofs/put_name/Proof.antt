@@ -1,4 +1,4 @@
--- `text_pieces::put_name` meets its contract: a name is its eight bytes without the zeros at the end. Assumes nothing.
+-- `text_pieces::put_name` meets its contract: a name is its eight bytes without the zeros at the end.
 use borrow.Author.Needs.{needs}
 use Rattle.netlist.specs.StoredBlock.{nameAt}
 use Rattle.text_pieces.proofs.put_name.Statement.{statement}
@@ -18,6 +18,4 @@ returns c =
 
 pub put-name-spec : {M : Type 1} → statement M
 put-name-spec =
-    tie.close
-    (tie.spec
-    (λ c κs. search needs) (λ c. search needs) put-trimmed-requires (λ c. search needs) returns)
+    tie.close (tie.spec (λ c κs. search needs) (λ c. search needs) put-trimmed-requires (λ c. search needs) returns)

@@ -1,5 +1,5 @@
 -- `text_pieces::put_number` meets its contract: below 10,000 the digits of thousands, hundreds and tens, as far as
--- there are any, and the last (`decimal-four`). Assumes nothing.
+-- there are any, and the last (`decimal-four`).
 use Prim.Native.Nat.{_+_, _%_, _<_}
 use mathlib.Core.List.{[], _∷_, _++_}
 use native.Mathlib.Omega.{arith}
@@ -62,13 +62,11 @@ returns-2 c =
     let third : tie.After-put-digit3 = search in
     let second = hundreds third in
     let first = thousands second in
-    rw (decimal-four (start first .args .v) (omega arith))
-    (appended-then (first .put-digit .ensures)
+    rw (decimal-four (start first .args .v) (omega arith)) (appended-then (first .put-digit .ensures)
     (appended-then (second .put-digit2 .ensures) (appended-then (third .put-digit3 .ensures) (last .put .ensures))))
 
 pub put-number-spec : {M : Type 1} → statement M
 put-number-spec =
-    tie.close
-    (tie.spec
-    (λ c κs. search needs) (λ c. search needs) (λ c. search needs) put-digit-requires put-digit-requires-2
-    put-digit-requires-3 (λ c. search needs) (λ c. search needs) put-requires (λ c. search needs) returns-2)
+    tie.close (tie.spec (λ c κs. search needs) (λ c. search needs) (λ c. search needs) put-digit-requires
+    put-digit-requires-2 put-digit-requires-3 (λ c. search needs) (λ c. search needs) put-requires (λ c. search needs)
+    returns-2)

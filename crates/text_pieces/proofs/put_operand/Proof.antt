@@ -1,4 +1,4 @@
--- `text_pieces::put_operand` meets its contract: one law for each kind of operand. Assumes nothing.
+-- `text_pieces::put_operand` meets its contract: one law for each kind of operand.
 use Prim.Native.Nat.{_≤_, _<_}
 use native.Mathlib.Omega.{arith}
 use lib.ListN.{getD}
@@ -115,8 +115,6 @@ returns-4 c =
 
 pub put-operand-spec : {M : Type 1} → statement M
 put-operand-spec =
-    tie.close
-    (tie.spec
-    (λ c κs. search needs) (λ c κs. search needs) mul-put-name add-put-name put-name-requires (λ c. search needs)
-    returns put-requires put-requires-2 put-gate-name-requires (λ c. search needs) returns-2 (λ c. search needs)
-    returns-3 (λ c. search needs) returns-4)
+    tie.close (tie.spec (λ c κs. search needs) (λ c κs. search needs) mul-put-name add-put-name put-name-requires
+    (λ c. search needs) returns put-requires put-requires-2 put-gate-name-requires (λ c. search needs) returns-2
+    (λ c. search needs) returns-3 (λ c. search needs) returns-4)

@@ -1,4 +1,4 @@
--- `text_pieces::put_pair` meets its contract: its five pieces, one after the other. Assumes nothing.
+-- `text_pieces::put_pair` meets its contract: its five pieces, one after the other.
 use mathlib.Core.List.{[], _∷_}
 use native.Mathlib.Omega.{arith}
 use borrow.Author.Needs.{needs}
@@ -47,13 +47,10 @@ returns c =
     let spaced : tie.After-put = search in
     let named : tie.After-put-name = search in
     let opened : tie.After-put-all = search in
-    appended-then (opened .put-all .ensures)
-    (appended-then (named .put-name .ensures)
+    appended-then (opened .put-all .ensures) (appended-then (named .put-name .ensures)
     (appended-then (spaced .put .ensures) (appended-then (filled .put2 .ensures) (c .before .before .put3 .ensures))))
 
 pub put-pair-spec : {M : Type 1} → statement M
 put-pair-spec =
-    tie.close
-    (tie.spec
-    (λ c. search needs) put-all-requires put-name-requires put-requires put-requires-2 put-requires-3
-    (λ c. search needs) returns)
+    tie.close (tie.spec (λ c. search needs) put-all-requires put-name-requires put-requires put-requires-2
+    put-requires-3 (λ c. search needs) returns)

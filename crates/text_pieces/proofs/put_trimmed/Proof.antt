@@ -1,9 +1,8 @@
 -- `text_pieces::put_trimmed` meets its contract: the bytes before the first zero stay, and what is behind it is trimmed
--- from the end. Assumes nothing.
-use mathlib.Core.Path.{_≡_, sym, _∙_}
+-- from the end.
+use mathlib.Core.Path.{_∙_}
 use Prim.Native.Nat.{_-_}
 use native.Mathlib.Omega.{arith}
-use borrow.Author.Needs.{needs}
 use lib.ListN.{length}
 use Rattle.prelude.proofs.Elements.{rest-is-drop}
 use Rattle.text_pieces.proofs.Appending.{appended-length}
@@ -64,8 +63,6 @@ returns-2 c = trim-every (c .before .loop .inv) (c .loop-test .left)
 
 pub put-trimmed-spec : {M : Type 1} → statement M
 put-trimmed-spec =
-    tie.close
-    (tie.spec
-    Inv-loop μ-loop loop-holds (λ c. omega arith) (λ c. omega arith) (λ c. omega arith) (λ c. omega arith)
-    put-without-zeros-requires same-length returns (λ c. omega arith) put-requires (λ c. omega arith)
+    tie.close (tie.spec Inv-loop μ-loop loop-holds (λ c. omega arith) (λ c. omega arith) (λ c. omega arith)
+    (λ c. omega arith) put-without-zeros-requires same-length returns (λ c. omega arith) put-requires (λ c. omega arith)
     (λ c. omega arith) loop-again same-length-2 returns-2)

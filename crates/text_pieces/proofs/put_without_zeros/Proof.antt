@@ -1,5 +1,4 @@
 -- `text_pieces::put_without_zeros` meets its contract: the bytes up to the trimmed length are the trimmed bytes.
--- Assumes nothing.
 use mathlib.Core.Path.{sym}
 use lib.Seq.{length-take-le}
 use borrow.Author.Needs.{needs}
@@ -24,5 +23,4 @@ returns c =
 
 pub put-without-zeros-spec : {M : Type 1} → statement M
 put-without-zeros-spec =
-    tie.close
-    (tie.spec (λ c κs. search needs) slice-aggregate-put-all put-all-requires (λ c. search needs) returns)
+    tie.close (tie.spec (λ c κs. search needs) slice-aggregate-put-all put-all-requires (λ c. search needs) returns)

@@ -1,6 +1,5 @@
 -- `text_recogniser::form` meets its contract. The loop's invariant: the text's answer is that of the lines behind `at`,
 -- of which those of this phase may come. A line that was read leaves less, and where none is left the text is legal.
--- Assumes nothing.
 use Rattle.text_recogniser.proofs.form.Statement.{statement}
 use Rattle.text_recogniser.proofs.form.Tie as tie
 use borrow.Author.Needs.{needs}
@@ -40,8 +39,7 @@ less c =
     let stage = at-line .before .before in
     let i = stage in
     line-left (i .before .before .before .args .text .now) (i .before .loop .phase) (i .before .loop .at)
-    (i .before .loop .inv) (i .loop-test .taken)
-    (at-line .line .ensures) (at-found .found .given .1)
+    (i .before .loop .inv) (i .loop-test .taken) (at-line .line .ensures) (at-found .found .given .1)
 
 sub-at : tie.Need-sub-at Inv-loop μ-loop
 sub-at c = let l = less c in omega arith
@@ -57,8 +55,7 @@ loop-again c =
     let i = stage in
     rw (c .phase-of .ensures ∙ ap phaseOf (c .before .byte-at .ensures))
     (reached-next (i .before .before .before .args .text .now) (i .before .loop .phase) (i .before .loop .at)
-    (i .before .loop .inv) (i .loop-test .taken)
-    (at-line .line .ensures) (at-found .found .given .1))
+    (i .before .loop .inv) (i .loop-test .taken) (at-line .line .ensures) (at-found .found .given .1))
 
 sub-t15 : tie.Need-sub-t15 Inv-loop μ-loop
 sub-t15 c =
@@ -66,8 +63,7 @@ sub-t15 c =
     let stage = at-line .before .before in
     let i = stage in
     line-stuck (i .before .before .before .args .text .now) (i .before .loop .phase) (i .before .loop .at)
-    (i .before .loop .inv) (i .loop-test .taken)
-    (at-line .line .ensures) (c .before .found2 .given .1)
+    (i .before .loop .inv) (i .loop-test .taken) (at-line .line .ensures) (c .before .found2 .given .1)
 
 returns : tie.Need-returns Inv-loop μ-loop
 returns c =
@@ -75,8 +71,7 @@ returns c =
     let stage = at-line .before .before in
     let i = stage in
     sym (reached-stuck (i .before .before .before .args .text .now) (i .before .loop .phase) (i .before .loop .at)
-    (i .before .loop .inv)
-    (i .loop-test .taken) (at-line .line .ensures) (c .before .found2 .given .1))
+    (i .before .loop .inv) (i .loop-test .taken) (at-line .line .ensures) (c .before .found2 .given .1))
 
 returns-2 : tie.Need-returns-2 Inv-loop μ-loop
 returns-2 c =
@@ -85,8 +80,6 @@ returns-2 c =
 
 pub form-spec : {M : Type 1} → statement M
 form-spec =
-    tie.close
-    (tie.spec
-    Inv-loop μ-loop loop-holds sub-rest part-rest-start (λ c. search needs) (λ c κs. search needs) (λ c. search needs)
-    (λ c κs. search needs) (λ c κs. search needs) sub-at loop-less loop-again (λ c. search needs) sub-t15 returns
-    returns-2)
+    tie.close (tie.spec Inv-loop μ-loop loop-holds sub-rest part-rest-start (λ c. search needs) (λ c κs. search needs)
+    (λ c. search needs) (λ c κs. search needs) (λ c κs. search needs) sub-at loop-less loop-again (λ c. search needs)
+    sub-t15 returns returns-2)

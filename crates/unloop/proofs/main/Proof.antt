@@ -1,4 +1,4 @@
--- `unloop::main` meets its contract: what is written lies within the array. Assumes nothing.
+-- `unloop::main` meets its contract: what is written lies within the array.
 use mathlib.Core.Path.{sym}
 use borrow.Author.Needs.{needs}
 use Rattle.unloop.proofs.main.Statement.{statement}
@@ -10,7 +10,6 @@ slice-aggregate-write-all c = sym (length-take-le _ _ (c .before .before .conver
 
 pub main-spec : {M : Type 1} → statement M
 main-spec =
-    tie.close
-    (tie.spec
-    (λ c. search needs) (λ c κs. search needs) (λ c. search needs) (λ c. search needs) (λ c. search needs)
-    (λ c κs. search needs) (λ c. search needs) slice-aggregate-write-all (λ c κs. search needs) (λ c. search needs))
+    tie.close (tie.spec (λ c. search needs) (λ c κs. search needs) (λ c. search needs) (λ c. search needs)
+    (λ c. search needs) (λ c κs. search needs) (λ c. search needs) slice-aggregate-write-all (λ c κs. search needs)
+    (λ c. search needs))

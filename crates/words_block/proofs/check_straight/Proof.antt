@@ -1,5 +1,5 @@
 -- `words_block::check_straight` meets its contract: a block is straight exactly when each gate keeps its rule with only
--- the inputs and the lower gates as nodes (`straight-is`). Assumes nothing.
+-- the inputs and the lower gates as nodes (`straight-is`).
 use borrow.Author.Needs.{needs}
 use native.Mathlib.Omega.{arith}
 use Rattle.netlist.specs.StoredBlock.{neversAt, gatesAt, outputsAt}

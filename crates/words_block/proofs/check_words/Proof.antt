@@ -1,5 +1,5 @@
 -- `words_block::check_words` meets its contract: words are malformed exactly when they break a rule (`intact-torn` of
--- `theory_encoding`). Assumes nothing.
+-- `theory_encoding`).
 use borrow.Author.Needs.{needs}
 use Rattle.theory_encoding.proofs.Intact.{intact-torn}
 use Rattle.words_block.proofs.check_words.Statement.{statement}

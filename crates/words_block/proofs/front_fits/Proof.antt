@@ -1,5 +1,4 @@
 -- `words_block::front_fits` meets its contract: the rule of the names, and once it holds that of the never lines.
--- Assumes nothing.
 use mathlib.Core.Path.{sym, _∙_}
 use borrow.Author.Needs.{needs}
 use native.Mathlib.Omega.{arith}
@@ -24,5 +23,4 @@ returns-2 c =
     (c .fit2 .ensures)
 
 pub front-fits-spec : {M : Type 1} → statement M
-front-fits-spec =
-    tie.close (tie.spec (λ c κs. search needs) returns (λ c κs. search needs) fit-requires-2 returns-2)
+front-fits-spec = tie.close (tie.spec (λ c κs. search needs) returns (λ c κs. search needs) fit-requires-2 returns-2)

@@ -1,5 +1,4 @@
--- `words_block::is_intact` meets its contract: the header's rule, and once it holds the rules of the parts. Assumes
--- nothing.
+-- `words_block::is_intact` meets its contract: the header's rule, and once it holds the rules of the parts.
 use mathlib.Core.Path.{sym, _∙_}
 use lib.ListN.{getD}
 use borrow.Author.Needs.{needs}
@@ -47,7 +46,5 @@ returns-2 c =
 
 pub is-intact-spec : {M : Type 1} → statement M
 is-intact-spec =
-    tie.close
-    (tie.spec
-    (λ c κs. search needs) returns (λ c κs. search needs) (λ c κs. search needs) (λ c κs. search needs)
-    (λ c κs. search needs) parts-fit-requires returns-2)
+    tie.close (tie.spec (λ c κs. search needs) returns (λ c κs. search needs) (λ c κs. search needs)
+    (λ c κs. search needs) (λ c κs. search needs) parts-fit-requires returns-2)

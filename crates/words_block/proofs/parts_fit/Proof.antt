@@ -1,4 +1,4 @@
--- `words_block::parts_fit` meets its contract: each way out is the first rule that fails, or the last. Assumes nothing.
+-- `words_block::parts_fit` meets its contract: each way out is the first rule that fails, or the last.
 use mathlib.Core.Path.{sym, _∙_}
 use borrow.Author.Needs.{needs}
 use native.Mathlib.Omega.{arith}
@@ -30,11 +30,7 @@ unfolding neversAt gatesAt outputsAt
 fit-requires-2 c κs =
     let after-outputs-behind : tie.After-outputs-behind = search in
     let start : tie.Start = search in
-    omega (
-      arith,
-      after-outputs-behind .outputs-behind .ensures,
-      start .pre,
-    )
+    omega (arith, after-outputs-behind .outputs-behind .ensures, start .pre)
 
 returns-3 : tie.Need-returns-3
 returns-3 c =
@@ -56,11 +52,7 @@ unfolding neversAt gatesAt outputsAt
 fit-requires-3 c κs =
     let after-outputs-behind : tie.After-outputs-behind = search in
     let start : tie.Start = search in
-    omega (
-      arith,
-      after-outputs-behind .outputs-behind .ensures,
-      start .pre,
-    )
+    omega (arith, after-outputs-behind .outputs-behind .ensures, start .pre)
 
 returns-4 : tie.Need-returns-4
 returns-4 c =
@@ -77,7 +69,5 @@ returns-4 c =
 
 pub parts-fit-spec : {M : Type 1} → statement M
 parts-fit-spec =
-    tie.close
-    (tie.spec
-    (λ c κs. search needs) (λ c κs. search needs) returns (λ c. search needs) (λ c κs. search needs) fit-requires
-    returns-2 fit-requires-2 returns-3 (λ c. search needs) fit-requires-3 returns-4)
+    tie.close (tie.spec (λ c κs. search needs) (λ c κs. search needs) returns (λ c. search needs) (λ c κs. search needs)
+    fit-requires returns-2 fit-requires-2 returns-3 (λ c. search needs) fit-requires-3 returns-4)

@@ -1,4 +1,4 @@
--- `words_refusals::detail_of` meets its contract. Assumes nothing.
+-- `words_refusals::detail_of` meets its contract.
 use mathlib.Core.Path.{sym, ap}
 use borrow.Author.Needs.{needs}
 use Rattle.words_refusals.proofs.detail_of.Statement.{statement}
@@ -27,7 +27,5 @@ returns-5 c = detail-none (c .before .args .why) (c .match .keys5)
 
 pub detail-of-spec : {M : Type 1} → statement M
 detail-of-spec =
-    tie.close
-    (tie.spec
-    (λ c. search needs) (λ c. search needs) (λ c. search needs) (λ c. search needs) returns returns-2 returns-3
-    returns-4 returns-5)
+    tie.close (tie.spec (λ c. search needs) (λ c. search needs) (λ c. search needs) (λ c. search needs) returns
+    returns-2 returns-3 returns-4 returns-5)

@@ -1,4 +1,4 @@
--- `words_refusals::refusal` meets its contract. Assumes nothing.
+-- `words_refusals::refusal` meets its contract.
 use mathlib.Core.Path.{sym, ap}
 use borrow.Author.Needs.{needs}
 use Rattle.words_refusals.specs.Tests.{refusalOf}

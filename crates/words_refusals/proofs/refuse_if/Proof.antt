@@ -1,4 +1,4 @@
--- `words_refusals::refuse_if` meets its contract. Assumes nothing.
+-- `words_refusals::refuse_if` meets its contract.
 use Rattle.words_refusals.specs.Tests.{testOf}
 use Rattle.words_refusals.proofs.refuse_if.Statement.{statement}
 use Rattle.words_refusals.proofs.refuse_if.Tie as tie

@@ -1,4 +1,4 @@
--- `words_refusals::reply_of_refusal` meets its contract. Assumes nothing.
+-- `words_refusals::reply_of_refusal` meets its contract.
 use borrow.Author.Needs.{needs}
 use Rattle.words_refusals.proofs.Shown.{shows-refusal}
 use Rattle.words_refusals.proofs.reply_of_refusal.Statement.{statement}

@@ -1,4 +1,4 @@
--- `graph_gates::fanout::link` meets its contract: the two words that it writes are those of `Linked`. Assumes nothing.
+-- `graph_gates::fanout::link` meets its contract: the two words that it writes are those of `Linked`.
 use mathlib.Core.Path.{refl}
 use native.Mathlib.Omega.{arith}
 use native.Mathlib.Numerals.{add-one}
@@ -41,8 +41,6 @@ returns-2 c = record { is = rw (lt-leb firstGate _ (c .if1 .left)) refl }
 
 pub link-spec : {M : Type 1} → statement M
 link-spec =
-    tie.close
-    (tie.spec
-    (λ c. search needs) (λ c. search needs) (λ c. search needs) (λ c. search needs) cast-place mul-fanout
-    element-copy-out-fanout (λ c. search needs) (λ c. search needs) (λ c. search needs) (λ c. search needs)
+    tie.close (tie.spec (λ c. search needs) (λ c. search needs) (λ c. search needs) (λ c. search needs) cast-place
+    mul-fanout element-copy-out-fanout (λ c. search needs) (λ c. search needs) (λ c. search needs) (λ c. search needs)
     (λ c. search needs) mul-fanout-3 element-write-fanout-2 returns returns-2)

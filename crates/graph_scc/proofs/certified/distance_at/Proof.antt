@@ -1,4 +1,4 @@
--- `graph_scc::certified::distance_at` meets its contract: it reads what the definition reads. Assumes nothing.
+-- `graph_scc::certified::distance_at` meets its contract: it reads what the definition reads.
 use mathlib.Core.Path.{refl}
 use borrow.Author.Needs.{needs}
 use Rattle.graph_scc.specs.Leaders.{distanceAt}
@@ -11,7 +11,5 @@ returns c = rw (← c .before .word-of .ensures, ← c .note-of .ensures) refl
 
 pub distance-at-spec : {M : Type 1} → statement M
 distance-at-spec =
-    tie.close
-    (tie.spec
-    (λ c κs. search needs) (λ c. search needs) (λ c. search needs) (λ c. search needs) (λ c κs. search needs)
-    (λ c. search needs) (λ c. search needs) (λ c. search needs) returns)
+    tie.close (tie.spec (λ c κs. search needs) (λ c. search needs) (λ c. search needs) (λ c. search needs)
+    (λ c κs. search needs) (λ c. search needs) (λ c. search needs) (λ c. search needs) returns)

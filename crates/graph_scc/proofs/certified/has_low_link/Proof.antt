@@ -1,5 +1,4 @@
 -- `graph_scc::certified::has_low_link` meets its contract: each of its tests is one part of `HasLowLink`.
--- Assumes nothing.
 use mathlib.Core.Bool.{false≢true}
 use native.Mathlib.Omega.{arith}
 use borrow.Author.Tests.{ltb-true}
@@ -59,8 +58,6 @@ returns-3 c =
 
 pub has-low-link-spec : {M : Type 1} → statement M
 has-low-link-spec =
-    tie.close
-    (tie.spec
-    (λ c κs. search needs) (λ c. search needs) (λ c. search needs) (λ c. search needs) note-of-requires
-    (λ c. search needs) slot-position-requires returns (λ c κs. search needs) (λ c κs. search needs) returns-2
-    distance-at-requires distance-at-requires-2 returns-3)
+    tie.close (tie.spec (λ c κs. search needs) (λ c. search needs) (λ c. search needs) (λ c. search needs)
+    note-of-requires (λ c. search needs) slot-position-requires returns (λ c κs. search needs) (λ c κs. search needs)
+    returns-2 distance-at-requires distance-at-requires-2 returns-3)

@@ -1,5 +1,4 @@
 -- `graph_scc::certified::has_parent` meets its contract: each of its tests is one part of `HasParent`.
--- Assumes nothing.
 use Prim.Native.Nat.{_/_}
 use mathlib.Core.Bool.{false≢true}
 use native.Mathlib.Omega.{arith}
@@ -48,8 +47,6 @@ returns-4 c =
 
 pub has-parent-spec : {M : Type 1} → statement M
 has-parent-spec =
-    tie.close
-    (tie.spec
-    (λ c κs. search needs) (λ c. search needs) (λ c. search needs) (λ c. search needs) note-of-requires
-    (λ c. search needs) returns (λ c κs. search needs) (λ c. search needs) returns-2 (λ c κs. search needs) returns-3
-    has-slot-requires returns-4)
+    tie.close (tie.spec (λ c κs. search needs) (λ c. search needs) (λ c. search needs) (λ c. search needs)
+    note-of-requires (λ c. search needs) returns (λ c κs. search needs) (λ c. search needs) returns-2
+    (λ c κs. search needs) returns-3 has-slot-requires returns-4)

@@ -1,4 +1,4 @@
--- `graph_scc::certified::has_slot` meets its contract: a slot with the gate's place reads it. Assumes nothing.
+-- `graph_scc::certified::has_slot` meets its contract: a slot with the gate's place reads it.
 use Prim.Native.Nat.{_+_}
 use mathlib.Core.Path.{sym, _∙_}
 use mathlib.Core.Bool.{false≢true}
@@ -21,7 +21,5 @@ returns-2 c =
 
 pub has-slot-spec : {M : Type 1} → statement M
 has-slot-spec =
-    tie.close
-    (tie.spec
-    returns (λ c. search needs) (λ c. search needs) (λ c. search needs) (λ c κs. search needs) (λ c. search needs)
-    (λ c. search needs) returns-2)
+    tie.close (tie.spec returns (λ c. search needs) (λ c. search needs) (λ c. search needs) (λ c κs. search needs)
+    (λ c. search needs) (λ c. search needs) returns-2)

@@ -1,4 +1,4 @@
--- `graph_scc::certified::is_certified_at` meets its contract, by each of its tests. Assumes nothing.
+-- `graph_scc::certified::is_certified_at` meets its contract, by each of its tests.
 use mathlib.Core.Path.{sym, _∙_}
 use mathlib.Core.Logic.{inl, inr}
 use mathlib.Core.Bool.{false≢true}
@@ -25,5 +25,5 @@ returns-3 c =
 
 pub is-certified-at-spec : {M : Type 1} → statement M
 is-certified-at-spec =
-    tie.close
-    (tie.spec (λ c κs. search needs) returns (λ c κs. search needs) returns-2 (λ c κs. search needs) returns-3)
+    tie.close (tie.spec (λ c κs. search needs) returns (λ c κs. search needs) returns-2 (λ c κs. search needs)
+    returns-3)

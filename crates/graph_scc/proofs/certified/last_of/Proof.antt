@@ -1,5 +1,5 @@
 -- `graph_scc::certified::last_of` meets its contract: a position that ends its layer itself is its last, else the one
--- before the end is. Assumes nothing.
+-- before the end is.
 use mathlib.Core.Path.{sym, _∙_}
 use native.Mathlib.Omega.{arith}
 use borrow.Author.Needs.{needs}

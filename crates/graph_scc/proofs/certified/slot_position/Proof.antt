@@ -1,4 +1,4 @@
--- `graph_scc::certified::slot_position` meets its contract: the slot reads the gate at its place. Assumes nothing.
+-- `graph_scc::certified::slot_position` meets its contract: the slot reads the gate at its place.
 use Prim.Native.Nat.{_+_, _-_}
 use mathlib.Core.Path.{_≡_, sym}
 use native.Mathlib.Omega.{arith}
@@ -42,7 +42,5 @@ returns-3 c =
 
 pub slot-position-spec : {M : Type 1} → statement M
 slot-position-spec =
-    tie.close
-    (tie.spec
-    returns (λ c. search needs) (λ c. search needs) (λ c. search needs) (λ c κs. search needs) (λ c. search needs)
-    returns-2 word-of-requires (λ c. search needs) returns-3)
+    tie.close (tie.spec returns (λ c. search needs) (λ c. search needs) (λ c. search needs) (λ c κs. search needs)
+    (λ c. search needs) returns-2 word-of-requires (λ c. search needs) returns-3)

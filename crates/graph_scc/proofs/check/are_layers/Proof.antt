@@ -1,5 +1,5 @@
 -- `graph_scc::check::are_layers` meets its contract: the positions that were passed are right, and when all are, these
--- are layers. Assumes nothing.
+-- are layers.
 use Prim.Native.Nat.{ℕ, _-_, _≤_, _<_}
 use mathlib.Core.Logic.{⊎-elim}
 use mathlib.Core.Bool.{false≢true}
@@ -38,7 +38,5 @@ returns-2 c =
 
 pub are-layers-spec : {M : Type 1} → statement M
 are-layers-spec =
-    tie.close
-    (tie.spec
-    Inv-loop μ-loop loop-holds (λ c κs. search needs) returns (λ c. search needs) (λ c. search needs) loop-again
-    returns-2)
+    tie.close (tie.spec Inv-loop μ-loop loop-holds (λ c κs. search needs) returns (λ c. search needs)
+    (λ c. search needs) loop-again returns-2)

@@ -1,4 +1,4 @@
--- `graph_scc::check::find_positions` meets its contract: one walk along the order. Assumes nothing.
+-- `graph_scc::check::find_positions` meets its contract: one walk along the order.
 use Prim.Native.Nat.{_-_, _≤_}
 use borrow.Author.Needs.{needs}
 use Rattle.graph_scc.proofs.check.find_positions.Statement.{statement}
@@ -12,8 +12,6 @@ abbrev μ-loop : tie.MeasureT-loop
 
 pub find-positions-spec : {M : Type 1} → statement M
 find-positions-spec =
-    tie.close
-    (tie.spec
-    Inv-loop μ-loop (λ c. search needs) (λ c κs. search needs) (λ c. search needs) (λ c. search needs)
+    tie.close (tie.spec Inv-loop μ-loop (λ c. search needs) (λ c κs. search needs) (λ c. search needs)
     (λ c. search needs) (λ c. search needs) (λ c. search needs) (λ c. search needs) (λ c. search needs)
-    (λ c. search needs))
+    (λ c. search needs) (λ c. search needs))

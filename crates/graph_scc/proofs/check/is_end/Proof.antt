@@ -1,4 +1,4 @@
--- `graph_scc::check::is_end` meets its contract, by each of its tests. Assumes nothing.
+-- `graph_scc::check::is_end` meets its contract, by each of its tests.
 use mathlib.Core.Path.{sym, _∙_}
 use mathlib.Core.Logic.{inl, inr}
 use mathlib.Core.Bool.{false≢true}
@@ -38,7 +38,5 @@ returns-5 c =
 
 pub is-end-spec : {M : Type 1} → statement M
 is-end-spec =
-    tie.close
-    (tie.spec
-    (λ c κs. search needs) (λ c. search needs) returns returns-2 returns-3 (λ c. search needs) returns-4
-    (λ c. search needs) (λ c κs. search needs) (λ c. search needs) returns-5)
+    tie.close (tie.spec (λ c κs. search needs) (λ c. search needs) returns returns-2 returns-3 (λ c. search needs)
+    returns-4 (λ c. search needs) (λ c κs. search needs) (λ c. search needs) returns-5)

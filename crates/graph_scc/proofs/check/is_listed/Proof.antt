@@ -1,4 +1,4 @@
--- `graph_scc::check::is_listed` meets its contract: each of its four tests is one part of `Listed`. Assumes nothing.
+-- `graph_scc::check::is_listed` meets its contract: each of its four tests is one part of `Listed`.
 use mathlib.Core.Path.{sym, _∙_}
 use mathlib.Core.Bool.{false≢true}
 use borrow.Author.Tests.{eqb-true}
@@ -31,7 +31,5 @@ returns-4 c =
 
 pub is-listed-spec : {M : Type 1} → statement M
 is-listed-spec =
-    tie.close
-    (tie.spec
-    (λ c κs. search needs) (λ c. search needs) (λ c κs. search needs) (λ c. search needs) returns returns-2
-    (λ c κs. search needs) (λ c. search needs) returns-3 (λ c κs. search needs) (λ c. search needs) returns-4)
+    tie.close (tie.spec (λ c κs. search needs) (λ c. search needs) (λ c κs. search needs) (λ c. search needs) returns
+    returns-2 (λ c κs. search needs) (λ c. search needs) returns-3 (λ c κs. search needs) (λ c. search needs) returns-4)

@@ -1,4 +1,4 @@
--- `graph_scc::check::passes` meets its contract: each of its tests is one part of `LayerStep`. Assumes nothing.
+-- `graph_scc::check::passes` meets its contract: each of its tests is one part of `LayerStep`.
 use mathlib.Core.Bool.{false≢true}
 use borrow.Author.Tests.{not-false}
 use borrow.Author.Needs.{needs}
@@ -34,7 +34,5 @@ returns-3 c =
 
 pub passes-spec : {M : Type 1} → statement M
 passes-spec =
-    tie.close
-    (tie.spec
-    (λ c κs. search needs) returns (λ c κs. search needs) returns-2 (λ c κs. search needs) (λ c. search needs)
-    (λ c κs. search needs) (λ c. search needs) reads-before-requires returns-3)
+    tie.close (tie.spec (λ c κs. search needs) returns (λ c κs. search needs) returns-2 (λ c κs. search needs)
+    (λ c. search needs) (λ c κs. search needs) (λ c. search needs) reads-before-requires returns-3)

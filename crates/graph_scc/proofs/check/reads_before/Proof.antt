@@ -1,4 +1,4 @@
--- `graph_scc::check::reads_before` meets its contract: a gate has four slots, and each is tested. Assumes nothing.
+-- `graph_scc::check::reads_before` meets its contract: a gate has four slots, and each is tested.
 use mathlib.Core.Bool.{false≢true}
 use borrow.Author.Tests.{not-false}
 use borrow.Author.Needs.{needs}
@@ -30,7 +30,5 @@ returns-4 c =
 
 pub reads-before-spec : {M : Type 1} → statement M
 reads-before-spec =
-    tie.close
-    (tie.spec
-    (λ c κs. search needs) returns (λ c κs. search needs) returns-2 (λ c κs. search needs) returns-3
+    tie.close (tie.spec (λ c κs. search needs) returns (λ c κs. search needs) returns-2 (λ c κs. search needs) returns-3
     (λ c κs. search needs) returns-4)

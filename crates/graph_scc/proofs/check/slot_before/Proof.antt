@@ -1,5 +1,4 @@
--- `graph_scc::check::slot_before` meets its contract: a gate's place is the first gate's and its number. Assumes
--- nothing.
+-- `graph_scc::check::slot_before` meets its contract: a gate's place is the first gate's and its number.
 use Prim.Native.Nat.{_-_}
 use mathlib.Core.Path.{_≡_}
 use native.Mathlib.Omega.{arith}
@@ -33,7 +32,5 @@ returns-2 c =
 
 pub slot-before-spec : {M : Type 1} → statement M
 slot-before-spec =
-    tie.close
-    (tie.spec
-    (λ c. search needs) (λ c. search needs) (λ c. search needs) (λ c κs. search needs) (λ c. search needs) returns
-    word-of-requires (λ c. search needs) returns-2)
+    tie.close (tie.spec (λ c. search needs) (λ c. search needs) (λ c. search needs) (λ c κs. search needs)
+    (λ c. search needs) returns word-of-requires (λ c. search needs) returns-2)

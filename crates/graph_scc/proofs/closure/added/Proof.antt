@@ -1,4 +1,4 @@
--- `graph_scc::closure::added` meets its contract, by each of its tests. Assumes nothing.
+-- `graph_scc::closure::added` meets its contract, by each of its tests.
 use mathlib.Core.Path.{refl, sym, _∙_}
 use mathlib.Core.Logic.{inl, inr}
 use borrow.Author.Needs.{needs}

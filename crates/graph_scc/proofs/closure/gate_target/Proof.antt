@@ -1,4 +1,4 @@
--- `graph_scc::closure::gate_target` meets its contract: a gate has four slots, and each is looked at. Assumes nothing.
+-- `graph_scc::closure::gate_target` meets its contract: a gate has four slots, and each is looked at.
 use Prim.Native.Nat.{ℕ, _+_}
 use mathlib.Core.Path.{_≡_}
 use native.Mathlib.Omega.{arith}
@@ -34,16 +34,12 @@ returns-4 c =
       found = c .slot-target4 .ensures .found;
       none = λ past. none-by-slots (s .pre .0) (a .k) (s .pre .1) (a .back) (a .flags .now)
           (by-slot (λ i. (j : ℕ) → placeAt (a .graph .now) (a .k) i ≡ firstGate + j
-          → Shut (a .back) (a .flags .now) (a .k) j)
-          (first .slot-target .ensures .none (second .before .if1 .left))
+          → Shut (a .back) (a .flags .now) (a .k) j) (first .slot-target .ensures .none (second .before .if1 .left))
           (second .slot-target2 .ensures .none (third .before .if2 .left))
-          (third .slot-target3 .ensures .none (c .before .if3 .left))
-          (c .slot-target4 .ensures .none past));
+          (third .slot-target3 .ensures .none (c .before .if3 .left)) (c .slot-target4 .ensures .none past));
     }
 
 pub gate-target-spec : {M : Type 1} → statement M
 gate-target-spec =
-    tie.close
-    (tie.spec
-    (λ c κs. search needs) returns (λ c κs. search needs) returns-2 (λ c κs. search needs) returns-3
+    tie.close (tie.spec (λ c κs. search needs) returns (λ c κs. search needs) returns-2 (λ c κs. search needs) returns-3
     (λ c κs. search needs) returns-4)

@@ -1,5 +1,4 @@
--- `graph_scc::closure::grow` meets its contract: each turn adds a gate, and at the end none can be added. Assumes
--- nothing.
+-- `graph_scc::closure::grow` meets its contract: each turn adds a gate, and at the end none can be added.
 use borrow.Author.Needs.{needs}
 use Rattle.graph_scc.specs.Closure.{Target, Growing, outside}
 use Rattle.graph_scc.proofs.Reaching.{growing-more, fewer, reached}
@@ -7,7 +6,8 @@ use Rattle.graph_scc.proofs.closure.grow.Statement.{statement}
 use Rattle.graph_scc.proofs.closure.grow.Tie as tie
 
 abbrev Inv-loop : tie.InvT-loop
-Inv-loop graph m start back flags₀ t₀ flags t = Growing m graph back start flags × Target m graph back flags t
+Inv-loop graph m start back flags₀ t₀ flags t =
+    record { growing : Growing m graph back start flags; target : Target m graph back flags t }
 
 abbrev μ-loop : tie.MeasureT-loop
 μ-loop graph m start back flags₀ t₀ flags t = outside flags m
@@ -17,28 +17,28 @@ loop-less c =
     let test = c .before .before in
     let turn = test .before in
     let s = turn .before .before .before in
-    fewer (s .pre .0 .few) (turn .loop .inv .0) (test .loop-test .taken)
-    (turn .loop .inv .1 .found (test .loop-test .taken))
+    fewer (s .pre .0 .few) (turn .loop .inv .growing) (test .loop-test .taken)
+    (turn .loop .inv .target .found (test .loop-test .taken))
 
 loop-again : tie.Need-loop-again Inv-loop μ-loop
 loop-again c =
     let test = c .before .before in
     let turn = test .before in
-    let s = turn .before .before .before in (
-      growing-more (s .pre .0 .few) (turn .loop .inv .0) (test .loop-test .taken)
-          (turn .loop .inv .1 .found (test .loop-test .taken)),
-      c .next-target2 .ensures,
-    )
+    let s = turn .before .before .before in
+    record {
+      growing =
+          growing-more (s .pre .0 .few) (turn .loop .inv .growing) (test .loop-test .taken)
+          (turn .loop .inv .target .found (test .loop-test .taken));
+      target = c .next-target2 .ensures;
+    }
 
 returns : tie.Need-returns Inv-loop μ-loop
 returns c =
     let turn = c .before in
     let s = turn .before .before .before in
-    reached (s .pre .0) (s .pre .1) (turn .loop .inv .0) (turn .loop .inv .1) (c .loop-test .left)
+    reached (s .pre .0) (s .pre .1) (turn .loop .inv .growing) (turn .loop .inv .target) (c .loop-test .left)
 
 pub grow-spec : {M : Type 1} → statement M
 grow-spec =
-    tie.close
-    (tie.spec
-    Inv-loop μ-loop (λ c κs. search needs) (λ c. search needs) (λ c. search needs) (λ c. search needs)
-    (λ c κs. search needs) loop-less loop-again returns)
+    tie.close (tie.spec Inv-loop μ-loop (λ c κs. search needs) (λ c. search needs) (λ c. search needs)
+    (λ c. search needs) (λ c κs. search needs) loop-less loop-again returns)

@@ -1,4 +1,4 @@
--- `graph_scc::closure::is_in_both` meets its contract, by both tests. Assumes nothing.
+-- `graph_scc::closure::is_in_both` meets its contract, by both tests.
 use mathlib.Core.Path.{sym, _∙_}
 use mathlib.Core.Bool.{false≢true}
 use borrow.Author.Tests.{eqb-true, eq-eqb}

@@ -1,4 +1,4 @@
--- `graph_scc::closure::lead_each` meets its contract: gate after gate gets its leader. Assumes nothing.
+-- `graph_scc::closure::lead_each` meets its contract: gate after gate gets its leader.
 use Prim.Native.Nat.{_-_, _≤_}
 use native.Mathlib.Nat.{not-suc-le-zero}
 use native.Mathlib.Omega.{arith}
@@ -22,8 +22,7 @@ loop-holds c = (
     aheadRoom = c .pre .1;
     behindRoom = c .pre .2;
     leaderRoom = c .pre .3;
-    leads = λ k l. absurd
-        (not-suc-le-zero l);
+    leads = λ k l. absurd (not-suc-le-zero l);
   },
 )
 
@@ -32,8 +31,7 @@ loop-again c =
     let test = c .before .before .before in
     let turn = test .before in (
       omega arith,
-      leading-more (turn .before .pre .0 .few) (turn .loop .inv .1) (test .loop-test .taken)
-          (c .leader-of .ensures),
+      leading-more (turn .before .pre .0 .few) (turn .loop .inv .1) (test .loop-test .taken) (c .leader-of .ensures),
     )
 
 returns : tie.Need-returns Inv-loop μ-loop
@@ -41,7 +39,5 @@ returns c = record { each = λ k l. c .before .loop .inv .1 .leads k (omega arit
 
 pub lead-each-spec : {M : Type 1} → statement M
 lead-each-spec =
-    tie.close
-    (tie.spec
-    Inv-loop μ-loop loop-holds (λ c κs. search needs) (λ c. search needs) (λ c. search needs) (λ c. search needs)
-    (λ c. search needs) (λ c. search needs) loop-again returns)
+    tie.close (tie.spec Inv-loop μ-loop loop-holds (λ c κs. search needs) (λ c. search needs) (λ c. search needs)
+    (λ c. search needs) (λ c. search needs) (λ c. search needs) loop-again returns)

@@ -1,5 +1,4 @@
--- `graph_scc::closure::leader_of` meets its contract: what a gate reaches and what reaches it is its group. Assumes
--- nothing.
+-- `graph_scc::closure::leader_of` meets its contract: what a gate reaches and what reaches it is its group.
 use borrow.Author.Needs.{needs}
 use Rattle.graph_scc.proofs.Reaching.{leader-below, leader-found}
 use Rattle.graph_scc.proofs.closure.leader_of.Statement.{statement}
@@ -22,5 +21,4 @@ returns c =
     }
 
 pub leader-of-spec : {M : Type 1} → statement M
-leader-of-spec =
-    tie.close (tie.spec (λ c κs. search needs) (λ c κs. search needs) (λ c κs. search needs) returns)
+leader-of-spec = tie.close (tie.spec (λ c κs. search needs) (λ c κs. search needs) (λ c κs. search needs) returns)

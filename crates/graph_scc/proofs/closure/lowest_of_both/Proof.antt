@@ -1,4 +1,4 @@
--- `graph_scc::closure::lowest_of_both` meets its contract: no gate that was passed is in both. Assumes nothing.
+-- `graph_scc::closure::lowest_of_both` meets its contract: no gate that was passed is in both.
 use Prim.Native.Nat.{ℕ, _-_, _≤_, _<_}
 use mathlib.Core.Path.{_≡_}
 use mathlib.Core.Logic.{⊎-elim}
@@ -41,7 +41,5 @@ returns-2 c = record { small = omega arith; passed = c .before .loop .inv .1; fo
 
 pub lowest-of-both-spec : {M : Type 1} → statement M
 lowest-of-both-spec =
-    tie.close
-    (tie.spec
-    Inv-loop μ-loop loop-holds (λ c κs. search needs) returns (λ c. search needs) (λ c. search needs) loop-again
-    returns-2)
+    tie.close (tie.spec Inv-loop μ-loop loop-holds (λ c κs. search needs) returns (λ c. search needs)
+    (λ c. search needs) loop-again returns-2)

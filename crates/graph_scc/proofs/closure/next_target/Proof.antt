@@ -1,4 +1,4 @@
--- `graph_scc::closure::next_target` meets its contract: no gate that was passed adds one. Assumes nothing.
+-- `graph_scc::closure::next_target` meets its contract: no gate that was passed adds one.
 use Prim.Native.Nat.{ℕ, _-_, _≤_, _<_}
 use mathlib.Core.Path.{_≡_}
 use mathlib.Core.Logic.{⊎-elim}
@@ -41,7 +41,5 @@ returns-2 c =
 
 pub next-target-spec : {M : Type 1} → statement M
 next-target-spec =
-    tie.close
-    (tie.spec
-    Inv-loop μ-loop loop-holds (λ c κs. search needs) returns (λ c. search needs) (λ c. search needs) loop-again
-    returns-2)
+    tie.close (tie.spec Inv-loop μ-loop loop-holds (λ c κs. search needs) returns (λ c. search needs)
+    (λ c. search needs) loop-again returns-2)

@@ -1,4 +1,4 @@
--- `graph_scc::closure::reach_from` meets its contract: the set grows from one gate. Assumes nothing.
+-- `graph_scc::closure::reach_from` meets its contract: the set grows from one gate.
 use Prim.Native.Nat.{_≤_}
 use mathlib.Core.Path.{_∙_}
 use native.Mathlib.Omega.{arith}

@@ -1,5 +1,4 @@
--- `graph_scc::closure::slot_target` meets its contract, by the gate at the slot's place and the direction. Assumes
--- nothing.
+-- `graph_scc::closure::slot_target` meets its contract, by the gate at the slot's place and the direction.
 use Prim.Native.Nat.{_+_, _-_}
 use mathlib.Core.Path.{_≡_}
 use native.Mathlib.Omega.{arith}
@@ -15,8 +14,7 @@ unfolding placeAt
 returns c =
     record {
       found = λ l. absurd (omega arith);
-      none = λ past j is. absurd
-          (omega (arith, c .before .graph-word .ensures, is, c .if1 .taken));
+      none = λ past j is. absurd (omega (arith, c .before .graph-word .ensures, is, c .if1 .taken));
     }
 
 added-requires : tie.Need-added-requires
@@ -61,7 +59,5 @@ returns-3 c =
 
 pub slot-target-spec : {M : Type 1} → statement M
 slot-target-spec =
-    tie.close
-    (tie.spec
-    (λ c. search needs) (λ c. search needs) (λ c. search needs) (λ c κs. search needs) (λ c. search needs) returns
-    added-requires returns-2 added-requires-2 returns-3)
+    tie.close (tie.spec (λ c. search needs) (λ c. search needs) (λ c. search needs) (λ c κs. search needs)
+    (λ c. search needs) returns added-requires returns-2 added-requires-2 returns-3)

@@ -1,5 +1,5 @@
 -- `graph_scc::layers::layer_with` meets its contract: the check shows that the search's answer is right, or one loop of
--- all gates stands there. Assumes nothing.
+-- all gates stands there.
 use borrow.Author.Tests.{not-false}
 use borrow.Author.Needs.{needs}
 use Rattle.graph_scc.proofs.Layered.{layered, one-layer}
@@ -14,6 +14,5 @@ returns-2 c = layered (c .before .are-layers .ensures (not-false (c .before .are
 
 pub layer-with-spec : {M : Type 1} → statement M
 layer-with-spec =
-    tie.close
-    (tie.spec
-    (λ c κs. search needs) (λ c κs. search needs) (λ c κs. search needs) (λ c κs. search needs) returns returns-2)
+    tie.close (tie.spec (λ c κs. search needs) (λ c κs. search needs) (λ c κs. search needs) (λ c κs. search needs)
+    returns returns-2)

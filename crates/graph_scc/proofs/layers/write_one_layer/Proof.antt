@@ -1,4 +1,4 @@
--- `graph_scc::layers::write_one_layer` meets its contract: gate after gate is written. Assumes nothing.
+-- `graph_scc::layers::write_one_layer` meets its contract: gate after gate is written.
 use Prim.Native.Nat.{_-_, _≤_}
 use mathlib.Core.Path.{_≡_}
 use native.Mathlib.Omega.{arith}
@@ -35,7 +35,6 @@ returns c =
 
 pub write-one-layer-spec : {M : Type 1} → statement M
 write-one-layer-spec =
-    tie.close
-    (tie.spec
-    Inv-loop μ-loop loop-holds (λ c. search needs) (λ c. search needs) (λ c. search needs) (λ c. search needs)
-    (λ c. search needs) (λ c. search needs) (λ c. search needs) (λ c. search needs) loop-again returns)
+    tie.close (tie.spec Inv-loop μ-loop loop-holds (λ c. search needs) (λ c. search needs) (λ c. search needs)
+    (λ c. search needs) (λ c. search needs) (λ c. search needs) (λ c. search needs) (λ c. search needs) loop-again
+    returns)

@@ -1,4 +1,4 @@
--- `graph_scc::leaders::is_certified` meets its contract: both checks together are the certificate. Assumes nothing.
+-- `graph_scc::leaders::is_certified` meets its contract: both checks together are the certificate.
 use mathlib.Core.Bool.{false≢true}
 use borrow.Author.Tests.{not-false}
 use borrow.Author.Needs.{needs}

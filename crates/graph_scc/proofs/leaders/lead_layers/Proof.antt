@@ -1,5 +1,4 @@
 -- `graph_scc::leaders::lead_layers` meets its contract: the first gate with a layer is the lowest of its group.
--- Assumes nothing.
 use Prim.Native.Nat.{_-_, _≤_}
 use mathlib.Core.Path.{_∙_}
 use native.Mathlib.Omega.{arith}
@@ -61,8 +60,7 @@ loop-again c =
     let m = s .args .m in (
       omega arith,
       leading-on (network-count m (s .args .graph .now)) (s .pre .0 .layered .legal .few) (keyed (s .pre .0)) l
-          (turn .loop .inv .1)
-          (rw (last .last-of .ensures .0, read .word-of .ensures) at (c .first-of .ensures)),
+          (turn .loop .inv .1) (rw (last .last-of .ensures .0, read .word-of .ensures) at (c .first-of .ensures)),
     )
 
 returns : tie.Need-returns Inv-loop μ-loop
@@ -70,8 +68,6 @@ returns c = record { each = λ j l. c .before .loop .inv .1 .leads j (omega arit
 
 pub lead-layers-spec : {M : Type 1} → statement M
 lead-layers-spec =
-    tie.close
-    (tie.spec
-    Inv-loop μ-loop (λ c. search needs) (λ c κs. search needs) loop-holds (λ c κs. search needs) (λ c. search needs)
-    last-of-requires first-of-requires (λ c. search needs) (λ c. search needs) (λ c. search needs) (λ c. search needs)
-    (λ c. search needs) loop-again returns)
+    tie.close (tie.spec Inv-loop μ-loop (λ c. search needs) (λ c κs. search needs) loop-holds (λ c κs. search needs)
+    (λ c. search needs) last-of-requires first-of-requires (λ c. search needs) (λ c. search needs) (λ c. search needs)
+    (λ c. search needs) (λ c. search needs) loop-again returns)

@@ -1,5 +1,5 @@
 -- `graph_scc::leaders::lead_with` meets its contract: certified layers are the groups, and else the slow way finds the
--- leaders. Assumes nothing.
+-- leaders.
 use borrow.Author.Needs.{needs}
 use Rattle.graph_scc.proofs.leaders.lead_with.Statement.{statement}
 use Rattle.graph_scc.proofs.leaders.lead_with.Tie as tie
@@ -16,7 +16,5 @@ lead-layers-requires c κs =
 
 pub lead-with-spec : {M : Type 1} → statement M
 lead-with-spec =
-    tie.close
-    (tie.spec
-    (λ c κs. search needs) (λ c κs. search needs) (λ c κs. search needs) lead-layers-requires (λ c. search needs)
-    (λ c κs. search needs) (λ c. search needs))
+    tie.close (tie.spec (λ c κs. search needs) (λ c κs. search needs) (λ c κs. search needs) lead-layers-requires
+    (λ c. search needs) (λ c κs. search needs) (λ c. search needs))

@@ -1,4 +1,4 @@
--- `graph_scc::search::component_start` meets its contract: the stack is read from its top down. Assumes nothing.
+-- `graph_scc::search::component_start` meets its contract: the stack is read from its top down.
 use Prim.Native.Nat.{_-_, _≤_}
 use borrow.Author.Needs.{needs}
 use Rattle.graph_scc.proofs.search.component_start.Statement.{statement}
@@ -12,8 +12,7 @@ abbrev μ-loop : tie.MeasureT-loop
 
 pub component-start-spec : {M : Type 1} → statement M
 component-start-spec =
-    tie.close
-    (tie.spec
-    Inv-loop μ-loop (λ c. search needs) (λ c. search needs) (λ c κs. search needs) (λ c. search needs)
-    (λ c. search needs) (λ c. search needs) (λ c. search needs) (λ c κs. search needs) (λ c. search needs)
-    (λ c. search needs) (λ c. search needs) (λ c. search needs) (λ c. search needs) (λ c. search needs))
+    tie.close (tie.spec Inv-loop μ-loop (λ c. search needs) (λ c. search needs) (λ c κs. search needs)
+    (λ c. search needs) (λ c. search needs) (λ c. search needs) (λ c. search needs) (λ c κs. search needs)
+    (λ c. search needs) (λ c. search needs) (λ c. search needs) (λ c. search needs) (λ c. search needs)
+    (λ c. search needs))

@@ -1,5 +1,4 @@
--- `graph_scc::search::explore` meets its contract: the clock goes on by one in each turn, so the search ends. Assumes
--- nothing.
+-- `graph_scc::search::explore` meets its contract: the clock goes on by one in each turn, so the search ends.
 use Prim.Native.Nat.{_-_}
 use borrow.Author.Needs.{needs}
 use Rattle.graph_scc.specs.Search.{clockEnd, StandingReady, SameRooms}
@@ -15,8 +14,7 @@ abbrev μ-loop : tie.MeasureT-loop
 
 pub explore-spec : {M : Type 1} → statement M
 explore-spec =
-    tie.close
-    (tie.spec
-    Inv-loop μ-loop (λ c. search needs) (λ c. search needs) (λ c κs. search needs) (λ c. search needs)
+    tie.close (tie.spec Inv-loop μ-loop (λ c. search needs) (λ c. search needs) (λ c κs. search needs)
+    (λ c. search needs) (λ c. search needs) (λ c κs. search needs) (λ c. search needs) (λ c. search needs)
     (λ c. search needs) (λ c κs. search needs) (λ c. search needs) (λ c. search needs) (λ c. search needs)
-    (λ c κs. search needs) (λ c. search needs) (λ c. search needs) (λ c. search needs) (λ c. search needs))
+    (λ c. search needs))

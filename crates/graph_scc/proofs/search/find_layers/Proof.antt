@@ -1,5 +1,4 @@
 -- `graph_scc::search::find_layers` meets its contract: a search from each gate in turn keeps the arrays' lengths.
--- Assumes nothing.
 use Prim.Native.Nat.{_-_, _≤_}
 use borrow.Author.Needs.{needs}
 use Rattle.graph_scc.specs.Search.{StandingReady, SameRooms}
@@ -15,7 +14,5 @@ abbrev μ-loop : tie.MeasureT-loop
 
 pub find-layers-spec : {M : Type 1} → statement M
 find-layers-spec =
-    tie.close
-    (tie.spec
-    Inv-loop μ-loop (λ c. search needs) (λ c κs. search needs) (λ c. search needs) (λ c. search needs)
-    (λ c. search needs) (λ c. search needs) (λ c. search needs))
+    tie.close (tie.spec Inv-loop μ-loop (λ c. search needs) (λ c κs. search needs) (λ c. search needs)
+    (λ c. search needs) (λ c. search needs) (λ c. search needs) (λ c. search needs))

@@ -1,4 +1,4 @@
--- `graph_scc::search::write_component` meets its contract: the stack is read from `start` to its top. Assumes nothing.
+-- `graph_scc::search::write_component` meets its contract: the stack is read from `start` to its top.
 use Prim.Native.Nat.{_-_, _≤_}
 use borrow.Author.Needs.{needs}
 use Rattle.graph_scc.specs.Search.{SameRooms}
@@ -14,8 +14,6 @@ abbrev μ-loop : tie.MeasureT-loop
 
 pub write-component-spec : {M : Type 1} → statement M
 write-component-spec =
-    tie.close
-    (tie.spec
-    Inv-loop μ-loop (λ c. search needs) (λ c. search needs) (λ c. search needs) (λ c κs. search needs)
-    (λ c. search needs) (λ c κs. search needs) (λ c. search needs) (λ c. search needs) (λ c. search needs)
-    (λ c. search needs))
+    tie.close (tie.spec Inv-loop μ-loop (λ c. search needs) (λ c. search needs) (λ c. search needs)
+    (λ c κs. search needs) (λ c. search needs) (λ c κs. search needs) (λ c. search needs) (λ c. search needs)
+    (λ c. search needs) (λ c. search needs))

@@ -1,10 +1,10 @@
 -- `graph_simulation::changes::copy_changed` meets its contract: the gates queued before q have their values copied.
--- Assumes nothing.
 use mathlib.Core.Path.{_≡_}
 use Prim.Native.Nat.{_-_, _≤_, _<_}
 use native.Mathlib.Omega.{arith}
 use denote.Ref.{now}
 use lib.ListN.{getD}
+use borrow.Author.Needs.{needs}
 use Rattle.netlist.specs.Limits.{maxGates}
 use Rattle.graph_simulation.specs.Changes.{Copied}
 use Rattle.graph_simulation.proofs.Updates.{copied-none, copied-next}
@@ -18,15 +18,6 @@ Inv-loop found queue changed values₀ q₀ values q =
 abbrev μ-loop : tie.MeasureT-loop
 μ-loop found queue changed values₀ q₀ values q = changed .tail - q
 
-loop-holds : tie.Need-loop-holds Inv-loop μ-loop
-loop-holds c = (omega arith, c .pre .1, copied-none _ _ _ _)
-
-mul-k : tie.Need-mul-k Inv-loop μ-loop
-mul-k c = omega (arith, c .before .before .before .pre .0 .queued)
-
-element-copy-out-k : tie.Need-element-copy-out-k Inv-loop μ-loop
-element-copy-out-k c = omega (arith, c .before .before .before .pre .0 .queued)
-
 -- a queued gate
 inside : (c : tie.Then1 Inv-loop μ-loop) → let l = c .before .before in
     getD (now (l .before .args .queue)) (l .loop .q) 0 < maxGates
@@ -34,17 +25,8 @@ inside c =
     let start : tie.Start Inv-loop μ-loop = search in
     start .pre .0 .inside (c .before .before .loop .q) (c .if1 .taken)
 
-cast-k : tie.Need-cast-k Inv-loop μ-loop
-cast-k c = omega (arith, inside (c .before))
-
 element-copy-out-values : tie.Need-element-copy-out-values Inv-loop μ-loop
 element-copy-out-values c = inside (c .before)
-
-add-values : tie.Need-add-values Inv-loop μ-loop
-add-values c = omega (arith, inside (c .before .before))
-
-element-write-values : tie.Need-element-write-values Inv-loop μ-loop
-element-write-values c = omega (arith, inside (c .before .before))
 
 loop-again : tie.Need-loop-again Inv-loop μ-loop
 loop-again c =
@@ -63,7 +45,6 @@ returns c =
 
 pub copy-changed-spec : {M : Type 1} → statement M
 copy-changed-spec =
-    tie.close
-    (tie.spec
-    Inv-loop μ-loop loop-holds mul-k element-copy-out-k cast-k element-copy-out-values add-values element-write-values
-    (λ c. omega arith) (λ c. omega arith) loop-again returns)
+    tie.close (tie.spec Inv-loop μ-loop (λ c. search (copied-none, arith)) (λ c. search needs) (λ c. search needs)
+    (λ c. omega (arith, inside (c .before))) element-copy-out-values (λ c. omega (arith, inside (c .before .before)))
+    (λ c. omega (arith, inside (c .before .before))) (λ c. omega arith) (λ c. omega arith) loop-again returns)

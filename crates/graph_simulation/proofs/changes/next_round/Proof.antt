@@ -1,12 +1,8 @@
 -- `graph_simulation::changes::next_round` meets its contract: `values` gets what was found, and then the readers of
--- what changed are evaluated. Assumes nothing.
+-- what changed are evaluated.
 use Rattle.graph_simulation.proofs.Updates.{copy-ready, copied-ready, next-ready, next-pending, round-next}
 use Rattle.graph_simulation.proofs.changes.next_round.Statement.{statement}
 use Rattle.graph_simulation.proofs.changes.next_round.Tie as tie
-
-copy-changed-requires : tie.Need-copy-changed-requires
-copy-changed-requires c κs =
-    let s = c .before .before .before in (copy-ready (s .pre .0 .legal) (s .pre .1), s .pre .1 .ordered)
 
 update-changed-requires : tie.Need-update-changed-requires
 update-changed-requires c κs =
@@ -19,11 +15,5 @@ update-changed-requires c κs =
       ((next-ready g r k, r .ordered), (copied-ready g r k, next-pending g r k)),
     )
 
-returns : tie.Need-returns
-returns c =
-    let f : tie.After-copy-changed = search in
-    let s : tie.Start = search in
-    round-next (s .pre .0 .legal) (s .pre .1) (f .copy-changed .ensures) (c .update-changed .ensures)
-
 pub next-round-spec : {M : Type 1} → statement M
-next-round-spec = tie.close (tie.spec copy-changed-requires update-changed-requires returns)
+next-round-spec = tie.close (tie.spec (λ c κs. search copy-ready) update-changed-requires (λ c. search round-next))

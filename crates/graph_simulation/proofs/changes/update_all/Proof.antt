@@ -1,5 +1,4 @@
 -- `graph_simulation::changes::update_all` meets its contract: after j turns the first j gates have their values.
--- Assumes nothing.
 use Prim.Native.Nat.{_-_, _≤_}
 use native.Mathlib.Omega.{arith}
 use Rattle.graph_simulation.specs.Changes.{Updated}
@@ -9,35 +8,34 @@ use Rattle.graph_simulation.proofs.changes.update_all.Tie as tie
 
 abbrev Inv-loop : tie.InvT-loop
 Inv-loop table graph m values found₀ queue₀ end₀ j₀ found queue end j =
-    (j ≤ m) × Updated m graph values found₀ queue₀ 0 found queue end × DoneBelow graph values found j
+    record {
+      within : j ≤ m;
+      updated : Updated m graph values found₀ queue₀ 0 found queue end;
+      doneBelow : DoneBelow graph values found j;
+    }
 
 abbrev μ-loop : tie.MeasureT-loop
 μ-loop table graph m values found₀ queue₀ end₀ j₀ found queue end j = m - j
 
 loop-holds : tie.Need-loop-holds Inv-loop μ-loop
-loop-holds c = (omega arith, updated-none _ _ 0, λ i l. absurd (omega arith))
-
-update-requires : tie.Need-update-requires Inv-loop μ-loop
-update-requires c κs =
-    let turn : tie.In-loop Inv-loop μ-loop = search in
-    let l = c .before .before .before in
-    (l .before .pre .0, updated-ready (l .before .pre .1) (l .loop .inv .1), turn .loop-test .taken)
+loop-holds c = record { within = omega arith; updated = updated-none _ _ 0; doneBelow = λ i l. absurd (omega arith) }
 
 loop-again : tie.Need-loop-again Inv-loop μ-loop
 loop-again c =
     let l : tie.At-loop Inv-loop μ-loop = search in
-    let u = c .update .ensures in (
-      omega arith,
-      updated-then (l .loop .inv .1) (u .updated),
-      below-next (l .loop .inv .2) (c .before .before .before .loop-test .taken) u,
-    )
+    let u = c .update .ensures in
+    record {
+      within = omega arith;
+      updated = updated-then (l .loop .inv .updated) (u .updated);
+      doneBelow = below-next (l .loop .inv .doneBelow) (c .before .before .before .loop-test .taken) u;
+    }
 
 returns : tie.Need-returns Inv-loop μ-loop
 returns c =
     let l = c .before in
-    record { updated = l .loop .inv .1; done = λ i il. l .loop .inv .2 i (omega arith) }
+    record { updated = l .loop .inv .updated; done = λ i il. l .loop .inv .doneBelow i (omega arith) }
 
 pub update-all-spec : {M : Type 1} → statement M
 update-all-spec =
-    tie.close
-    (tie.spec Inv-loop μ-loop loop-holds update-requires (λ c. omega arith) (λ c. omega arith) loop-again returns)
+    tie.close (tie.spec Inv-loop μ-loop loop-holds (λ c κs. search updated-ready) (λ c. omega arith) (λ c. omega arith)
+    loop-again returns)

@@ -1,5 +1,5 @@
 -- `graph_simulation::changes::update_changed` meets its contract: a gate has its value, or reads a gate that is queued
--- from q on. Assumes nothing.
+-- from q on.
 use mathlib.Core.Path.{_≡_}
 use Prim.Native.Nat.{_-_, _*_, _≤_, _<_}
 use native.Mathlib.Omega.{arith}
@@ -14,19 +14,22 @@ use Rattle.graph_simulation.proofs.changes.update_changed.Tie as tie
 
 abbrev Inv-loop : tie.InvT-loop
 Inv-loop table graph fanout m values found₀ queue₀ changed end₀ q₀ found queue end q =
-    (q ≤ changed .tail) × Updated m graph values found₀ queue₀ (changed .tail) found queue end
-    × Pending m graph values found queue₀ q (changed .tail)
+    record {
+      within : q ≤ changed .tail;
+      updated : Updated m graph values found₀ queue₀ (changed .tail) found queue end;
+      pending : Pending m graph values found queue₀ q (changed .tail);
+    }
 
 abbrev μ-loop : tie.MeasureT-loop
 μ-loop table graph fanout m values found₀ queue₀ changed end₀ q₀ found queue end q = changed .tail - q
 
 loop-holds : tie.Need-loop-holds Inv-loop μ-loop
-loop-holds c = (c .pre .1 .0 .1, updated-none _ _ _, c .pre .1 .1 .1)
+loop-holds c = record { within = c .pre .1 .0 .1; updated = updated-none _ _ _; pending = c .pre .1 .1 .1 }
 
 -- the gate that is queued at q, which no further gate moves
 queued : (l : tie.At-loop Inv-loop μ-loop) → l .loop .q < l .before .args .changed .tail
     → getD (l .loop .queue) (l .loop .q) 0 ≡ getD (now (l .before .args .queue)) (l .loop .q) 0
-queued l below = l .loop .inv .1 .front (l .loop .q) below
+queued l below = l .loop .inv .updated .front (l .loop .q) below
 
 inside : (l : tie.At-loop Inv-loop μ-loop) → l .loop .q < l .before .args .changed .tail
     → getD (l .loop .queue) (l .loop .q) 0 < maxGates
@@ -69,7 +72,7 @@ update-fanout-requires c κs =
     let l = t .before .before in
     let p = l .before .pre in
     let f = p .0 .linked in (
-      (p .0 .tabled, updated-ready (p .1 .0 .0) (l .loop .inv .1)),
+      (p .0 .tabled, updated-ready (p .1 .0 .0) (l .loop .inv .updated)),
       record { descends = f .descends; starts = starts l (t .if1 .taken) },
     )
 
@@ -78,27 +81,27 @@ loop-again c =
     let t : tie.Then1 Inv-loop μ-loop = search in
     let l = t .before .before in
     let s = l .before in
-    let u = c .update-fanout .ensures in (
-      omega arith,
-      updated-then (l .loop .inv .1) (u .updated),
-      pending-next (now (s .args .queue)) (s .pre .0 .legal) (s .pre .0 .linked) (l .loop .inv .2)
-          (rw (queued l (t .if1 .taken)) at u),
-    )
+    let u = c .update-fanout .ensures in
+    record {
+      within = omega arith;
+      updated = updated-then (l .loop .inv .updated) (u .updated);
+      pending =
+          pending-next (now (s .args .queue)) (s .pre .0 .legal) (s .pre .0 .linked) (l .loop .inv .pending)
+          (rw (queued l (t .if1 .taken)) at u);
+    }
 
 returns : tie.Need-returns Inv-loop μ-loop
 returns c =
     let l = c .before .before in
     let s = l .before in
     record {
-      updated = l .loop .inv .1;
+      updated = l .loop .inv .updated;
       done =
           pending-end _ _ _ (l .loop .found) (now (s .args .queue)) (l .loop .q) (s .args .changed .tail)
-          (l .loop .inv .2) (c .if1 .left);
+          (l .loop .inv .pending) (c .if1 .left);
     }
 
 pub update-changed-spec : {M : Type 1} → statement M
 update-changed-spec =
-    tie.close
-    (tie.spec
-    Inv-loop μ-loop loop-holds mul-k element-copy-out-k cast-k mul-t14 element-copy-out-t17 cast-t20
+    tie.close (tie.spec Inv-loop μ-loop loop-holds mul-k element-copy-out-k cast-k mul-t14 element-copy-out-t17 cast-t20
     update-fanout-requires (λ c. omega arith) (λ c. omega arith) loop-again returns)

@@ -1,5 +1,5 @@
 -- `graph_simulation::changes::update_fanout` meets its contract: whoever is in the list has its value, or is in the
--- rest of it. Assumes nothing.
+-- rest of it.
 use mathlib.Core.Path.{refl}
 use mathlib.Core.Logic.{inr}
 use denote.Ref.{now}
@@ -15,28 +15,25 @@ use Rattle.graph_simulation.proofs.changes.update_fanout.Tie as tie
 
 abbrev Inv-loop : tie.InvT-loop
 Inv-loop table graph fanout list values found₀ queue₀ tail end₀ p₀ found queue end p =
-    (p ≤ list .from) × Updated (list .gates) graph values found₀ queue₀ tail found queue end
-    × Awaiting graph fanout values found (list .from) p
+    record {
+      within : p ≤ list .from;
+      updated : Updated (list .gates) graph values found₀ queue₀ tail found queue end;
+      awaits : Awaiting graph fanout values found (list .from) p;
+    }
 
 abbrev μ-loop : tie.MeasureT-loop
 μ-loop table graph fanout list values found₀ queue₀ tail end₀ p₀ found queue end p = p
 
 loop-holds : tie.Need-loop-holds Inv-loop μ-loop
-loop-holds c = (omega arith, updated-none _ _ _, λ e r. inr r)
+loop-holds c = record { within = omega arith; updated = updated-none _ _ _; awaits = λ e r. inr r }
 
 -- a slot is one of the graph's, and the one behind it is lower
 few : (l : tie.At-loop Inv-loop μ-loop) → l .loop .p ≤ 4096
-few l = omega (arith, l .loop .inv .0, l .before .pre .1 .starts, l .before .pre .0 .1 .legal .few)
+few l = omega (arith, l .loop .inv .within, l .before .pre .1 .starts, l .before .pre .0 .1 .legal .few)
 
 down : (l : tie.At-loop Inv-loop μ-loop)
     → getD (now (l .before .args .fanout)) (maxGates + (l .loop .p - 1)) 0 ≤ l .loop .p - 1
 down l = l .before .pre .1 .descends (l .loop .p - 1)
-
-update-requires : tie.Need-update-requires Inv-loop μ-loop
-update-requires c κs =
-    let l = c .before .before .before in
-    let s = l .before in
-    (s .pre .0 .0, updated-ready (s .pre .0 .1) (l .loop .inv .1), omega (arith, s .pre .1 .starts, l .loop .inv .0))
 
 add-p : tie.Need-add-p Inv-loop μ-loop
 add-p c =
@@ -69,24 +66,22 @@ loop-again c =
     let u = c .before in
     let l : tie.At-loop Inv-loop μ-loop = search in
     let s = l .before in
-    let t = u .before .before .before .loop-test .taken in (
-      omega (arith, down l, l .loop .inv .0),
-      updated-then (l .loop .inv .1) (u .update .ensures .updated),
-      awaiting-next (s .pre .1 .descends) (s .pre .1 .starts) (l .loop .inv .2) (u .update .ensures) refl,
-    )
+    let t = u .before .before .before .loop-test .taken in
+    record {
+      within = omega (arith, down l, l .loop .inv .within);
+      updated = updated-then (l .loop .inv .updated) (u .update .ensures .updated);
+      awaits = awaiting-next (s .pre .1 .descends) (s .pre .1 .starts) (l .loop .inv .awaits) (u .update .ensures) refl;
+    }
 
 returns : tie.Need-returns Inv-loop μ-loop
 returns c =
     let l = c .before in
     record {
-      updated = l .loop .inv .1;
-      done = awaiting-end _ _ _ (l .loop .found) _ (l .loop .p) (l .loop .inv .2)
-          (c .loop-test .left);
+      updated = l .loop .inv .updated;
+      done = awaiting-end _ _ _ (l .loop .found) _ (l .loop .p) (l .loop .inv .awaits) (c .loop-test .left);
     }
 
 pub update-fanout-spec : {M : Type 1} → statement M
 update-fanout-spec =
-    tie.close
-    (tie.spec
-    Inv-loop μ-loop loop-holds (λ c. omega arith) update-requires add-p mul-p element-copy-out-p cast-p loop-less
-    loop-again returns)
+    tie.close (tie.spec Inv-loop μ-loop loop-holds (λ c. omega arith) (λ c κs. search (updated-ready, arith)) add-p
+    mul-p element-copy-out-p cast-p loop-less loop-again returns)

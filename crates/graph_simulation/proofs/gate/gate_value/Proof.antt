@@ -1,5 +1,5 @@
 -- `graph_simulation::gate::gate_value` meets its contract: the codes are the digits of the gate's index, and its entry
--- is the gate's value (`gate-entry`). Assumes nothing.
+-- is the gate's value (`gate-entry`).
 use mathlib.Core.Path.{_≡_, _∙_}
 use mathlib.Core.Bool.{true}
 use native.Mathlib.Omega.{arith}
@@ -16,9 +16,6 @@ use Rattle.graph_simulation.proofs.GateTable.{table-at, gate-entry}
 use borrow.Author.Needs.{needs}
 use Rattle.graph_simulation.proofs.gate.gate_value.Statement.{statement}
 use Rattle.graph_simulation.proofs.gate.gate_value.Tie as tie
-
-cast-operation : tie.Need-cast-operation
-cast-operation c = omega (arith, c .before .pre .1 .0 .small)
 
 element-copy-out-result : tie.Need-element-copy-out-result
 unfolding kindAt
@@ -48,8 +45,7 @@ returns c =
     let vs = tab v count in
     let k = kind-last kind (s .pre .1 .0 .kind) in
     let fits : arityFits kind (length vs) ≡ true = rw (length-tab v count) (s .pre .1 .0 .count) in
-    rw (s .pre .0)
-    (table-at _ (omega (
+    rw (s .pre .0) (table-at _ (omega (
       arith,
       after-operand-code .operand-code .ensures .1,
       o .before .before .operand-code2 .ensures .1,
@@ -66,9 +62,8 @@ returns c =
 
 pub gate-value-spec : {M : Type 1} → statement M
 gate-value-spec =
-    tie.close
-    (tie.spec
-    (λ c. search needs) (λ c. search needs) (λ c. search needs) cast-operation (λ c κs. search needs)
-    (λ c κs. search needs) (λ c κs. search needs) (λ c κs. search needs) (λ c. search needs) (λ c. search needs)
+    tie.close (tie.spec (λ c. search needs) (λ c. search needs) (λ c. search needs)
+    (λ c. omega (arith, c .before .pre .1 .0 .small)) (λ c κs. search needs) (λ c κs. search needs)
+    (λ c κs. search needs) (λ c κs. search needs) (λ c. search needs) (λ c. search needs) (λ c. search needs)
     (λ c. search needs) (λ c. search needs) (λ c. search needs) (λ c. search needs) (λ c. search needs)
-    (λ c. search needs) element-copy-out-result returns)
+    element-copy-out-result returns)

@@ -1,5 +1,5 @@
 -- `graph_simulation::gate::operand_code` meets its contract: what stands at the operand's place, or the code of an
--- absent one. Assumes nothing.
+-- absent one.
 use mathlib.Core.Path.{sym, _∙_}
 use native.Mathlib.Omega.{arith}
 use denote.Ref.{now}
@@ -40,15 +40,7 @@ returns c =
     let most = s .pre .1 .most (getD (now (a .graph)) (5 * a .j + 1 + a .i) 0) in
     (sym (operand-code-at v (a .count) (a .i) (c .before .before .if1 .taken) ∙ code-same _ most), omega arith)
 
-returns-2 : tie.Need-returns-2
-returns-2 c =
-    let a = c .before .args in
-    let v = slotValue (now (a .graph)) (now (a .values)) (a .j) in
-    (sym (operand-code-past v (a .count) (a .i) (omega arith)), omega arith)
-
 pub operand-code-spec : {M : Type 1} → statement M
 operand-code-spec =
-    tie.close
-    (tie.spec
-    (λ c. search needs) (λ c. search needs) (λ c. search needs) (λ c. search needs) (λ c. search needs) cast-place
-    element-copy-out-result cast-result returns returns-2)
+    tie.close (tie.spec (λ c. search needs) (λ c. search needs) (λ c. search needs) (λ c. search needs)
+    (λ c. search needs) cast-place element-copy-out-result cast-result returns (λ c. search (operand-code-past, arith)))

@@ -1,4 +1,4 @@
--- `graph_simulation::output::shown_value` meets its contract. Assumes nothing.
+-- `graph_simulation::output::shown_value` meets its contract.
 use mathlib.Core.Path.{_≡_, refl, ap, _∙_}
 use Prim.Native.Nat.{ℕ, _+_}
 use denote.Ref.{now}
@@ -25,5 +25,5 @@ returns c =
 
 pub shown-value-spec : {M : Type 1} → statement M
 shown-value-spec =
-    tie.close
-    (tie.spec (λ c. search needs) (λ c κs. search needs) (λ c κs. search needs) element-copy-out-result returns)
+    tie.close (tie.spec (λ c. search needs) (λ c κs. search needs) (λ c κs. search needs) element-copy-out-result
+    returns)

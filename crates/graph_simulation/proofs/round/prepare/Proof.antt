@@ -1,4 +1,4 @@
--- `graph_simulation::round::prepare` meets its contract. Assumes nothing.
+-- `graph_simulation::round::prepare` meets its contract.
 use borrow.Author.Needs.{needs}
 use Rattle.graph_simulation.proofs.round.prepare.Statement.{statement}
 use Rattle.graph_simulation.proofs.round.prepare.Tie as tie
@@ -18,5 +18,4 @@ returns c =
     }
 
 pub prepare-spec : {M : Type 1} → statement M
-prepare-spec =
-    tie.close (tie.spec (λ c κs. search needs) (λ c κs. search needs) link-slots-requires returns)
+prepare-spec = tie.close (tie.spec (λ c κs. search needs) (λ c κs. search needs) link-slots-requires returns)

@@ -1,11 +1,12 @@
 -- `graph_simulation::round::settle_with` meets its contract. The loop's invariant: `values` has the state after `count`
 -- rounds, each of which changed something, and `found` that after one more. The measure is the number of gates less
--- that count. Assumes nothing.
+-- that count.
 use mathlib.Core.Path.{_≡_}
 use lib.ListN.{getD}
 use Prim.Native.Nat.{ℕ, _+_, _-_, _<_}
 use native.Mathlib.Omega.{arith}
 use denote.Ref.{now}
+use borrow.Author.Needs.{needs}
 use Rattle.theory_fixpoint.proofs.Rounds.{rounds-le}
 use Rattle.graph_gates.specs.Graph.{network}
 use Rattle.graph_gates.proofs.Network.{network-count}
@@ -28,8 +29,7 @@ update-all-requires c κs =
     let k = s .pre .2 in
     let g = s .pre .0 .legal in (
       s .pre .0 .tabled,
-      first-ready g _ (s .pre .1) (λ j l. k .none j (omega (arith, g .few))) (k .foundRoom)
-          (k .queueRoom),
+      first-ready g _ (s .pre .1) (λ j l. k .none j (omega (arith, g .few))) (k .foundRoom) (k .queueRoom),
     )
 
 loop-holds : tie.Need-loop-holds Inv-loop μ-loop
@@ -69,25 +69,13 @@ below d =
     let b = network (a .m) (now (a .graph)) in
     omega (arith, more d .reached, rounds-le b (inputsIn (now (a .values))), network-count (a .m) (now (a .graph)))
 
-next-round-requires : tie.Need-next-round-requires Inv-loop μ-loop
-next-round-requires c κs =
-    let l : tie.At-loop Inv-loop μ-loop = search in
-    (start l .pre .0, l .loop .inv .made)
-
 add-count : tie.Need-add-count Inv-loop μ-loop
 add-count c = omega (arith, below c, start (head c) .pre .0 .legal .few)
-
-loop-less : tie.Need-loop-less Inv-loop μ-loop
-loop-less c = omega (arith, below c)
 
 loop-again : tie.Need-loop-again Inv-loop μ-loop
 loop-again c = more c
 
-returns : tie.Need-returns Inv-loop μ-loop
-returns c = rounding-end _ (start (c .before) .pre .0 .legal) (c .before .loop .inv) (c .loop-test .left)
-
 pub settle-with-spec : {M : Type 1} → statement M
 settle-with-spec =
-    tie.close
-    (tie.spec
-    Inv-loop μ-loop update-all-requires loop-holds next-round-requires add-count loop-less loop-again returns)
+    tie.close (tie.spec Inv-loop μ-loop update-all-requires loop-holds (λ c κs. search needs) add-count
+    (λ c. omega (arith, below c)) loop-again (λ c. search rounding-end))

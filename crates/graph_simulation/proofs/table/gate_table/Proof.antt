@@ -1,5 +1,5 @@
 -- `graph_simulation::table::gate_table` meets its contract: the array is the definition's tabulation, which antt
--- computes and compares once. Assumes nothing.
+-- computes and compares once.
 use mathlib.Core.Path.{refl}
 use Rattle.netlist.specs.Values.{code, valueOf, invert, isDefined}
 use Rattle.netlist.specs.Kinds.{row, rows, rowOf, isNot, isXor, isXnor, signature, signatureIn, signatures, signatureOf}

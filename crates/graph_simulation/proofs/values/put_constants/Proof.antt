@@ -1,11 +1,8 @@
--- `graph_simulation::values::put_constants` meets its contract. Assumes nothing.
+-- `graph_simulation::values::put_constants` meets its contract.
 use Rattle.graph_simulation.proofs.Starts.{starting-none}
 use borrow.Author.Needs.{needs}
 use Rattle.graph_simulation.proofs.values.put_constants.Statement.{statement}
 use Rattle.graph_simulation.proofs.values.put_constants.Tie as tie
 
-returns : tie.Need-returns
-returns c = starting-none (c .pre)
-
 pub put-constants-spec : {M : Type 1} → statement M
-put-constants-spec = tie.close (tie.spec (λ c. search needs) (λ c. search needs) returns)
+put-constants-spec = tie.close (tie.spec (λ c. search needs) (λ c. search needs) (λ c. search starting-none))

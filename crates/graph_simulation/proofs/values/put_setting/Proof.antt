@@ -1,5 +1,4 @@
 -- `graph_simulation::values::put_setting` meets its contract: the first i inputs have their values (`starting-more`).
--- Assumes nothing.
 use mathlib.Core.Path.{_≡_, _∙_}
 use mathlib.Core.List.{_∷_, [], _++_, map, map-append}
 use Prim.Native.Nat.{_+_, _-_, _≤_, _<_}
@@ -8,6 +7,7 @@ use native.Mathlib.Omega.{arith}
 use native.Mathlib.Numerals.{add-one}
 use lib.ListN.{length, getD, take, length-map}
 use lib.Seq.{take-suc, take-all, length-take-le}
+use borrow.Author.Needs.{needs}
 use Rattle.netlist.specs.Values.{valueOf}
 use Rattle.graph_simulation.specs.Rounded.{Starting}
 use Rattle.graph_simulation.proofs.Starts.{starting-more}
@@ -19,17 +19,6 @@ Inv-loop setting values₀ i₀ values i = (i ≤ length setting) × Starting (m
 
 abbrev μ-loop : tie.MeasureT-loop
 μ-loop setting values₀ i₀ values i = length setting - i
-
-put-constants-requires : tie.Need-put-constants-requires Inv-loop μ-loop
-put-constants-requires c κs = c .before .before .pre .0
-
-loop-holds : tie.Need-loop-holds Inv-loop μ-loop
-loop-holds c = (omega arith, c .put-constants .ensures)
-
-element-write-values : tie.Need-element-write-values Inv-loop μ-loop
-element-write-values c =
-    let start : tie.Start Inv-loop μ-loop = search in
-    omega (arith, start .pre .1 .few)
 
 loop-again : tie.Need-loop-again Inv-loop μ-loop
 loop-again c =
@@ -56,7 +45,5 @@ returns c =
 
 pub put-setting-spec : {M : Type 1} → statement M
 put-setting-spec =
-    tie.close
-    (tie.spec
-    Inv-loop μ-loop put-constants-requires loop-holds (λ c. omega arith) (λ c. omega arith) element-write-values
-    (λ c. omega arith) (λ c. omega arith) loop-again returns)
+    tie.close (tie.spec Inv-loop μ-loop (λ c κs. search needs) (λ c. search needs) (λ c. omega arith) (λ c. omega arith)
+    (λ c. search needs) (λ c. omega arith) (λ c. omega arith) loop-again returns)

@@ -1,5 +1,4 @@
--- `graph_simulation::values::take_gates` meets its contract: one byte a turn. Assumes nothing.
-use mathlib.Core.Path.{refl}
+-- `graph_simulation::values::take_gates` meets its contract: one byte a turn.
 use Prim.Native.Nat.{_+_, _-_}
 use native.Mathlib.Omega.{arith}
 use lib.ListN.{getD}
@@ -14,14 +13,8 @@ Inv-loop values m out₀ j₀ out j = Tabled (λ k. getD values (firstGate + k) 
 abbrev μ-loop : tie.MeasureT-loop
 μ-loop values m out₀ j₀ out j = m - j
 
-loop-again : tie.Need-loop-again Inv-loop μ-loop
-loop-again c =
-    tabled-more (c .before .before .loop .inv) (omega arith) (omega arith) refl
-
 pub take-gates-spec : {M : Type 1} → statement M
 take-gates-spec =
-    tie.close
-    (tie.spec
-    Inv-loop μ-loop (λ c. tabled-none) (λ c. omega arith) (λ c. omega arith) (λ c. omega arith) (λ c. omega arith)
-    (λ c. omega arith)
-    loop-again (λ c. c .before .loop .inv .kept) (λ c. tabled-all (c .before .loop .inv) (omega arith)))
+    tie.close (tie.spec Inv-loop μ-loop (λ c. tabled-none) (λ c. omega arith) (λ c. omega arith) (λ c. omega arith)
+    (λ c. omega arith) (λ c. omega arith) (λ c. search (tabled-more, arith)) (λ c. c .before .loop .inv .kept)
+    (λ c. tabled-all (c .before .loop .inv) (omega arith)))

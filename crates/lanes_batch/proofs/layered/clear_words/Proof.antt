@@ -1,4 +1,4 @@
--- `lanes_batch::layered::clear_words` meets its contract: after k turns the first k words are 0. Assumes nothing.
+-- `lanes_batch::layered::clear_words` meets its contract: after k turns the first k words are 0.
 use mathlib.Core.Path.{_≡_}
 use Prim.Native.Nat.{_-_, _≤_}
 use native.Mathlib.Omega.{arith}
@@ -27,6 +27,5 @@ returns c =
 
 pub clear-words-spec : {M : Type 1} → statement M
 clear-words-spec =
-    tie.close
-    (tie.spec Inv-loop μ-loop loop-holds (λ c. omega arith) (λ c. omega arith) (λ c. omega arith)
+    tie.close (tie.spec Inv-loop μ-loop loop-holds (λ c. omega arith) (λ c. omega arith) (λ c. omega arith)
     (λ c. omega arith) loop-again returns)

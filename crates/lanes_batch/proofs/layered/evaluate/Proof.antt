@@ -1,4 +1,4 @@
--- `lanes_batch::layered::evaluate` meets its contract. Assumes nothing.
+-- `lanes_batch::layered::evaluate` meets its contract.
 use native.Mathlib.Omega.{arith}
 use Rattle.lanes_batch.proofs.layered.evaluate.Statement.{statement}
 use Rattle.lanes_batch.proofs.layered.evaluate.Tie as tie

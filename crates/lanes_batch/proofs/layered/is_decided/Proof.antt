@@ -1,4 +1,4 @@
--- `lanes_batch::layered::is_decided` meets its contract: every gate passed is decided. Assumes nothing.
+-- `lanes_batch::layered::is_decided` meets its contract: every gate passed is decided.
 use mathlib.Core.Path.{_≡_}
 use mathlib.Core.Bool.{false≢true}
 use Prim.Native.Nat.{_-_, _≤_, _<_}
@@ -39,8 +39,7 @@ returns-2 c = λ e.
 
 pub is-decided-spec : {M : Type 1} → statement M
 is-decided-spec =
-    tie.close
-    (tie.spec
-    Inv-loop μ-loop loop-holds (λ c. omega arith) (λ c. omega arith) (λ c. omega (arith, inside (c .before)))
-    (λ c. omega (arith, inside (c .before))) (λ c κs. omega (arith, inside (c .before))) (λ c e. absurd (false≢true e))
-    (λ c. omega arith) (λ c. omega arith) loop-again returns-2)
+    tie.close (tie.spec Inv-loop μ-loop loop-holds (λ c. omega arith) (λ c. omega arith)
+    (λ c. omega (arith, inside (c .before))) (λ c. omega (arith, inside (c .before)))
+    (λ c κs. omega (arith, inside (c .before))) (λ c e. absurd (false≢true e)) (λ c. omega arith) (λ c. omega arith)
+    loop-again returns-2)

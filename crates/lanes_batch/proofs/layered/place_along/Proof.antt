@@ -1,4 +1,4 @@
--- `lanes_batch::layered::place_along` meets its contract. Assumes nothing.
+-- `lanes_batch::layered::place_along` meets its contract.
 use borrow.Author.Needs.{needs}
 use Rattle.lanes_batch.specs.Batch.{placeOf}
 use Rattle.lanes_batch.proofs.layered.place_along.Statement.{statement}

@@ -1,5 +1,4 @@
--- `lanes_batch::layered::put_inputs` meets its contract: after k turns the first k inputs' pairs stand there. Assumes
--- nothing.
+-- `lanes_batch::layered::put_inputs` meets its contract: after k turns the first k inputs' pairs stand there.
 use mathlib.Core.Path.{_≡_}
 use Prim.Native.Nat.{_-_, _≤_}
 use native.Mathlib.Omega.{arith}
@@ -37,7 +36,5 @@ returns c =
 
 pub put-inputs-spec : {M : Type 1} → statement M
 put-inputs-spec =
-    tie.close
-    (tie.spec
-    Inv-loop μ-loop loop-holds (λ c. omega arith) (λ c κs. omega arith) (λ c κs. omega arith) (λ c. omega arith)
-    (λ c. omega arith) loop-again returns)
+    tie.close (tie.spec Inv-loop μ-loop loop-holds (λ c. omega arith) (λ c κs. omega arith) (λ c κs. omega arith)
+    (λ c. omega arith) (λ c. omega arith) loop-again returns)

@@ -1,5 +1,5 @@
 -- `lanes_batch::layered::settle_layers` meets its contract: layer after layer is settled, and at the end every gate is
--- still. Assumes nothing.
+-- still.
 use mathlib.Core.Path.{_≡_, refl, _∙_}
 use Prim.Native.Nat.{_-_, _≤_}
 use native.Mathlib.Omega.{arith}

@@ -1,4 +1,4 @@
--- `lanes_batch::layered::settle_loop` meets its contract: each sweep that goes on defines a lane more. Assumes nothing.
+-- `lanes_batch::layered::settle_loop` meets its contract: each sweep that goes on defines a lane more.
 use mathlib.Core.Bool.{false}
 use borrow.Author.Tests.{not-true, not-false}
 use Rattle.lanes_batch.specs.Layered.{PartAdvanced, roomIn}
@@ -35,5 +35,5 @@ returns c =
 
 pub settle-loop-spec : {M : Type 1} → statement M
 settle-loop-spec =
-    tie.close
-    (tie.spec Inv-loop μ-loop (λ c. advanced-none (c .pre .2)) sweep-decides-requires loop-less loop-again returns)
+    tie.close (tie.spec Inv-loop μ-loop (λ c. advanced-none (c .pre .2)) sweep-decides-requires loop-less loop-again
+    returns)

@@ -1,5 +1,5 @@
 -- `lanes_batch::layered::settle_run` meets its contract: a loop reads nothing behind it, and a gate on no loop reads
--- only gates before it, so each turn settles one layer more. Assumes nothing.
+-- only gates before it, so each turn settles one layer more.
 use mathlib.Core.Path.{_≡_, refl, _∙_}
 use Prim.Native.Nat.{_+_, _-_, _≤_, _<_}
 use native.Mathlib.Omega.{arith}
@@ -71,10 +71,8 @@ evaluate-requires c κs =
 
 -- one layer more
 more : (c : tie.After-evaluate Inv-loop μ-loop) → let l = turn (c .before .before) .before .before .before in
-    LayersSettled
-    (start l .args .m) (start l .args .n) (start l .args .graph .now) (start l .args .order .now)
-    (start l .args .ends .now)
-    (l .loop .k) (l .loop .lanes) (c .evaluate .last .1 .1 .0) (l .loop .k + 1)
+    LayersSettled (start l .args .m) (start l .args .n) (start l .args .graph .now) (start l .args .order .now)
+    (start l .args .ends .now) (l .loop .k) (l .loop .lanes) (c .evaluate .last .1 .1 .0) (l .loop .k + 1)
 more c =
     let u = turn (c .before .before) in
     let t = u .before .before in
@@ -122,11 +120,7 @@ returns-3 c =
 
 pub settle-run-spec : {M : Type 1} → statement M
 settle-run-spec =
-    tie.close
-    (tie.spec
-    Inv-loop μ-loop
-    (λ c. omega (arith, c .pre .0 .few)) (λ c. omega (arith, c .pre .0 .few)) cast-end
-    settle-loop-requires returns loop-holds
-    (λ c. omega (arith, small c)) (λ c. small c) cast-if2
-    (λ c. omega (arith, small (c .before .before))) (λ c. small (c .before .before)) cast-evaluate
-    evaluate-requires add-k loop-less loop-again returns-2 returns-3)
+    tie.close (tie.spec Inv-loop μ-loop (λ c. omega (arith, c .pre .0 .few)) (λ c. omega (arith, c .pre .0 .few))
+    cast-end settle-loop-requires returns loop-holds (λ c. omega (arith, small c)) (λ c. small c) cast-if2
+    (λ c. omega (arith, small (c .before .before))) (λ c. small (c .before .before)) cast-evaluate evaluate-requires
+    add-k loop-less loop-again returns-2 returns-3)

@@ -1,4 +1,4 @@
--- `lanes_batch::layered::settle_straight` meets its contract: each gate is a layer of its own. Assumes nothing.
+-- `lanes_batch::layered::settle_straight` meets its contract: each gate is a layer of its own.
 use mathlib.Core.Path.{_≡_}
 use Prim.Native.Nat.{_-_, _≤_}
 use native.Mathlib.Omega.{arith}
@@ -29,8 +29,7 @@ loop-again c =
     let l = turn .before in
     let s = l .before in (
       omega arith,
-      straight-more _ _ (s .pre .1) (s .pre .0) (turn .loop-test .taken) (l .loop .inv .1)
-          (c .evaluate .ensures),
+      straight-more _ _ (s .pre .1) (s .pre .0) (turn .loop-test .taken) (l .loop .inv .1) (c .evaluate .ensures),
     )
 
 returns : tie.Need-returns Inv-loop μ-loop
@@ -42,7 +41,5 @@ returns c =
 
 pub settle-straight-spec : {M : Type 1} → statement M
 settle-straight-spec =
-    tie.close
-    (tie.spec
-    Inv-loop μ-loop loop-holds evaluate-requires
+    tie.close (tie.spec Inv-loop μ-loop loop-holds evaluate-requires
     (λ c. omega (arith, c .before .before .loop-test .taken)) (λ c. omega arith) loop-again returns)

@@ -1,4 +1,4 @@
--- `lanes_batch::layered::start_lanes` meets its contract: the constants, then the inputs. Assumes nothing.
+-- `lanes_batch::layered::start_lanes` meets its contract: the constants, then the inputs.
 use borrow.Author.Needs.{needs}
 use Rattle.lanes_batch.proofs.Starting.{lanes-started}
 use Rattle.lanes_batch.proofs.layered.start_lanes.Statement.{statement}

@@ -1,4 +1,4 @@
--- `lanes_batch::layered::step` meets its contract. Assumes nothing.
+-- `lanes_batch::layered::step` meets its contract.
 use native.Mathlib.Omega.{arith}
 use Rattle.lanes_batch.specs.Layered.{isOther}
 use Rattle.lanes_batch.proofs.layered.step.Statement.{statement}

@@ -1,5 +1,4 @@
 -- `lanes_batch::layered::sweep_decides` meets its contract: a sweep that changes nothing, or that defines a lane more.
--- Assumes nothing.
 use mathlib.Core.Bool.{false, true≢false}
 use native.Mathlib.Omega.{arith}
 use borrow.Author.Needs.{needs}
@@ -12,8 +11,7 @@ use Rattle.lanes_batch.proofs.layered.sweep_decides.Tie as tie
 -- the sweep
 made : (d : tie.After-sweep-part) → let a = d .before .before .args in
     LanesSwept (a .m) (a .n) (a .graph .now) (part (a .back) (a .order .now) (a .from) (a .end)) (a .lanes .now)
-    (d .sweep-part .last .1 .1 .1 .1 .1 .0)
-    (d .sweep-part .result)
+    (d .sweep-part .last .1 .1 .1 .1 .1 .0) (d .sweep-part .result)
 made d =
     let s = d .before .before in
     part-swept (s .args .back) (s .pre .0) (s .pre .1) (s .pre .2) (d .sweep-part .ensures)
@@ -45,14 +43,11 @@ returns-2 c =
     let d = e .before in
     let s = d .before .before in (
       advanced-decided (c .is-decided .result) (s .pre .1) (advanced-swept (s .args .back) (s .pre .2) (made d))
-          (u .used-lanes .ensures)
-          (c .is-decided .ensures),
+          (u .used-lanes .ensures) (c .is-decided .ensures),
       λ f. made d .swept .less (not-false (d .sweep-part .result) (e .if1 .left)),
     )
 
 pub sweep-decides-spec : {M : Type 1} → statement M
 sweep-decides-spec =
-    tie.close
-    (tie.spec
-    (λ c κs. part-nodes (c .before .pre .0) (c .before .pre .1)) returns (λ c κs. search needs) is-decided-requires
-    returns-2)
+    tie.close (tie.spec (λ c κs. part-nodes (c .before .pre .0) (c .before .pre .1)) returns (λ c κs. search needs)
+    is-decided-requires returns-2)

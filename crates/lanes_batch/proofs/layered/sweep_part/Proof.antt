@@ -1,5 +1,5 @@
 -- `lanes_batch::layered::sweep_part` meets its contract: after i turns the first i gates of the part, there or back,
--- have been evaluated. Assumes nothing.
+-- have been evaluated.
 use mathlib.Core.Path.{_≡_}
 use Prim.Native.Nat.{_+_, _-_, _≤_, _<_}
 use native.Mathlib.Omega.{arith}
@@ -65,8 +65,6 @@ returns c =
 
 pub sweep-part-spec : {M : Type 1} → statement M
 sweep-part-spec =
-    tie.close
-    (tie.spec
-    Inv-loop μ-loop (λ c. omega arith) (λ c. (omega arith, noGate)) (λ c κs. omega arith)
-    (λ c. omega (arith, within c)) (λ c. omega (arith, within c)) (λ c. omega (arith, within c)) cast-step
-    step-requires (λ c. omega arith) (λ c. omega arith) loop-again returns)
+    tie.close (tie.spec Inv-loop μ-loop (λ c. omega arith) (λ c. (omega arith, noGate)) (λ c κs. omega arith)
+    (λ c. omega (arith, within c)) (λ c. omega (arith, within c)) (λ c. omega (arith, within c)) cast-step step-requires
+    (λ c. omega arith) (λ c. omega arith) loop-again returns)

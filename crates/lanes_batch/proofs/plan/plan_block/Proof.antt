@@ -1,4 +1,4 @@
--- `lanes_batch::plan::plan_block` meets its contract. Assumes nothing.
+-- `lanes_batch::plan::plan_block` meets its contract.
 use borrow.Author.Needs.{needs}
 use Rattle.lanes_batch.proofs.plan.plan_block.Statement.{statement}
 use Rattle.lanes_batch.proofs.plan.plan_block.Tie as tie

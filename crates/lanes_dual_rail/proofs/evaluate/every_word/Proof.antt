@@ -1,4 +1,4 @@
--- `lanes_dual_rail::evaluate::every_word` meets its contract. Assumes nothing.
+-- `lanes_dual_rail::evaluate::every_word` meets its contract.
 use Rattle.lanes_dual_rail.specs.LaneWords.{everyWord}
 use borrow.Author.Needs.{needs}
 use Rattle.lanes_dual_rail.proofs.evaluate.every_word.Statement.{statement}
@@ -14,6 +14,5 @@ returns c =
 
 pub every-word-spec : {M : Type 1} → statement M
 every-word-spec =
-    tie.close
-    (tie.spec
-    (λ c κs. search needs) (λ c κs. search needs) (λ c κs. search needs) (λ c κs. search needs) returns)
+    tie.close (tie.spec (λ c κs. search needs) (λ c κs. search needs) (λ c κs. search needs) (λ c κs. search needs)
+    returns)

@@ -1,7 +1,5 @@
 -- `lanes_dual_rail::evaluate::gate_pair` meets its contract: a kind with a row goes by it, the others by parity.
--- Assumes nothing.
-use mathlib.Core.Path.{_≡_}
-use Prim.Native.Nat.{_*_, _/_, _%_}
+use Prim.Native.Nat.{_*_, _%_}
 use native.Mathlib.Omega.{arith}
 use lib.ListN.{getD}
 use Rattle.lanes_dual_rail.proofs.LaneWordLaws.{operation-small, forced-low, row-pair}
@@ -63,8 +61,6 @@ returns-6 c =
 
 pub gate-pair-spec : {M : Type 1} → statement M
 gate-pair-spec =
-    tie.close
-    (tie.spec
-    (λ c. search needs) (λ c. search needs) (λ c. search needs) cast-operation not-pair-requires returns
-    (λ c κs. search needs) returns-2 (λ c κs. search needs) returns-3 (λ c κs. search needs) returns-4
+    tie.close (tie.spec (λ c. search needs) (λ c. search needs) (λ c. search needs) cast-operation not-pair-requires
+    returns (λ c κs. search needs) returns-2 (λ c κs. search needs) returns-3 (λ c κs. search needs) returns-4
     (λ c κs. search needs) returns-5 (λ c κs. search needs) returns-6)

@@ -1,4 +1,4 @@
--- `lanes_dual_rail::evaluate::not_pair` meets its contract: a word joined with itself is that word. Assumes nothing.
+-- `lanes_dual_rail::evaluate::not_pair` meets its contract: a word joined with itself is that word.
 use Rattle.lanes_dual_rail.proofs.LaneWordLaws.{not-pair}
 use borrow.Author.Needs.{needs}
 use Rattle.lanes_dual_rail.proofs.evaluate.not_pair.Statement.{statement}

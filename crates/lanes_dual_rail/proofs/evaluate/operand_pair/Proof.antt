@@ -1,4 +1,4 @@
--- `lanes_dual_rail::evaluate::operand_pair` meets its contract. Assumes nothing.
+-- `lanes_dual_rail::evaluate::operand_pair` meets its contract.
 use borrow.Author.Needs.{needs}
 use Rattle.lanes_dual_rail.proofs.evaluate.operand_pair.Statement.{statement}
 use Rattle.lanes_dual_rail.proofs.evaluate.operand_pair.Tie as tie

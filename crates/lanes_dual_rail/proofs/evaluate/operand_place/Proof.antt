@@ -1,4 +1,4 @@
--- `lanes_dual_rail::evaluate::operand_place` meets its contract: a node's places are there. Assumes nothing.
+-- `lanes_dual_rail::evaluate::operand_place` meets its contract: a node's places are there.
 use native.Mathlib.Omega.{arith}
 use mathlib.Core.Path.{refl}
 use Rattle.graph_gates.specs.Graph.{placeAt}
@@ -16,7 +16,5 @@ returns c = let s = c .before in (refl, omega (arith, s .pre .0 .inside (s .args
 
 pub operand-place-spec : {M : Type 1} → statement M
 operand-place-spec =
-    tie.close
-    (tie.spec
-    (λ c. search needs) (λ c. search needs) (λ c. search needs) (λ c. search needs) (λ c. search needs) cast-result
-    returns)
+    tie.close (tie.spec (λ c. search needs) (λ c. search needs) (λ c. search needs) (λ c. search needs)
+    (λ c. search needs) cast-result returns)

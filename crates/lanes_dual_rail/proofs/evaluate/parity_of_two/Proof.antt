@@ -1,4 +1,4 @@
--- `lanes_dual_rail::evaluate::parity_of_two` meets its contract. Assumes nothing.
+-- `lanes_dual_rail::evaluate::parity_of_two` meets its contract.
 use mathlib.Core.Path.{refl}
 use Rattle.lanes_dual_rail.specs.Pairs.{parityPair}
 use Rattle.lanes_dual_rail.proofs.evaluate.parity_of_two.Statement.{statement}

@@ -1,5 +1,4 @@
--- `lanes_dual_rail::evaluate::parity_pair` meets its contract: the parity of four pairs, inverted or not. Assumes
--- nothing.
+-- `lanes_dual_rail::evaluate::parity_pair` meets its contract: the parity of four pairs, inverted or not.
 use borrow.Author.Tests.{ne-eqb}
 use Rattle.lanes_dual_rail.specs.Pairs.{swapped}
 use Rattle.lanes_dual_rail.specs.LaneWords.{parityAt}
@@ -41,7 +40,5 @@ returns-2 c =
 
 pub parity-pair-spec : {M : Type 1} → statement M
 parity-pair-spec =
-    tie.close
-    (tie.spec
-    (λ c κs. search needs) (λ c κs. search needs) (λ c κs. search needs) (λ c κs. search needs) (λ c κs. search needs)
-    (λ c κs. search needs) (λ c κs. search needs) returns returns-2)
+    tie.close (tie.spec (λ c κs. search needs) (λ c κs. search needs) (λ c κs. search needs) (λ c κs. search needs)
+    (λ c κs. search needs) (λ c κs. search needs) (λ c κs. search needs) returns returns-2)

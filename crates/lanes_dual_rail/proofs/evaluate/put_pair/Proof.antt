@@ -1,4 +1,4 @@
--- `lanes_dual_rail::evaluate::put_pair` meets its contract. Assumes nothing.
+-- `lanes_dual_rail::evaluate::put_pair` meets its contract.
 use mathlib.Core.Path.{refl}
 use Rattle.lanes_dual_rail.specs.LaneWords.{putPair}
 use borrow.Author.Needs.{needs}
@@ -11,7 +11,5 @@ returns c = refl
 
 pub put-pair-spec : {M : Type 1} → statement M
 put-pair-spec =
-    tie.close
-    (tie.spec
-    (λ c. search needs) (λ c. search needs) (λ c. search needs) (λ c. search needs) (λ c. search needs)
-    (λ c. search needs) (λ c. search needs) returns)
+    tie.close (tie.spec (λ c. search needs) (λ c. search needs) (λ c. search needs) (λ c. search needs)
+    (λ c. search needs) (λ c. search needs) (λ c. search needs) returns)

@@ -1,4 +1,4 @@
--- `lanes_dual_rail::evaluate::rule_pair` meets its contract, by the forced value. Assumes nothing.
+-- `lanes_dual_rail::evaluate::rule_pair` meets its contract, by the forced value.
 use borrow.Author.Tests.{ne-eqb}
 use Rattle.lanes_dual_rail.specs.LaneWords.{rulePair}
 use borrow.Author.Needs.{needs}

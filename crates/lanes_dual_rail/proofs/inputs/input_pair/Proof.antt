@@ -1,4 +1,4 @@
--- `lanes_dual_rail::inputs::input_pair` meets its contract. Assumes nothing.
+-- `lanes_dual_rail::inputs::input_pair` meets its contract.
 use borrow.Author.Needs.{needs}
 use Rattle.lanes_dual_rail.specs.Batches.{inputPair}
 use Rattle.lanes_dual_rail.proofs.inputs.input_pair.Statement.{statement}

@@ -1,4 +1,4 @@
--- `lanes_dual_rail::inputs::pattern_of` meets its contract. Assumes nothing.
+-- `lanes_dual_rail::inputs::pattern_of` meets its contract.
 use borrow.Author.Needs.{needs}
 use Rattle.netlist.specs.Assignments.{bit}
 use Rattle.lanes_dual_rail.specs.Batches.{patterns}

@@ -1,4 +1,4 @@
--- `lanes_dual_rail::inputs::used_lanes` meets its contract. Assumes nothing.
+-- `lanes_dual_rail::inputs::used_lanes` meets its contract.
 use borrow.Author.Needs.{needs}
 use Rattle.lanes_dual_rail.proofs.InputLaws.{all-lanes, shifted-lanes, shifted-full}
 use Rattle.lanes_dual_rail.specs.Batches.{lanesOf}

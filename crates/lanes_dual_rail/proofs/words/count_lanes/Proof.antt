@@ -1,4 +1,4 @@
--- `lanes_dual_rail::words::count_lanes` meets its contract. Assumes nothing.
+-- `lanes_dual_rail::words::count_lanes` meets its contract.
 use native.Mathlib.Omega.{arith}
 use lib.Count.{ones-le}
 use Rattle.lanes_dual_rail.proofs.WordLaws.{ones-count}

@@ -1,4 +1,4 @@
--- `lanes_dual_rail::words::lane_count` meets its contract. Assumes nothing.
+-- `lanes_dual_rail::words::lane_count` meets its contract.
 use native.Mathlib.Nat.{min-eq-right}
 use borrow.Author.Needs.{needs}
 use Rattle.lanes_dual_rail.specs.Batches.{lanesOf}

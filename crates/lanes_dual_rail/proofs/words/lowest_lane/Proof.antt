@@ -1,4 +1,4 @@
--- `lanes_dual_rail::words::lowest_lane` meets its contract: the zeros below the lowest bit. Assumes nothing.
+-- `lanes_dual_rail::words::lowest_lane` meets its contract: the zeros below the lowest bit.
 use native.Mathlib.Omega.{arith}
 use lib.Count.{trailing-le}
 use Rattle.lanes_dual_rail.proofs.WordLaws.{trailing-least}

@@ -1,6 +1,5 @@
 -- `lanes_settings::lowest::lowest_in` meets its contract: in the first batch that has such a setting, the lowest lane.
--- Assumes nothing.
-use mathlib.Core.Path.{_≡_, ap, _∙_}
+use mathlib.Core.Path.{ap, _∙_}
 use Prim.Native.Nat.{_+_, _^_, _≤_, _<_}
 use native.Mathlib.Omega.{arith}
 use borrow.Author.Needs.{needs}
@@ -59,7 +58,5 @@ returns-2 c =
 
 pub lowest-in-spec : {M : Type 1} → statement M
 lowest-in-spec =
-    tie.close
-    (tie.spec
-    (λ c κs. search needs) (λ c κs. rw (c .inputs-of .ensures) (few (c .before .before))) unsound-lanes-requires
-    (λ c κs. search needs) add-result returns returns-2)
+    tie.close (tie.spec (λ c κs. search needs) (λ c κs. rw (c .inputs-of .ensures) (few (c .before .before)))
+    unsound-lanes-requires (λ c κs. search needs) add-result returns returns-2)

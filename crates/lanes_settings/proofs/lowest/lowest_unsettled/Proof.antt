@@ -1,4 +1,4 @@
--- `lanes_settings::lowest::lowest_unsettled` meets its contract. Assumes nothing.
+-- `lanes_settings::lowest::lowest_unsettled` meets its contract.
 use Rattle.lanes_settings.proofs.lowest.lowest_unsettled.Statement.{statement}
 use Rattle.lanes_settings.proofs.lowest.lowest_unsettled.Tie as tie
 

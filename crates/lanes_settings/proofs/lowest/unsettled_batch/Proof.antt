@@ -1,6 +1,5 @@
 -- `lanes_settings::lowest::unsettled_batch` meets its contract: every batch passed is settled where it may come, and
 -- the one at which the loops are left is not.
--- Assumes nothing.
 use mathlib.Core.Path.{_≡_, ap, _∙_}
 use mathlib.Core.Bool.{true}
 use mathlib.Core.List.{List}
@@ -123,8 +122,7 @@ undefined-lanes-requires c κs =
     let h = head (found l) in
     let s = start h in
     output-there (s .args .words .now) (s .pre .0 .whole) (sized h .inputs-of .ensures) (ports h .outputs-at .ensures)
-    (l .loop .o)
-    (omega (arith, h .before .outputs-of .ensures, c .before .loop-test .taken))
+    (l .loop .o) (omega (arith, h .before .outputs-of .ensures, c .before .loop-test .taken))
 
 loop-again : tie.Need-loop-again Inv-loop μ-loop Inv-batches μ-batches
 loop-again c =
@@ -133,8 +131,7 @@ loop-again c =
     let h = head (found l) in
     let a = start h .args in (
       omega arith,
-      below-more
-          (λ k. bitAnd (l .before .coming-lanes .result)
+      below-more (λ k. bitAnd (l .before .coming-lanes .result)
           (undefinedWord (a .words .now) (ports h .outputs-at .result) (sized h .inputs-of .result)
           (found l .judge-batch .last .1 .1 .1 .1 .1 .0) k) ≡ 0)
           (l .loop .o) (l .loop .inv .1) (rw (← u .undefined-lanes .ensures) (c .if1 .left)),
@@ -209,9 +206,7 @@ returns-2 c =
 
 pub unsettled-batch-spec : {M : Type 1} → statement M
 unsettled-batch-spec =
-    tie.close
-    (tie.spec
-    Inv-loop μ-loop Inv-batches μ-batches (λ c κs. search needs)
+    tie.close (tie.spec Inv-loop μ-loop Inv-batches μ-batches (λ c κs. search needs)
     (λ c κs. rw (c .inputs-of .ensures) (few (c .before .before))) (λ c κs. search needs) (λ c κs. search needs)
     (λ c κs. search needs) batches-holds judge-batch-requires coming-lanes-requires
     (λ c. (omega arith, λ k l. absurd (omega arith))) undefined-lanes-requires (λ c. omega arith) (λ c. omega arith)

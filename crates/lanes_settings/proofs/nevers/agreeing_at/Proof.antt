@@ -1,5 +1,4 @@
--- `lanes_settings::nevers::agreeing_at` meets its contract: an input that is not fixed, fixed at 1, fixed at 0. Assumes
--- nothing.
+-- `lanes_settings::nevers::agreeing_at` meets its contract: an input that is not fixed, fixed at 1, fixed at 0.
 use borrow.Author.Needs.{needs}
 use Rattle.netlist.specs.Assignments.{bit, Assignment}
 use Rattle.lanes_settings.proofs.NeverLaws.{free-tells, one-tells, zero-tells}
@@ -34,6 +33,5 @@ returns-3 c =
 
 pub agreeing-at-spec : {M : Type 1} → statement M
 agreeing-at-spec =
-    tie.close
-    (tie.spec (λ c. search needs) (λ c κs. search needs) returns (λ c κs. search needs) (λ c. search needs) returns-2
-    returns-3)
+    tie.close (tie.spec (λ c. search needs) (λ c κs. search needs) returns (λ c κs. search needs) (λ c. search needs)
+    returns-2 returns-3)

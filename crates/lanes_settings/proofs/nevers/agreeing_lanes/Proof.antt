@@ -1,5 +1,4 @@
--- `lanes_settings::nevers::agreeing_lanes` meets its contract: after i turns the word tells the first i inputs. Assumes
--- nothing.
+-- `lanes_settings::nevers::agreeing_lanes` meets its contract: after i turns the word tells the first i inputs.
 use borrow.Author.Needs.{needs}
 use mathlib.Core.Path.{_≡_}
 use Prim.Native.Nat.{_-_, _≤_}
@@ -43,7 +42,5 @@ returns c =
 
 pub agreeing-lanes-spec : {M : Type 1} → statement M
 agreeing-lanes-spec =
-    tie.close
-    (tie.spec
-    Inv-loop μ-loop (λ c κs. search needs) loop-holds agreeing-at-requires (λ c. omega arith) (λ c. omega arith)
-    loop-again returns)
+    tie.close (tie.spec Inv-loop μ-loop (λ c κs. search needs) loop-holds agreeing-at-requires (λ c. omega arith)
+    (λ c. omega arith) loop-again returns)

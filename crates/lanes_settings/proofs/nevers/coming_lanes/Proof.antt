@@ -1,4 +1,4 @@
--- `lanes_settings::nevers::coming_lanes` meets its contract. Assumes nothing.
+-- `lanes_settings::nevers::coming_lanes` meets its contract.
 use borrow.Author.Needs.{needs}
 use Rattle.lanes_settings.proofs.NeverLaws.{coming-tells}
 use Rattle.lanes_settings.proofs.nevers.coming_lanes.Statement.{statement}

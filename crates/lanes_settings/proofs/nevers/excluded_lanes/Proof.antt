@@ -1,5 +1,4 @@
--- `lanes_settings::nevers::excluded_lanes` meets its contract: after i turns the word tells the first i lines. Assumes
--- nothing.
+-- `lanes_settings::nevers::excluded_lanes` meets its contract: after i turns the word tells the first i lines.
 use mathlib.Core.Path.{_≡_}
 use Prim.Native.Nat.{_-_, _≤_}
 use native.Mathlib.Omega.{arith}
@@ -29,12 +28,6 @@ small a =
       omega (arith, a .nevers-at .ensures, s .pre .fewInputs),
     )
 
-mul-line-lanes : tie.Need-mul-line-lanes Inv-loop μ-loop
-mul-line-lanes c = omega (arith, small (c .before .before))
-
-add-line-lanes : tie.Need-add-line-lanes Inv-loop μ-loop
-add-line-lanes c = omega (arith, small (c .before .before))
-
 line-lanes-requires : tie.Need-line-lanes-requires Inv-loop μ-loop
 line-lanes-requires c κs =
     let s : tie.Start Inv-loop μ-loop = search in
@@ -60,8 +53,7 @@ returns c =
 
 pub excluded-lanes-spec : {M : Type 1} → statement M
 excluded-lanes-spec =
-    tie.close
-    (tie.spec
-    Inv-loop μ-loop (λ c κs. search needs) (λ c κs. search needs)
-    (λ c. (omega arith, lines-none (c .before .before .before .args .words .now))) mul-line-lanes add-line-lanes
-    line-lanes-requires (λ c. omega arith) (λ c. omega arith) loop-again returns)
+    tie.close (tie.spec Inv-loop μ-loop (λ c κs. search needs) (λ c κs. search needs)
+    (λ c. (omega arith, lines-none (c .before .before .before .args .words .now)))
+    (λ c. omega (arith, small (c .before .before))) (λ c. omega (arith, small (c .before .before))) line-lanes-requires
+    (λ c. omega arith) (λ c. omega arith) loop-again returns)

@@ -1,4 +1,4 @@
--- `lanes_settings::nevers::line_lanes` meets its contract. Assumes nothing.
+-- `lanes_settings::nevers::line_lanes` meets its contract.
 use borrow.Author.Needs.{needs}
 use Rattle.netlist.specs.StoredBlock.{neverAt}
 use Rattle.lanes_settings.proofs.nevers.line_lanes.Statement.{statement}
@@ -10,5 +10,5 @@ returns c = rw (← c .before .before .word-at .ensures, ← c .before .word-at2
 
 pub line-lanes-spec : {M : Type 1} → statement M
 line-lanes-spec =
-    tie.close
-    (tie.spec (λ c κs. search needs) (λ c. search needs) (λ c κs. search needs) (λ c κs. search needs) returns)
+    tie.close (tie.spec (λ c κs. search needs) (λ c. search needs) (λ c κs. search needs) (λ c κs. search needs)
+    returns)

@@ -1,4 +1,4 @@
--- `lanes_settings::outputs::output_pair` meets its contract. Assumes nothing.
+-- `lanes_settings::outputs::output_pair` meets its contract.
 use mathlib.Core.Path.{_∙_}
 use Prim.Native.Nat.{_+_, _*_}
 use native.Mathlib.Omega.{arith}
@@ -24,7 +24,5 @@ returns c = let p = c .before in c .pair-at .ensures ∙ rw (p .place-of .ensure
 
 pub output-pair-spec : {M : Type 1} → statement M
 output-pair-spec =
-    tie.close
-    (tie.spec
-    (λ c. omega arith) (λ c. omega arith) (λ c. omega arith) (λ c κs. search needs) place-of-requires pair-at-requires
-    returns)
+    tie.close (tie.spec (λ c. omega arith) (λ c. omega arith) (λ c. omega arith) (λ c κs. search needs)
+    place-of-requires pair-at-requires returns)

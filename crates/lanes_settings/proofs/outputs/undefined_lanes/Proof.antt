@@ -1,4 +1,4 @@
--- `lanes_settings::outputs::undefined_lanes` meets its contract. Assumes nothing.
+-- `lanes_settings::outputs::undefined_lanes` meets its contract.
 use borrow.Author.Needs.{needs}
 use Rattle.lanes_settings.specs.Lanes.{undefinedIn, undefinedWord}
 use Rattle.lanes_settings.proofs.outputs.undefined_lanes.Statement.{statement}

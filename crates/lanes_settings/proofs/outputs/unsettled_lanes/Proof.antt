@@ -1,5 +1,4 @@
 -- `lanes_settings::outputs::unsettled_lanes` meets its contract: after o turns it is the word of the first o outputs.
--- Assumes nothing.
 use mathlib.Core.Path.{_≡_, refl}
 use Prim.Native.Nat.{_-_, _≤_}
 use native.Mathlib.Numerals.{add-one}
@@ -35,6 +34,5 @@ returns c =
 
 pub unsettled-lanes-spec : {M : Type 1} → statement M
 unsettled-lanes-spec =
-    tie.close
-    (tie.spec
-    Inv-loop μ-loop loop-holds undefined-lanes-requires (λ c. omega arith) (λ c. omega arith) loop-again returns)
+    tie.close (tie.spec Inv-loop μ-loop loop-holds undefined-lanes-requires (λ c. omega arith) (λ c. omega arith)
+    loop-again returns)

@@ -1,4 +1,4 @@
--- `lanes_settings::settled::sound_lanes` meets its contract. Assumes nothing.
+-- `lanes_settings::settled::sound_lanes` meets its contract.
 use Rattle.lanes_settings.proofs.SettledLaws.{sound-tells}
 use borrow.Author.Needs.{needs}
 use Rattle.lanes_settings.proofs.settled.sound_lanes.Statement.{statement}

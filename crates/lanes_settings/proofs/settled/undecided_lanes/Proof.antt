@@ -1,4 +1,4 @@
--- `lanes_settings::settled::undecided_lanes` meets its contract. Assumes nothing.
+-- `lanes_settings::settled::undecided_lanes` meets its contract.
 use borrow.Author.Needs.{needs}
 use Rattle.lanes_settings.proofs.OutputLaws.{outputs-there, unsettled-tells}
 use Rattle.lanes_settings.proofs.settled.undecided_lanes.Statement.{statement}

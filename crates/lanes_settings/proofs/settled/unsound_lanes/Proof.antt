@@ -1,4 +1,4 @@
--- `lanes_settings::settled::unsound_lanes` meets its contract. Assumes nothing.
+-- `lanes_settings::settled::unsound_lanes` meets its contract.
 use Rattle.lanes_settings.proofs.SettledLaws.{unsound-tells}
 use borrow.Author.Needs.{needs}
 use Rattle.lanes_settings.proofs.settled.unsound_lanes.Statement.{statement}

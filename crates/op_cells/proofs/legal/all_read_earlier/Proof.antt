@@ -1,6 +1,5 @@
--- `op_cells::legal::all_read_earlier` meets its contract: all cells passed read only what is there. Assumes nothing.
+-- `op_cells::legal::all_read_earlier` meets its contract: all cells passed read only what is there.
 use Prim.Native.Nat.{_-_}
-use denote.Ref.{now}
 use borrow.Author.Needs.{needs}
 use Rattle.netlist.specs.Cells.{readsEarlier}
 use Rattle.prelude.proofs.Tested.{Tested, tested-none, tested-more, tested-fails, tested-all}
@@ -15,7 +14,5 @@ abbrev μ-loop : tie.MeasureT-loop
 
 pub all-read-earlier-spec : {M : Type 1} → statement M
 all-read-earlier-spec =
-    tie.close
-    (tie.spec
-    Inv-loop μ-loop (λ c. tested-none) (λ c κs. search needs) (λ c. search tested-fails) (λ c. search needs)
-    (λ c. search needs) (λ c. search tested-more) (λ c. search tested-all))
+    tie.close (tie.spec Inv-loop μ-loop (λ c. tested-none) (λ c κs. search needs) (λ c. search tested-fails)
+    (λ c. search needs) (λ c. search needs) (λ c. search tested-more) (λ c. search tested-all))

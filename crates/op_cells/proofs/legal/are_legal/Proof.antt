@@ -1,4 +1,4 @@
--- `op_cells::legal::are_legal` meets its contract: one law for each test. Assumes nothing.
+-- `op_cells::legal::are_legal` meets its contract: one law for each test.
 use mathlib.Core.Path.{sym, _∙_}
 use denote.Ref.{now}
 use native.Mathlib.Omega.{arith}

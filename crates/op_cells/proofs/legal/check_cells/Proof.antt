@@ -1,4 +1,4 @@
--- `op_cells::legal::check_cells` meets its contract. Assumes nothing.
+-- `op_cells::legal::check_cells` meets its contract.
 use borrow.Author.Needs.{needs}
 use Rattle.op_cells.proofs.legal.check_cells.Statement.{statement}
 use Rattle.op_cells.proofs.legal.check_cells.Tie as tie

@@ -1,4 +1,4 @@
--- `op_cells::legal::reads_earlier` meets its contract: all operand words passed keep their rule. Assumes nothing.
+-- `op_cells::legal::reads_earlier` meets its contract: all operand words passed keep their rule.
 use Prim.Native.Nat.{_-_}
 use mathlib.Core.Path.{sym, _∙_}
 use denote.Ref.{now}
@@ -39,8 +39,5 @@ returns-2 c =
 
 pub reads-earlier-spec : {M : Type 1} → statement M
 reads-earlier-spec =
-    tie.close
-    (tie.spec
-    Inv-loop μ-loop (λ c. search needs) (λ c. tested-none) (λ c. search needs) (λ c. search needs)
-    (λ c κs. search needs) (λ c κs. search needs) returns (λ c. search needs) (λ c. search needs)
-    loop-again returns-2)
+    tie.close (tie.spec Inv-loop μ-loop (λ c. search needs) (λ c. tested-none) (λ c. search needs) (λ c. search needs)
+    (λ c κs. search needs) (λ c κs. search needs) returns (λ c. search needs) (λ c. search needs) loop-again returns-2)

@@ -1,4 +1,4 @@
--- `op_cells::make::cell_word` meets its contract: one law for each kind of word. Assumes nothing.
+-- `op_cells::make::cell_word` meets its contract: one law for each kind of word.
 use mathlib.Core.Path.{sym}
 use denote.Ref.{now}
 use borrow.Author.Needs.{needs}
@@ -33,7 +33,5 @@ returns-3 c =
 
 pub cell-word-spec : {M : Type 1} → statement M
 cell-word-spec =
-    tie.close
-    (tie.spec
-    (λ c κs. search needs) truth-word-requires returns (λ c. search needs) (λ c. search needs) (λ c. search needs)
-    (λ c. search needs) returns-2 (λ c. search needs) returns-3)
+    tie.close (tie.spec (λ c κs. search needs) truth-word-requires returns (λ c. search needs) (λ c. search needs)
+    (λ c. search needs) (λ c. search needs) returns-2 (λ c. search needs) returns-3)

@@ -1,5 +1,5 @@
 -- `op_cells::make::make_cells` meets its contract: the tests are the definition's conditions in its order, and then the
--- words are put. Assumes nothing.
+-- words are put.
 use mathlib.Core.Path.{_≡_, ap}
 use mathlib.Core.Bool.{false, not}
 use Prim.Native.Nat.{ℕ, _*_}
@@ -75,10 +75,8 @@ check-straight-requires c κs = whole c
 returns-2 : tie.Need-returns-2
 returns-2 c =
     let t = c .before .before .before in
-    make-promise
-    (failed bare keeps-bare _ _ NotStraight (behind-words (t .before)) (t .check-straight .ensures)
-    (now (start (words-test (t .before)) .args .cells))
-    (c .before .before .match2 .keys2) (c .refusal2 .ensures))
+    make-promise (failed bare keeps-bare _ _ NotStraight (behind-words (t .before)) (t .check-straight .ensures)
+    (now (start (words-test (t .before)) .args .cells)) (c .before .before .match2 .keys2) (c .refusal2 .ensures))
 
 mul-count : tie.Need-mul-count
 mul-count c =
@@ -89,8 +87,7 @@ returns-3 : tie.Need-returns-3
 returns-3 c =
     let t = c .before .before .before in
     let a = start (words-test (straight-test (t .before .before) .before)) .args in
-    make-promise
-    (failed bare keeps-bare _ _ NoRoom (behind-straight (t .before .before)) (room-told t) (now (a .cells))
+    make-promise (failed bare keeps-bare _ _ NoRoom (behind-straight (t .before .before)) (room-told t) (now (a .cells))
     (c .before .before .match3 .keys2) (c .refusal3 .ensures))
 
 put-cells-requires : tie.Need-put-cells-requires
@@ -104,16 +101,13 @@ returns-4 : tie.Need-returns-4
 returns-4 c =
     let e : tie.After-enum-told5 = search in
     let r = room-test e in
-    make-promise
-    (finished (passed bare keeps-bare _ _ NoRoom (behind-straight (r .before .before)) (room-told r)
+    make-promise (finished (passed bare keeps-bare _ _ NoRoom (behind-straight (r .before .before)) (room-told r)
     (e .enum-told5 .given .1))
     (ap (λ (m : ℕ). cellSize * m) (r .before .gates-of .ensures)) (c .before .before .put-cells .ensures))
 
 pub make-cells-spec : {M : Type 1} → statement M
 make-cells-spec =
-    tie.close
-    (tie.spec
-    (λ c κs. search needs) (λ c. search needs) (λ c. search needs) (λ c κs. search needs) returns
+    tie.close (tie.spec (λ c κs. search needs) (λ c. search needs) (λ c. search needs) (λ c κs. search needs) returns
     check-straight-requires (λ c. search needs) (λ c. search needs) (λ c κs. search needs) returns-2
     (λ c κs. search needs) mul-count (λ c κs. search needs) (λ c. search needs) (λ c. search needs)
     (λ c κs. search needs) returns-3 put-cells-requires (λ c. search needs) returns-4)

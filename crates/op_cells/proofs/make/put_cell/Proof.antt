@@ -1,4 +1,4 @@
--- `op_cells::make::put_cell` meets its contract: five stores, each of the cell's word there. Assumes nothing.
+-- `op_cells::make::put_cell` meets its contract: five stores, each of the cell's word there.
 use native.Mathlib.Omega.{arith}
 use borrow.Author.Needs.{needs}
 use lib.ListN.{length-set}
@@ -38,11 +38,8 @@ returns c =
 
 pub put-cell-spec : {M : Type 1} → statement M
 put-cell-spec =
-    tie.close
-    (tie.spec
-    (λ c κs. search needs) (λ c. search needs) slice-write-cells
-    (λ c κs. search needs) (λ c. search needs) (λ c. search needs) slice-write-cells-2
-    (λ c κs. search needs) (λ c. search needs) (λ c. search needs) slice-write-cells-3
-    (λ c κs. search needs) (λ c. search needs) (λ c. search needs) slice-write-cells-4
-    (λ c κs. search needs) (λ c. search needs) (λ c. search needs) slice-write-cells-5
+    tie.close (tie.spec (λ c κs. search needs) (λ c. search needs) slice-write-cells (λ c κs. search needs)
+    (λ c. search needs) (λ c. search needs) slice-write-cells-2 (λ c κs. search needs) (λ c. search needs)
+    (λ c. search needs) slice-write-cells-3 (λ c κs. search needs) (λ c. search needs) (λ c. search needs)
+    slice-write-cells-4 (λ c κs. search needs) (λ c. search needs) (λ c. search needs) slice-write-cells-5
     (λ c. search needs) returns)

@@ -1,4 +1,4 @@
--- `op_cells::make::put_cells` meets its contract: whole cells stand in front, one more each turn. Assumes nothing.
+-- `op_cells::make::put_cells` meets its contract: whole cells stand in front, one more each turn.
 use mathlib.Core.Path.{_≡_}
 use Prim.Native.Nat.{_+_, _-_, _*_, _/_, _≤_, _<_}
 use native.Mathlib.Omega.{arith}
@@ -42,9 +42,6 @@ inside c =
     omega (arith, c .loop-test .taken, l .loop .inv .whole, s .pre .1 .0) in
     (more, omega (arith, w .sized, l .before .gates-at .ensures, more, s .pre .1 .0))
 
-add-put-cell : tie.Need-add-put-cell Inv-loop μ-loop
-add-put-cell c = omega (arith, inside c)
-
 put-cell-requires : tie.Need-put-cell-requires Inv-loop μ-loop
 put-cell-requires c κs =
     let t : tie.In-loop Inv-loop μ-loop = search in
@@ -81,7 +78,5 @@ returns c =
 
 pub put-cells-spec : {M : Type 1} → statement M
 put-cells-spec =
-    tie.close
-    (tie.spec
-    Inv-loop μ-loop (λ c κs. search needs) (λ c. made-none) add-put-cell put-cell-requires add-p loop-less
-    loop-again (λ c. c .before .loop .inv .tabled .kept) returns)
+    tie.close (tie.spec Inv-loop μ-loop (λ c κs. search needs) (λ c. made-none) (λ c. omega (arith, inside c))
+    put-cell-requires add-p loop-less loop-again (λ c. c .before .loop .inv .tabled .kept) returns)

@@ -1,5 +1,5 @@
 -- `op_cells::run::run_cells` meets its contract: the tests are the definition's conditions in its order, and then each
--- cell is run once. Assumes nothing.
+-- cell is run once.
 use mathlib.Core.Path.{_≡_, refl}
 use mathlib.Core.Bool.{true}
 use Prim.Native.Nat.{_/_}
@@ -55,15 +55,13 @@ returns : tie.Need-returns
 returns c =
     let t = c .before .before .before in
     failed bare keeps-bare _ _ MalformedBlock (run-chain _ _ _ _) (t .check-cells .ensures)
-    (now (start t .args .values))
-    (c .before .before .match .keys2) (c .refusal .ensures)
+    (now (start t .args .values)) (c .before .before .match .keys2) (c .refusal .ensures)
 
 returns-2 : tie.Need-returns-2
 returns-2 c =
     let t = c .before .before .before in
     failed bare keeps-bare _ _ BadSetting (behind-cells (t .before)) (t .test-bytes .ensures)
-    (now (start (cells-test (t .before)) .args .values))
-    (c .before .before .match2 .keys2) (c .refusal2 .ensures)
+    (now (start (cells-test (t .before)) .args .values)) (c .before .before .match2 .keys2) (c .refusal2 .ensures)
 
 returns-3 : tie.Need-returns-3
 returns-3 c =
@@ -93,14 +91,11 @@ returns-4 c =
     let e : tie.After-enum-told5 = search in
     let r = room-test e in
     finished (passed bare keeps-bare _ _ NoRoom (behind-bytes (r .before)) (r .test-room .ensures)
-    (e .enum-told5 .given .1)) refl
-    (c .before .before .run-each .ensures)
+    (e .enum-told5 .given .1)) refl (c .before .before .run-each .ensures)
 
 pub run-cells-spec : {M : Type 1} → statement M
 run-cells-spec =
-    tie.close
-    (tie.spec
-    (λ c κs. search needs) (λ c. search needs) (λ c. search needs) (λ c κs. search needs) returns
+    tie.close (tie.spec (λ c κs. search needs) (λ c. search needs) (λ c. search needs) (λ c κs. search needs) returns
     (λ c κs. search needs) (λ c. search needs) (λ c. search needs) (λ c κs. search needs) returns-2
     (λ c κs. search needs) (λ c. search needs) (λ c. search needs) (λ c κs. search needs) returns-3 run-each-requires
     (λ c. search needs) returns-4)

@@ -1,5 +1,4 @@
 -- `op_cells::run::run_each` meets its contract: it fills the slice cell by cell, each from the values already there.
--- Assumes nothing.
 use mathlib.Core.Path.{_≡_, sym}
 use Prim.Native.Nat.{_≤_, _-_}
 use native.Mathlib.Omega.{arith}
@@ -13,13 +12,13 @@ use Rattle.op_cells.proofs.run.run_each.Tie as tie
 
 abbrev Inv-loop : tie.InvT-loop
 Inv-loop inputs cells count setting values₀ j₀ values j =
-    (j ≤ count) × Filling values₀ values (ran inputs cells setting j) j
+    record { within : j ≤ count; filling : Filling values₀ values (ran inputs cells setting j) j }
 
 abbrev μ-loop : tie.MeasureT-loop
 μ-loop inputs cells count setting values₀ j₀ values j = count - j
 
 loop-holds : tie.Need-loop-holds Inv-loop μ-loop
-loop-holds c = (omega arith, rw ran-none (filling-none _))
+loop-holds c = record { within = omega arith; filling = rw ran-none (filling-none _) }
 
 slice-aggregate-cell-value : tie.Need-slice-aggregate-cell-value Inv-loop μ-loop
 slice-aggregate-cell-value c = sym (length-take-le _ (c .before .before .loop .values) (omega arith))
@@ -31,8 +30,7 @@ cell-value-requires c κs =
       omega arith,
       record {
         ofSetting = s .pre .1;
-        ofFound = found-bits _ _ _ (now (s .args .values)) (t .values) (t .j)
-            (t .inv .1);
+        ofFound = found-bits _ _ _ (now (s .args .values)) (t .values) (t .j) (t .inv .filling);
       },
     )
 
@@ -43,23 +41,20 @@ loop-again c =
     let t = c .before .before .before .loop in
     let more =
     ran-more (a .inputs) (now (a .cells)) (now (a .setting)) (now (a .values)) (t .values) (t .j)
-    (c .cell-value .result) (t .inv .1)
-    (c .cell-value .ensures) in
-    (omega arith, filling-more (t .inv .1) (omega arith) _ more)
+    (c .cell-value .result) (t .inv .filling) (c .cell-value .ensures) in
+    record { within = omega arith; filling = filling-more (t .inv .filling) (omega arith) _ more }
 
 same-length : tie.Need-same-length Inv-loop μ-loop
-same-length c = c .before .loop .inv .1 .kept
+same-length c = c .before .loop .inv .filling .kept
 
 returns : tie.Need-returns Inv-loop μ-loop
 returns c =
     let s : tie.Start Inv-loop μ-loop = search in
     let a = s .args in
     let e : c .before .loop .j ≡ cellCount (now (a .cells)) = omega arith in
-    rw (← ran-all (a .inputs) (now (a .cells)) (now (a .setting)), ← e) (c .before .loop .inv .1 .holds)
+    rw (← ran-all (a .inputs) (now (a .cells)) (now (a .setting)), ← e) (c .before .loop .inv .filling .holds)
 
 pub run-each-spec : {M : Type 1} → statement M
 run-each-spec =
-    tie.close
-    (tie.spec
-    Inv-loop μ-loop loop-holds (λ c. omega arith) (λ c. omega arith) slice-aggregate-cell-value cell-value-requires
-    (λ c. omega arith) (λ c. omega arith) (λ c. omega arith) loop-again same-length returns)
+    tie.close (tie.spec Inv-loop μ-loop loop-holds (λ c. omega arith) (λ c. omega arith) slice-aggregate-cell-value
+    cell-value-requires (λ c. omega arith) (λ c. omega arith) (λ c. omega arith) loop-again same-length returns)

@@ -1,4 +1,4 @@
--- `op_cells::truth::truth_word` meets its contract: the table is read at the first word. Assumes nothing.
+-- `op_cells::truth::truth_word` meets its contract: the table is read at the first word.
 use borrow.Author.Needs.{needs}
 use native.Mathlib.Omega.{arith}
 use Rattle.op_cells.proofs.TruthWords.{head-low, truth-entry}

@@ -1,5 +1,5 @@
 -- `op_cells::truth::truth_words` meets its contract: the array is the definition's tabulation, which antt computes and
--- compares once. Assumes nothing.
+-- compares once.
 use mathlib.Core.Path.{refl}
 use Rattle.netlist.specs.Values.{code, valueOf, invert, isDefined}
 use Rattle.netlist.specs.Kinds.{row, rows, rowOf, isNot, isXor, isXnor, isKind, signature, signatureIn, signatures}

@@ -1,4 +1,4 @@
--- `op_cells::value::bit_at` meets its contract: it reads the operand's word. Assumes nothing.
+-- `op_cells::value::bit_at` meets its contract: it reads the operand's word.
 use borrow.Author.Needs.{needs}
 use Rattle.op_cells.proofs.value.bit_at.Statement.{statement}
 use Rattle.op_cells.proofs.value.bit_at.Tie as tie

@@ -1,5 +1,5 @@
 -- `op_cells::value::cell_value` meets its contract: the four bits are the digits of the place in the truth word
--- (`cell-value-is`). Assumes nothing.
+-- (`cell-value-is`).
 use mathlib.Core.Path.{_≡_}
 use mathlib.Core.List.{List}
 use Prim.Native.Nat.{ℕ, _≤_}
@@ -67,8 +67,6 @@ returns c =
 
 pub cell-value-spec : {M : Type 1} → statement M
 cell-value-spec =
-    tie.close
-    (tie.spec
-    (λ c κs. search needs) (λ c κs. search needs) (λ c κs. search needs) (λ c κs. search needs) mul-place add-place
-    mul-place-2 add-place-2 mul-place-3 add-place-3 (λ c. search needs) (λ c κs. search needs) shr-result
-    (λ c. search needs) returns)
+    tie.close (tie.spec (λ c κs. search needs) (λ c κs. search needs) (λ c κs. search needs) (λ c κs. search needs)
+    mul-place add-place mul-place-2 add-place-2 mul-place-3 add-place-3 (λ c. search needs) (λ c κs. search needs)
+    shr-result (λ c. search needs) returns)

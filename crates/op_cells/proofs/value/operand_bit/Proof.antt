@@ -1,4 +1,4 @@
--- `op_cells::value::operand_bit` meets its contract: one law for each thing that a word can be. Assumes nothing.
+-- `op_cells::value::operand_bit` meets its contract: one law for each thing that a word can be.
 use mathlib.Core.Path.{sym, _∙_}
 use denote.Ref.{now}
 use borrow.Author.Needs.{needs}

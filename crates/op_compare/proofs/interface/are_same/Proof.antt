@@ -1,4 +1,4 @@
--- `op_compare::interface::are_same` meets its contract: the names passed are the same. Assumes nothing.
+-- `op_compare::interface::are_same` meets its contract: the names passed are the same.
 use mathlib.Core.Path.{_≡_, refl}
 use mathlib.Core.Bool.{Bool, true}
 use Prim.Native.Nat.{ℕ, _≤_, _+_, _-_, _*_}
@@ -54,8 +54,6 @@ returns-2 c =
 
 pub are-same-spec : {M : Type 1} → statement M
 are-same-spec =
-    tie.close
-    (tie.spec
-    Inv-loop μ-loop (λ c. (search needs, refl)) (λ c. omega (arith, near c)) (λ c. omega (arith, near c))
-    (λ c. omega (arith, near c)) (λ c. omega (arith, near c)) (λ c κs. near c) returns (λ c. search needs)
-    (λ c. search needs) loop-again returns-2)
+    tie.close (tie.spec Inv-loop μ-loop (λ c. (search needs, refl)) (λ c. omega (arith, near c))
+    (λ c. omega (arith, near c)) (λ c. omega (arith, near c)) (λ c. omega (arith, near c)) (λ c κs. near c) returns
+    (λ c. search needs) (λ c. search needs) loop-again returns-2)

@@ -1,4 +1,4 @@
--- `op_compare::interface::check_interface` meets its contract: 12 where the interface is another. Assumes nothing.
+-- `op_compare::interface::check_interface` meets its contract: 12 where the interface is another.
 use mathlib.Core.Path.{_∙_, ap}
 use mathlib.Core.Bool.{Bool, not}
 use borrow.Author.Needs.{needs}

@@ -1,4 +1,4 @@
--- `op_compare::interface::has_interface` meets its contract, by a law for each way through it. Assumes nothing.
+-- `op_compare::interface::has_interface` meets its contract, by a law for each way through it.
 use mathlib.Core.Path.{_≡_, sym, _∙_}
 use denote.Ref.{now}
 use lib.ListN.{getD}
@@ -104,7 +104,6 @@ returns-4 c =
 
 pub has-interface-spec : {M : Type 1} → statement M
 has-interface-spec =
-    tie.close
-    (tie.spec
-    (λ c κs. search needs) (λ c κs. search needs) (λ c κs. search needs) returns (λ c κs. search needs) returns-2
-    are-same-requires returns-3 (λ c κs. search needs) (λ c κs. search needs) are-same-requires-2 returns-4)
+    tie.close (tie.spec (λ c κs. search needs) (λ c κs. search needs) (λ c κs. search needs) returns
+    (λ c κs. search needs) returns-2 are-same-requires returns-3 (λ c κs. search needs) (λ c κs. search needs)
+    are-same-requires-2 returns-4)

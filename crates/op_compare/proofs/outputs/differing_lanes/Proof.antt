@@ -1,4 +1,4 @@
--- `op_compare::outputs::differing_lanes` meets its contract: both outputs can be read. Assumes nothing.
+-- `op_compare::outputs::differing_lanes` meets its contract: both outputs can be read.
 use mathlib.Core.Path.{sym, _∙_}
 use borrow.Author.Needs.{needs}
 use Rattle.lanes_settings.proofs.OutputLaws.{output-there}
@@ -33,5 +33,5 @@ returns c =
 
 pub differing-lanes-spec : {M : Type 1} → statement M
 differing-lanes-spec =
-    tie.close
-    (tie.spec (λ c κs. search needs) output-pair-requires (λ c κs. search needs) output-pair-requires-2 returns)
+    tie.close (tie.spec (λ c κs. search needs) output-pair-requires (λ c κs. search needs) output-pair-requires-2
+    returns)

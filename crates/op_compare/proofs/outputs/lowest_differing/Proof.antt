@@ -1,5 +1,4 @@
 -- `op_compare::outputs::lowest_differing` meets its contract: every output passed shows the same at the lane.
--- Assumes nothing.
 use mathlib.Core.Path.{_≡_, sym}
 use mathlib.Core.Bool.{Bool, false}
 use Prim.Native.Nat.{ℕ, _-_, _≤_, _<_}

@@ -1,4 +1,4 @@
--- `op_compare::settings::compare_with` meets its contract: ours is planned, and theirs decoded. Assumes nothing.
+-- `op_compare::settings::compare_with` meets its contract: ours is planned, and theirs decoded.
 use Rattle.op_compare.proofs.settings.compare_with.Statement.{statement}
 use Rattle.op_compare.proofs.settings.compare_with.Tie as tie
 
@@ -35,5 +35,5 @@ search-settings-requires c κs =
 
 pub compare-with-spec : {M : Type 1} → statement M
 compare-with-spec =
-    tie.close
-    (tie.spec plan-block-requires decode-gates-requires search-settings-requires (λ c. c .search-settings .ensures))
+    tie.close (tie.spec plan-block-requires decode-gates-requires search-settings-requires
+    (λ c. c .search-settings .ensures))

@@ -1,5 +1,4 @@
--- `op_compare::settings::disagreeing_lanes` meets its contract: outputs are compared where ours counts. Assumes
--- nothing.
+-- `op_compare::settings::disagreeing_lanes` meets its contract: outputs are compared where ours counts.
 use borrow.Author.Needs.{needs}
 use Rattle.lanes_settings.proofs.Batching.{tells-from}
 use Rattle.op_compare.proofs.Differences.{marked-lanes}
@@ -19,7 +18,5 @@ returns c =
 
 pub disagreeing-lanes-spec : {M : Type 1} → statement M
 disagreeing-lanes-spec =
-    tie.close
-    (tie.spec
-    (λ c κs. search needs) (λ c κs. rw (c .inputs-of .ensures) (start c .pre .our-values))
+    tie.close (tie.spec (λ c κs. search needs) (λ c κs. rw (c .inputs-of .ensures) (start c .pre .our-values))
     (λ c κs. let n = c .before in (start n .pre .pair, n .inputs-of .ensures)) returns)

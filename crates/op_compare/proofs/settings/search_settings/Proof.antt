@@ -1,5 +1,5 @@
--- `op_compare::settings::search_settings` meets its contract: no setting of a batch passed disagrees. Assumes nothing.
-use mathlib.Core.Path.{_≡_, sym, _∙_}
+-- `op_compare::settings::search_settings` meets its contract: no setting of a batch passed disagrees.
+use mathlib.Core.Path.{_≡_}
 use mathlib.Core.Bool.{false}
 use mathlib.Core.List.{List}
 use Prim.Native.Nat.{ℕ, _-_, _+_, _≤_, _<_}
@@ -194,8 +194,6 @@ returns-2 c =
 
 pub search-settings-spec : {M : Type 1} → statement M
 search-settings-spec =
-    tie.close
-    (tie.spec
-    Inv-loop μ-loop (λ c κs. search needs) setting-count-requires (λ c κs. search needs) loop-holds
+    tie.close (tie.spec Inv-loop μ-loop (λ c κs. search needs) setting-count-requires (λ c κs. search needs) loop-holds
     judge-batch-requires judge-straight-requires (λ c κs. both (c .before .before)) (λ c κs. search needs)
     lowest-differing-requires add-t24 add-t25 returns add-base loop-less loop-again returns-2)

@@ -1,4 +1,4 @@
--- `op_compare_cells::choice::cell_word` meets its contract, which is its code. Assumes nothing.
+-- `op_compare_cells::choice::cell_word` meets its contract, which is its code.
 use mathlib.Core.Path.{refl}
 use borrow.Author.Needs.{needs}
 use Rattle.op_compare_cells.specs.Choices.{cellWord}
@@ -24,7 +24,5 @@ returns c =
 
 pub cell-word-spec : {M : Type 1} → statement M
 cell-word-spec =
-    tie.close
-    (tie.spec
-    (λ c κs. search needs) (λ c κs. search needs) (λ c κs. search needs) (λ c κs. search needs) (λ c κs. search needs)
-    (λ c κs. search needs) (λ c κs. search needs) returns)
+    tie.close (tie.spec (λ c κs. search needs) (λ c κs. search needs) (λ c κs. search needs) (λ c κs. search needs)
+    (λ c κs. search needs) (λ c κs. search needs) (λ c κs. search needs) returns)

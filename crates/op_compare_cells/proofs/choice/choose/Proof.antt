@@ -1,4 +1,4 @@
--- `op_compare_cells::choice::choose` meets its contract, which is its code. Assumes nothing.
+-- `op_compare_cells::choice::choose` meets its contract, which is its code.
 use mathlib.Core.Path.{refl}
 use Rattle.op_compare_cells.specs.Choices.{choiceWord}
 use Rattle.op_compare_cells.proofs.choice.choose.Statement.{statement}

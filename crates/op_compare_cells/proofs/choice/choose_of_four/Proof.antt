@@ -1,4 +1,4 @@
--- `op_compare_cells::choice::choose_of_four` meets its contract, which is its code. Assumes nothing.
+-- `op_compare_cells::choice::choose_of_four` meets its contract, which is its code.
 use mathlib.Core.Path.{refl}
 use borrow.Author.Needs.{needs}
 use Rattle.op_compare_cells.specs.Choices.{fourWord}
@@ -13,5 +13,5 @@ returns c =
 
 pub choose-of-four-spec : {M : Type 1} → statement M
 choose-of-four-spec =
-    tie.close
-    (tie.spec (λ c κs. search needs) (λ c. search needs) (λ c κs. search needs) (λ c κs. search needs) returns)
+    tie.close (tie.spec (λ c κs. search needs) (λ c. search needs) (λ c κs. search needs) (λ c κs. search needs)
+    returns)

@@ -1,4 +1,4 @@
--- `op_compare_cells::choice::choose_of_two` meets its contract, which is its code. Assumes nothing.
+-- `op_compare_cells::choice::choose_of_two` meets its contract, which is its code.
 use mathlib.Core.Path.{refl}
 use borrow.Author.Needs.{needs}
 use Rattle.op_compare_cells.specs.Choices.{twoWord}

@@ -1,7 +1,6 @@
 -- `op_compare_cells::evaluate::cell_word_at` meets its contract: the words at the cell's four places, and its truth
--- word. Assumes nothing.
-use mathlib.Core.Path.{_≡_, refl, _∙_}
-use Prim.Native.Nat.{_<_}
+-- word.
+use mathlib.Core.Path.{refl}
 use native.Mathlib.Omega.{arith}
 use native.Mathlib.Nat.{add-zero}
 use borrow.Author.Needs.{needs}
@@ -40,8 +39,6 @@ returns c =
 
 pub cell-word-at-spec : {M : Type 1} → statement M
 cell-word-at-spec =
-    tie.close
-    (tie.spec
-    (λ c. search needs) first-place (λ c. search needs) second-place (λ c. search needs) third-place
+    tie.close (tie.spec (λ c. search needs) first-place (λ c. search needs) second-place (λ c. search needs) third-place
     (λ c. search needs) fourth-place (λ c. search needs) (λ c. search needs) (λ c. search needs) cast-truth
     (λ c κs. search needs) returns)

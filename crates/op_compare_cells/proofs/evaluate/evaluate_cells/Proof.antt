@@ -1,5 +1,5 @@
 -- `op_compare_cells::evaluate::evaluate_cells` meets its contract: with the inputs' words in place, each cell reads
--- only places that have theirs. Assumes nothing.
+-- only places that have theirs.
 use mathlib.Core.Path.{_≡_}
 use Prim.Native.Nat.{_-_, _≤_}
 use native.Mathlib.Omega.{arith}
@@ -57,8 +57,6 @@ returns c =
 
 pub evaluate-cells-spec : {M : Type 1} → statement M
 evaluate-cells-spec =
-    tie.close
-    (tie.spec
-    Inv-loop μ-loop (λ c κs. search needs) (λ c κs. search needs) (λ c. search needs) cast-count loop-holds
-    cell-word-at-requires (λ c. omega arith) (λ c. omega arith) (λ c. omega arith) (λ c. omega arith)
+    tie.close (tie.spec Inv-loop μ-loop (λ c κs. search needs) (λ c κs. search needs) (λ c. search needs) cast-count
+    loop-holds cell-word-at-requires (λ c. omega arith) (λ c. omega arith) (λ c. omega arith) (λ c. omega arith)
     (λ c. omega arith) loop-again returns)

@@ -1,6 +1,4 @@
--- `op_compare_cells::evaluate::input_word` meets its contract: the input's pattern at the lanes in use. Assumes
--- nothing.
-use mathlib.Core.Path.{_≡_, refl}
+-- `op_compare_cells::evaluate::input_word` meets its contract: the input's pattern at the lanes in use.
 use borrow.Author.Needs.{needs}
 use borrow.Author.Tests.{lt-ltb, le-ltb}
 use Rattle.op_compare_cells.specs.CellLanes.{inputWord}

@@ -1,5 +1,4 @@
--- `op_compare_cells::evaluate::put_inputs` meets its contract: the constants first, then input after input. Assumes
--- nothing.
+-- `op_compare_cells::evaluate::put_inputs` meets its contract: the constants first, then input after input.
 use mathlib.Core.Path.{_≡_}
 use Prim.Native.Nat.{_-_, _≤_}
 use native.Mathlib.Omega.{arith}
@@ -36,7 +35,6 @@ returns c =
 
 pub put-inputs-spec : {M : Type 1} → statement M
 put-inputs-spec =
-    tie.close
-    (tie.spec
-    Inv-loop μ-loop (λ c. search needs) (λ c κs. search needs) (λ c. search needs) loop-holds (λ c κs. search needs)
-    (λ c. omega arith) (λ c. omega arith) (λ c. omega arith) (λ c. omega arith) (λ c. omega arith) loop-again returns)
+    tie.close (tie.spec Inv-loop μ-loop (λ c. search needs) (λ c κs. search needs) (λ c. search needs) loop-holds
+    (λ c κs. search needs) (λ c. omega arith) (λ c. omega arith) (λ c. omega arith) (λ c. omega arith)
+    (λ c. omega arith) loop-again returns)

@@ -1,4 +1,4 @@
--- `op_compare_cells::list::all_below` meets its contract: every word passed is below. Assumes nothing.
+-- `op_compare_cells::list::all_below` meets its contract: every word passed is below.
 use mathlib.Core.Path.{_≡_, sym}
 use mathlib.Core.Bool.{true}
 use Prim.Native.Nat.{ℕ, _-_, _≤_, _<_}
@@ -46,7 +46,5 @@ below c =
 
 pub all-below-spec : {M : Type 1} → statement M
 all-below-spec =
-    tie.close
-    (tie.spec
-    Inv-loop μ-loop (λ c. (omega arith, λ k h. absurd (omega arith))) (λ c. omega arith) (λ c. omega arith) cast-word
-    above (λ c. omega arith) (λ c. omega arith) loop-again below)
+    tie.close (tie.spec Inv-loop μ-loop (λ c. (omega arith, λ k h. absurd (omega arith))) (λ c. omega arith)
+    (λ c. omega arith) cast-word above (λ c. omega arith) (λ c. omega arith) loop-again below)

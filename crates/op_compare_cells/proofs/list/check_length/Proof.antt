@@ -1,5 +1,4 @@
--- `op_compare_cells::list::check_length` meets its contract. Assumes nothing.
-use mathlib.Core.Path.{_≡_}
+-- `op_compare_cells::list::check_length` meets its contract.
 use borrow.Author.Needs.{needs}
 use denote.Ref.{now}
 use Rattle.theory_encoding.proofs.Decoded.{decode-outputCount}

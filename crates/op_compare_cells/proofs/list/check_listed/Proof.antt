@@ -1,5 +1,4 @@
--- `op_compare_cells::list::check_listed` meets its contract: the nodes are the inputs and the cells. Assumes nothing.
-use mathlib.Core.Path.{_≡_, refl}
+-- `op_compare_cells::list::check_listed` meets its contract: the nodes are the inputs and the cells.
 use native.Mathlib.Omega.{arith}
 use borrow.Author.Needs.{needs}
 use denote.Ref.{now}

@@ -1,5 +1,5 @@
--- `op_compare_cells::miter::differing_lanes` meets its contract, which is its code. Assumes nothing.
-use mathlib.Core.Path.{_≡_, refl}
+-- `op_compare_cells::miter::differing_lanes` meets its contract, which is its code.
+use mathlib.Core.Path.{refl}
 use borrow.Author.Needs.{needs}
 use denote.Ref.{now}
 use Rattle.lanes_settings.proofs.OutputLaws.{output-there}
@@ -32,7 +32,5 @@ returns c =
 
 pub differing-lanes-spec : {M : Type 1} → statement M
 differing-lanes-spec =
-    tie.close
-    (tie.spec
-    (λ c κs. search needs) (λ c κs. search needs) output-pair-requires (λ c κs. search needs) (λ c κs. search needs)
-    (λ c κs. search needs) returns)
+    tie.close (tie.spec (λ c κs. search needs) (λ c κs. search needs) output-pair-requires (λ c κs. search needs)
+    (λ c κs. search needs) (λ c κs. search needs) returns)

@@ -1,6 +1,4 @@
 -- `op_compare_cells::miter::disagreeing_lanes` meets its contract: outputs are compared where the setting counts.
--- Assumes nothing.
-use mathlib.Core.Path.{_≡_}
 use borrow.Author.Needs.{needs}
 use denote.Ref.{now}
 use Rattle.op_compare_cells.proofs.Differences.{marks-disagreeing}
@@ -19,8 +17,7 @@ returns c =
     let known = counted .before in
     let s = start known in
     marks-disagreeing (now (s .args .words)) (now (s .args .shown)) (s .pre .1)
-    (rw (known .inputs-of .ensures) at (counted .counted-lanes .ensures))
-    (c .any-differing .ensures)
+    (rw (known .inputs-of .ensures) at (counted .counted-lanes .ensures)) (c .any-differing .ensures)
 
 pub disagreeing-lanes-spec : {M : Type 1} → statement M
 disagreeing-lanes-spec =

@@ -1,5 +1,5 @@
--- `op_compare_cells::miter::shown_word` meets its contract: a listed node has a place. Assumes nothing.
-use mathlib.Core.Path.{_≡_, refl}
+-- `op_compare_cells::miter::shown_word` meets its contract: a listed node has a place.
+use mathlib.Core.Path.{refl}
 use Prim.Native.Nat.{_<_}
 use native.Mathlib.Omega.{arith}
 use borrow.Author.Needs.{needs}
@@ -39,7 +39,6 @@ returns c = let p = c .before in rw (p .place-of .ensures, p .before .inputs-of 
 
 pub shown-word-spec : {M : Type 1} → statement M
 shown-word-spec =
-    tie.close
-    (tie.spec
-    (λ c. let s = c .before .before in omega (arith, s .pre .0 .long, s .pre .1)) read-word cast-word
-    (λ c κs. search needs) place-of-requires (λ c. omega (arith, inside c)) (λ c. omega (arith, inside c)) returns)
+    tie.close (tie.spec (λ c. let s = c .before .before in omega (arith, s .pre .0 .long, s .pre .1)) read-word
+    cast-word (λ c κs. search needs) place-of-requires (λ c. omega (arith, inside c)) (λ c. omega (arith, inside c))
+    returns)

@@ -1,6 +1,5 @@
--- `op_compare_cells::settings::search_settings` meets its contract: no setting of a batch passed disagrees. Assumes
--- nothing.
-use mathlib.Core.Path.{_≡_, refl, sym, _∙_}
+-- `op_compare_cells::settings::search_settings` meets its contract: no setting of a batch passed disagrees.
+use mathlib.Core.Path.{_≡_}
 use mathlib.Core.Bool.{Bool}
 use mathlib.Core.List.{List}
 use Prim.Native.Nat.{ℕ, _-_, _+_, _%_, _≤_, _<_}
@@ -188,13 +187,10 @@ accepted c =
     let l = c .before in
     let many = l .before .before .setting-count .ensures in
     found-none (counts l .inputs-of .ensures) many (l .loop .inv .agreed)
-    (omega (arith, many, l .loop .inv .place .within))
-    (c .loop-test .left)
+    (omega (arith, many, l .loop .inv .place .within)) (c .loop-test .left)
 
 pub search-settings-spec : {M : Type 1} → statement M
 search-settings-spec =
-    tie.close
-    (tie.spec
-    Inv-loop μ-loop (λ c κs. search needs) setting-count-requires (λ c κs. search needs) loop-holds
+    tie.close (tie.spec Inv-loop μ-loop (λ c κs. search needs) setting-count-requires (λ c κs. search needs) loop-holds
     judge-batch-requires evaluate-cells-requires disagreeing-lanes-requires (λ c κs. search needs)
     lowest-differing-requires add-output add-lane found add-base loop-less loop-again accepted)

@@ -1,4 +1,4 @@
--- `op_compare_cells::table::decode_cells` meets its contract: word after word is made. Assumes nothing.
+-- `op_compare_cells::table::decode_cells` meets its contract: word after word is made.
 use mathlib.Core.Path.{_≡_, refl}
 use Prim.Native.Nat.{_-_, _≤_}
 use native.Mathlib.Omega.{arith}
@@ -50,7 +50,5 @@ returns c =
 
 pub decode-cells-spec : {M : Type 1} → statement M
 decode-cells-spec =
-    tie.close
-    (tie.spec
-    Inv-loop μ-loop loop-holds (λ c κs. search needs) mul-table element-write-table (λ c. omega arith)
-    (λ c. omega arith) loop-again cast-count (λ c. search needs) returns)
+    tie.close (tie.spec Inv-loop μ-loop loop-holds (λ c κs. search needs) mul-table element-write-table
+    (λ c. omega arith) (λ c. omega arith) loop-again cast-count (λ c. search needs) returns)

@@ -1,6 +1,6 @@
 -- `op_compare_cells::table::table_word` meets its contract: every fifth word is a truth word, and the place of an
--- operand that is earlier fits a word. Assumes nothing.
-use mathlib.Core.Path.{_≡_, _∙_}
+-- operand that is earlier fits a word.
+use mathlib.Core.Path.{_∙_}
 use Prim.Native.Nat.{_<_}
 use denote.Ref.{now}
 use lib.ListN.{getD}
@@ -21,8 +21,7 @@ truth c = rw (eq-eqb _ _ (c .if1 .taken))
 -- the operand's word is a word, and its place fits one
 small : (c : tie.Else1)
     → let s =
-    c .before .before .before in placeOf
-    (operandOf (s .args .n) (getD (now (s .args .cells)) (s .args .p) 0)) < 65536
+    c .before .before .before in placeOf (operandOf (s .args .n) (getD (now (s .args .cells)) (s .args .p) 0)) < 65536
 small c =
     let s = c .before .before .before in
     place-small (legal-parts (s .args .n) (now (s .args .cells)) (s .pre .0)) (s .args .p) (s .pre .1) (c .if1 .left)
@@ -49,6 +48,5 @@ operand c = c .place-of .ensures ∙ rw (ne-eqb _ _ (c .before .if1 .left))
 
 pub table-word-spec : {M : Type 1} → statement M
 table-word-spec =
-    tie.close
-    (tie.spec
-    (λ c. search needs) (λ c. search needs) truth cast-place-of place-of-requires cast-result operand)
+    tie.close (tie.spec (λ c. search needs) (λ c. search needs) truth cast-place-of place-of-requires cast-result
+    operand)

@@ -1,4 +1,4 @@
--- `entries::is_left` meets its contract: the sum is the assignment's number (`number-is`). Assumes nothing.
+-- `entries::is_left` meets its contract: the sum is the assignment's number (`number-is`).
 use Prim.Native.Nat.{_+_, _^_, _≤_, _<_}
 use native.Mathlib.Omega.{arith}
 use lib.ListN.{getD}
@@ -13,20 +13,10 @@ small : (c : tie.Start)
     × (3 ^ (c .args .n) ≤ 3 ^ maxInputs)
 small c = number-below (c .pre .0) (c .pre .1) (c .pre .2)
 
-cast-result : tie.Need-cast-result
-cast-result c = omega (arith, small (c .before))
-
-add-result : tie.Need-add-result
-add-result c = omega (arith, small (c .before .before))
-
 shared-slice-read-result-2 : tie.Need-shared-slice-read-result-2
 shared-slice-read-result-2 c = let s = c .before .before .before in omega (arith, small s, s .pre .0 .room)
 
-returns : tie.Need-returns
-returns c = let s = c .before .before .before in left-is (s .pre .0) (s .pre .1) (s .pre .2)
-
 pub is-left-spec : {M : Type 1} → statement M
 is-left-spec =
-    tie.close
-    (tie.spec
-    (λ c. search needs) (λ c. search needs) cast-result add-result shared-slice-read-result-2 returns)
+    tie.close (tie.spec (λ c. search needs) (λ c. search needs) (λ c. omega (arith, small (c .before)))
+    (λ c. omega (arith, small (c .before .before))) shared-slice-read-result-2 (λ c. search left-is))

@@ -1,5 +1,5 @@
 -- `entries::list_entries` meets its contract: each turn lists a row; where all entries are counted, their words are
--- there. Assumes nothing.
+-- there.
 use Prim.Native.Nat.{_-_, _*_, _^_, _≤_, _<_}
 use mathlib.Core.Path.{ap, _∙_}
 use native.Mathlib.Omega.{arith}
@@ -19,12 +19,6 @@ Inv-loop marks weights n size total out₀ count₀ fixed₀ out count fixed =
 
 abbrev μ-loop : tie.MeasureT-loop
 μ-loop marks weights n size total out₀ count₀ fixed₀ out count fixed = 2 ^ n - fixed
-
-loop-holds : tie.Need-loop-holds Inv-loop μ-loop
-loop-holds c =
-    let start = c .before .before .before in
-    let args = start .args in
-    (omega arith, reached-first (args .marks .now) (args .n), words-first (args .marks .now) (args .out .now) (args .n))
 
 -- the entry, from a turn's beginning
 abbrev begun : tie.In-loop Inv-loop μ-loop → tie.Start Inv-loop μ-loop
@@ -59,12 +53,7 @@ add-fixed : tie.Need-add-fixed Inv-loop μ-loop
 add-fixed c =
     let turn : tie.In-loop Inv-loop μ-loop = search in
     let start : tie.Start Inv-loop μ-loop = search in
-    omega (
-      arith,
-      more turn,
-      two-fits {i = start .args .n} {n = start .args .n}
-          (omega arith) (start .pre .0 .0 .few),
-    )
+    omega (arith, more turn, two-fits {i = start .args .n} {n = start .args .n} (omega arith) (start .pre .0 .0 .few))
 
 loop-less : tie.Need-loop-less Inv-loop μ-loop
 loop-less c =
@@ -80,8 +69,7 @@ loop-again c =
     let listed = c .before .before .list-row .ensures in (
       omega (arith, more turn),
       listed .reached,
-      listed .row
-          (start .args .out .now) (loop .inv .2),
+      listed .row (start .args .out .now) (loop .inv .2),
     )
 
 same-length : tie.Need-same-length Inv-loop μ-loop
@@ -97,6 +85,5 @@ returns c =
 
 pub list-entries-spec : {M : Type 1} → statement M
 list-entries-spec =
-    tie.close
-    (tie.spec
-    Inv-loop μ-loop loop-holds row-base-requires list-row-requires add-fixed loop-less loop-again same-length returns)
+    tie.close (tie.spec Inv-loop μ-loop (λ c. search (reached-first, words-first, arith)) row-base-requires
+    list-row-requires add-fixed loop-less loop-again same-length returns)

@@ -1,4 +1,4 @@
--- `entries::row_base` meets its contract: twice the weight of a mask is less than 3^n. Assumes nothing.
+-- `entries::row_base` meets its contract: twice the weight of a mask is less than 3^n.
 use Prim.Native.Nat.{_+_, _*_, _^_, _≤_}
 use mathlib.Core.Path.{_≡_}
 use native.Mathlib.Omega.{arith}
@@ -20,23 +20,8 @@ fits c = (
   c .pre .0 .right (c .args .fixed) (c .pre .2),
 )
 
-sub-result : tie.Need-sub-result
-sub-result c = omega (arith, fits c)
-
-cast-result : tie.Need-cast-result
-cast-result c = omega (arith, fits (c .before))
-
-mul-result-2 : tie.Need-mul-result-2
-mul-result-2 c = omega (arith, fits (c .before))
-
-sub-result-2 : tie.Need-sub-result-2
-sub-result-2 c = omega (arith, fits (c .before))
-
-returns : tie.Need-returns
-returns c = omega (arith, fits (c .before))
-
 pub row-base-spec : {M : Type 1} → statement M
 row-base-spec =
-    tie.close
-    (tie.spec
-    sub-result (λ c. search needs) (λ c. search needs) cast-result mul-result-2 sub-result-2 returns)
+    tie.close (tie.spec (λ c. omega (arith, fits c)) (λ c. search needs) (λ c. search needs)
+    (λ c. omega (arith, fits (c .before))) (λ c. omega (arith, fits (c .before))) (λ c. omega (arith, fits (c .before)))
+    (λ c. omega (arith, fits (c .before))))

@@ -1,4 +1,4 @@
--- `entries::write_entries` meets its contract: the count tells whether there is room. Assumes nothing.
+-- `entries::write_entries` meets its contract: the count tells whether there is room.
 use Prim.Native.Nat.{_*_, _^_, _≤_}
 use native.Mathlib.Omega.{arith}
 use lib.ListN.{length}
@@ -19,16 +19,7 @@ mul-if1 c =
     let g : 2 ^ (args .n) * 2 ^ (args .n) ≤ 2 ^ (2 * maxInputs) = pairs-fit (start .pre .0 .few) in
     omega (arith, start .pre .3)
 
-returns : tie.Need-returns
-returns c =
-    let start : tie.Start = search in
-    let tested : tie.Then1 = search in
-    with-room (start .pre .3) (tested .if1 .taken) (c .before .before .list-entries .ensures)
-
-returns-2 : tie.Need-returns-2
-returns-2 c = let start : tie.Start = search in without-room (start .pre .3) (c .if1 .left)
-
 pub write-entries-spec : {M : Type 1} → statement M
 write-entries-spec =
-    tie.close
-    (tie.spec mul-if1 (λ c κs. search needs) (λ c. search needs) returns returns-2)
+    tie.close (tie.spec mul-if1 (λ c κs. search needs) (λ c. search needs) (λ c. search with-room)
+    (λ c. search without-room))

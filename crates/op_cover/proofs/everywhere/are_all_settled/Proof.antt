@@ -1,4 +1,4 @@
--- `everywhere::are_all_settled` meets its contract: the settings passed are settled. Assumes nothing.
+-- `everywhere::are_all_settled` meets its contract: the settings passed are settled.
 use Prim.Native.Nat.{ℕ, _-_, _^_, _≤_}
 use mathlib.Core.Path.{_≡_, refl, sym, ap, _∙_}
 use mathlib.Core.Bool.{true}
@@ -15,13 +15,13 @@ use Rattle.op_cover.proofs.everywhere.are_all_settled.Tie as tie
 
 abbrev Inv-loop : tie.InvT-loop
 Inv-loop settled n count setting₀ setting =
-    (setting ≤ 2 ^ n) × (count ≡ 2 ^ n) × (all (settledBy settled) (upTo setting) ≡ true)
+    record { within : setting ≤ 2 ^ n; counts : count ≡ 2 ^ n; pass : all (settledBy settled) (upTo setting) ≡ true }
 
 abbrev μ-loop : tie.MeasureT-loop
 μ-loop settled n count setting₀ setting = 2 ^ n - setting
 
 loop-holds : tie.Need-loop-holds Inv-loop μ-loop
-loop-holds c = (omega arith, shifted (c .pre .0), refl)
+loop-holds c = record { within = omega arith; counts = shifted (c .pre .0); pass = refl }
 
 returns : tie.Need-returns Inv-loop μ-loop
 unfolding settledBy
@@ -32,29 +32,30 @@ returns c =
     let settled = args .settled .now in
     let e = ne-eqb (getD settled (loop .setting) 0) 1 (c .if1 .taken) in
     sym (all-not (settledBy settled) (2 ^ (args .n)) (loop .setting)
-    (omega (arith, loop .inv .1, c .before .before .loop-test .taken)) e)
+    (omega (arith, loop .inv .counts, c .before .before .loop-test .taken)) e)
 
 loop-again : tie.Need-loop-again Inv-loop μ-loop
 unfolding settledBy
 loop-again c =
     let entry : tie.Start Inv-loop μ-loop = search in
     let loop = c .before .before .before .loop in
-    let settled = entry .args .settled .now in (
-      omega (arith, loop .inv .1, c .before .before .loop-test .taken),
-      loop .inv .1,
-      all-next (settledBy settled) (loop .setting) (loop .inv .2)
-          (eq-eqb (getD settled (loop .setting) 0) 1 (c .if1 .left)),
-    )
+    let settled = entry .args .settled .now in
+    record {
+      within = omega (arith, loop .inv .counts, c .before .before .loop-test .taken);
+      counts = loop .inv .counts;
+      pass =
+          all-next (settledBy settled) (loop .setting) (loop .inv .pass)
+          (eq-eqb (getD settled (loop .setting) 0) 1 (c .if1 .left));
+    }
 
 returns-2 : tie.Need-returns-2 Inv-loop μ-loop
 returns-2 c =
     let args = c .before .before .args in
-    let e : 2 ^ (args .n) ≡ c .before .loop .setting = omega (arith, c .before .loop .inv .1, c .loop-test .left) in
-    sym (ap (λ (k : ℕ). all (settledBy (args .settled .now)) (upTo k)) e ∙ c .before .loop .inv .2)
+    let loop = c .before .loop in
+    let e : 2 ^ (args .n) ≡ loop .setting = omega (arith, loop .inv .counts, c .loop-test .left) in
+    sym (ap (λ (k : ℕ). all (settledBy (args .settled .now)) (upTo k)) e ∙ loop .inv .pass)
 
 pub are-all-settled-spec : {M : Type 1} → statement M
 are-all-settled-spec =
-    tie.close
-    (tie.spec
-    Inv-loop μ-loop (λ c. search needs) loop-holds (λ c. search needs) returns (λ c. search needs) (λ c. search needs)
-    loop-again returns-2)
+    tie.close (tie.spec Inv-loop μ-loop (λ c. search needs) loop-holds (λ c. search needs) returns (λ c. search needs)
+    (λ c. search needs) loop-again returns-2)

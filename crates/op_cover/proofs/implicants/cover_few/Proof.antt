@@ -1,4 +1,4 @@
--- `cover_few` meets its contract: its tables are long enough for few inputs. Assumes nothing.
+-- `cover_few` meets its contract: its tables are long enough for few inputs.
 use native.Mathlib.Nat.{pow-le-pow-right}
 use native.Mathlib.Omega.{arith}
 use Rattle.theory_cover.specs.Tables.{fewInputs}
@@ -18,6 +18,5 @@ cover-within-requires c κs =
 
 pub cover-few-spec : {M : Type 1} → statement M
 cover-few-spec =
-    tie.close
-    (tie.spec
-    (λ c. search needs) (λ c. search needs) cover-within-requires (λ c. search needs) (λ c. search needs))
+    tie.close (tie.spec (λ c. search needs) (λ c. search needs) cover-within-requires (λ c. search needs)
+    (λ c. search needs))

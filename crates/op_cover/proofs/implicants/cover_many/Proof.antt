@@ -1,4 +1,4 @@
--- `cover_many` meets its contract: its tables are long enough for the most inputs. Assumes nothing.
+-- `cover_many` meets its contract: its tables are long enough for the most inputs.
 use native.Mathlib.Omega.{arith}
 use borrow.Author.Needs.{needs}
 use Rattle.op_cover.proofs.Bounds.{three-fits, two-fits}

@@ -1,5 +1,4 @@
--- `cover_within` meets its contract: the tables are right, so the entries that they show are the cover. Assumes
--- nothing.
+-- `cover_within` meets its contract: the tables are right, so the entries that they show are the cover.
 use native.Mathlib.Omega.{arith}
 use Rattle.op_cover.proofs.Dropping.{minimal-counted}
 use Rattle.op_cover.proofs.Joining.{filled-all}
@@ -7,12 +6,6 @@ use Rattle.op_cover.proofs.TableCover.{cover-written}
 use borrow.Author.Needs.{needs}
 use Rattle.op_cover.proofs.implicants.cover_within.Statement.{statement}
 use Rattle.op_cover.proofs.implicants.cover_within.Tie as tie
-
-keep-minimal-requires : tie.Need-keep-minimal-requires
-keep-minimal-requires c κs =
-    let sounded : tie.After-fill-sound = search in
-    let start : tie.Start = search in
-    (start .pre .0, filled-all (sounded .fill-sound .ensures), sounded .fill-sound .ensures .room)
 
 write-entries-requires : tie.Need-write-entries-requires
 write-entries-requires c κs =
@@ -25,16 +18,7 @@ write-entries-requires c κs =
       minimal-counted (minimal .keep-minimal .ensures),
     )
 
-returns : tie.Need-returns
-returns c =
-    let written = c .before .before in
-    let minimal : tie.After-keep-minimal = search in
-    let sounded : tie.After-fill-sound = search in
-    cover-written (sounded .fill-sound .ensures) (minimal .keep-minimal .ensures) (written .write-entries .ensures)
-
 pub cover-within-spec : {M : Type 1} → statement M
 cover-within-spec =
-    tie.close
-    (tie.spec
-    (λ c κs. search needs) (λ c κs. search needs) keep-minimal-requires write-entries-requires (λ c. search needs)
-    (λ c. search needs) (λ c. search needs) returns)
+    tie.close (tie.spec (λ c κs. search needs) (λ c κs. search needs) (λ c κs. search filled-all) write-entries-requires
+    (λ c. search needs) (λ c. search needs) (λ c. search needs) (λ c. search cover-written))

@@ -1,5 +1,5 @@
 -- `minimal::is_minimal` meets its contract: each input passed is free or needed (`Scanned`); one that can be dropped
--- decides at once. Assumes nothing.
+-- decides at once.
 use Prim.Native.Nat.{_+_, _-_, _*_, _%_, _^_, _≤_, _<_}
 use mathlib.Core.Logic.{⊎-elim}
 use native.Mathlib.Omega.{arith}
@@ -31,23 +31,6 @@ in-table c =
       start .pre .2,
     )
 
-loop-holds : tie.Need-loop-holds Inv-loop μ-loop
-loop-holds c = scan-start (c .args .sound .now) (c .args .n) (c .args .k)
-
-mul-if2 : tie.Need-mul-if2 Inv-loop μ-loop
-mul-if2 c = omega (arith, in-table c)
-
-add-if2 : tie.Need-add-if2 Inv-loop μ-loop
-add-if2 c = omega (arith, in-table c)
-
-shared-slice-read-if2 : tie.Need-shared-slice-read-if2 Inv-loop μ-loop
-shared-slice-read-if2 c = omega (arith, in-table (c .before))
-
-returns : tie.Need-returns Inv-loop μ-loop
-returns c =
-    let t = c .before .before in
-    not-minimal (t .before .before .loop .inv) (t .before .loop-test .taken) (t .if1 .taken) (c .if2 .taken)
-
 mul-power : tie.Need-mul-power Inv-loop μ-loop
 mul-power c =
     let start = c .before .before .before in
@@ -62,12 +45,8 @@ loop-again c =
     scan-next s l (⊎-elim (λ w. needed-fixed s l (w .0 .taken) (w .2 .left)) (λ w. needed-free s l (w .left))
     (c .if1 .came))
 
-returns-2 : tie.Need-returns-2 Inv-loop μ-loop
-returns-2 c = scan-all (c .before .loop .inv) (c .loop-test .left)
-
 pub is-minimal-spec : {M : Type 1} → statement M
 is-minimal-spec =
-    tie.close
-    (tie.spec
-    Inv-loop μ-loop loop-holds (λ c. search needs) mul-if2 add-if2 shared-slice-read-if2 returns mul-power
-    (λ c. search needs) (λ c. search needs) loop-again returns-2)
+    tie.close (tie.spec Inv-loop μ-loop (λ c. search scan-start) (λ c. search needs) (λ c. omega (arith, in-table c))
+    (λ c. omega (arith, in-table c)) (λ c. omega (arith, in-table (c .before))) (λ c. search not-minimal) mul-power
+    (λ c. search needs) (λ c. search needs) loop-again (λ c. search scan-all))

@@ -1,4 +1,4 @@
--- `pairs::next_ones` meets its contract: one law for each of its two answers. Assumes nothing.
+-- `pairs::next_ones` meets its contract: one law for each of its two answers.
 use Prim.Native.Nat.{_+_, _-_, _*_, _%_, _^_, _≤_}
 use mathlib.Core.Path.{_≡_}
 use native.Mathlib.Omega.{arith}

@@ -1,5 +1,4 @@
 -- `op_cover::table::fill_sound` meets its contract: after a batch the first bytes are flags up to its end.
--- Assumes nothing.
 use mathlib.Core.Path.{_≡_, refl, ap, _∙_}
 use mathlib.Core.List.{List}
 use Prim.Native.Nat.{ℕ, _+_, _-_, _^_, _≤_, _<_}
@@ -140,9 +139,7 @@ returns c =
 
 pub fill-sound-spec : {M : Type 1} → statement M
 fill-sound-spec =
-    tie.close
-    (tie.spec
-    Inv-loop μ-loop (λ c κs. search needs) (λ c κs. rw (c .inputs-of .ensures) (few (c .before .before .before)))
-    (λ c κs. search needs) loop-holds judge-batch-requires
-    (λ c κs. rw (sized (head (c .before)) .inputs-of .ensures) (c .before .judge-batch .ensures)) write-flags-requires
-    add-base loop-less loop-again (λ c. c .before .loop .inv .same) returns)
+    tie.close (tie.spec Inv-loop μ-loop (λ c κs. search needs)
+    (λ c κs. rw (c .inputs-of .ensures) (few (c .before .before .before))) (λ c κs. search needs) loop-holds
+    judge-batch-requires (λ c κs. rw (sized (head (c .before)) .inputs-of .ensures) (c .before .judge-batch .ensures))
+    write-flags-requires add-base loop-less loop-again (λ c. c .before .loop .inv .same) returns)

@@ -1,4 +1,4 @@
--- `op_cover::table::tabulate` meets its contract: the table is filled by the block's plan. Assumes nothing.
+-- `op_cover::table::tabulate` meets its contract: the table is filled by the block's plan.
 use mathlib.Core.Path.{sym}
 use Prim.Native.Nat.{_^_, _≤_}
 use borrow.Author.Needs.{needs}
@@ -22,10 +22,6 @@ planned c = let a = c .before .before .before in a .before .before
 room : (s : tie.Start) → 2 ^ getD (s .args .words .now) 0 0 ≤ length (s .args .settled .now)
 room s = rw (s .pre .1 .settledRoom) (few-settings _ (whole-parts (s .args .words .now) (s .pre .0) .fewInputs))
 
-plan-block-requires : tie.Need-plan-block-requires
-plan-block-requires c κs =
-    let a = c .before .before in let s = a .before .before .before in (s .pre .0, s .pre .1 .planRoom)
-
 fill-sound-requires : tie.Need-fill-sound-requires
 fill-sound-requires c κs =
     let p = planned c in
@@ -42,4 +38,4 @@ returns c =
     (rw (e .kept .1 .1 .1 .1 .1 .0) (room s)) (e .ensures)
 
 pub tabulate-spec : {M : Type 1} → statement M
-tabulate-spec = tie.close (tie.spec plan-block-requires fill-sound-requires (λ c. search needs) returns)
+tabulate-spec = tie.close (tie.spec (λ c κs. search needs) fill-sound-requires (λ c. search needs) returns)

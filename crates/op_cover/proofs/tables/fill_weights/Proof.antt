@@ -1,5 +1,5 @@
 -- `tables::fill_weights` meets its contract: the weights of the masks passed are right, and a mask's half is one of
--- them. Assumes nothing.
+-- them.
 use Prim.Native.Nat.{ℕ, _+_, _-_, _*_, _/_, _%_, _^_, _≤_, _<_}
 use mathlib.Core.Path.{_≡_, refl, _∙_}
 use native.Mathlib.Omega.{arith}
@@ -16,8 +16,13 @@ use Rattle.op_cover.proofs.tables.fill_weights.Tie as tie
 
 abbrev Inv-loop : tie.InvT-loop
 Inv-loop n weights₀ count mask₀ weights mask =
-    (1 ≤ mask) × (mask ≤ 2 ^ n) × (count ≡ 2 ^ n) × (length weights ≡ length weights₀) × ((m : ℕ) → m
-    < mask → getD weights m 0 ≡ weightOf n m)
+    record {
+      some : 1 ≤ mask;
+      within : mask ≤ 2 ^ n;
+      counts : count ≡ 2 ^ n;
+      same-length : length weights ≡ length weights₀;
+      right : (m : ℕ) → m < mask → getD weights m 0 ≡ weightOf n m;
+    }
 
 abbrev μ-loop : tie.MeasureT-loop
 μ-loop n weights₀ count mask₀ weights mask = 2 ^ n - mask
@@ -30,64 +35,42 @@ facts c =
     let loop = c .before .loop in
     let n = c .before .before .args .n in
     let pre = c .before .before .pre in
-    let l : loop .mask < 2 ^ n = omega (arith, loop .inv .2) in
+    let l : loop .mask < 2 ^ n = omega (arith, loop .inv .counts) in
     let two = two-fits {i = n} {n = n} (omega arith) (pre .0) in
     let three = three-fits {i = n} {n = n} (omega arith) (pre .0) in
-    let h = loop .inv .4 (loop .mask / 2) (omega (arith, loop .inv .0)) in (
-      omega (arith, simp length-set at (loop .inv .3), pre .1),
+    let h = loop .inv .right (loop .mask / 2) (omega (arith, loop .inv .some)) in (
+      omega (arith, simp length-set at (loop .inv .same-length), pre .1),
       omega (arith, two),
       omega (arith, h, weight-from-half n (loop .mask) l, weight-lt n (loop .mask), three),
     )
 
-slice-write-weights : tie.Need-slice-write-weights Inv-loop μ-loop
-slice-write-weights c = omega (arith, pow-pos (c .args .n), c .pre .1)
-
 loop-holds : tie.Need-loop-holds Inv-loop μ-loop
 loop-holds c =
-    let pos = pow-pos (c .args .n) in (
-      omega arith,
-      omega (arith, pos),
-      shifted (c .pre .0),
-      refl,
-      λ m l. weights-first (c .args .weights .now) (c .args .n) m (omega (arith, pos, c .pre .1)) l,
-    )
-
-mul-weights : tie.Need-mul-weights Inv-loop μ-loop
-mul-weights c = omega (arith, facts c)
-
-slice-read-weights : tie.Need-slice-read-weights Inv-loop μ-loop
-slice-read-weights c = omega (arith, facts (c .before))
-
-mul-weights-2 : tie.Need-mul-weights-2 Inv-loop μ-loop
-mul-weights-2 c = omega (arith, facts (c .before))
-
-cast-weights : tie.Need-cast-weights Inv-loop μ-loop
-cast-weights c = omega (arith, facts (c .before))
-
-add-weights : tie.Need-add-weights Inv-loop μ-loop
-add-weights c = omega (arith, facts (c .before))
-
-mul-weights-3 : tie.Need-mul-weights-3 Inv-loop μ-loop
-mul-weights-3 c = omega (arith, facts (c .before))
-
-slice-write-weights-2 : tie.Need-slice-write-weights-2 Inv-loop μ-loop
-slice-write-weights-2 c = omega (arith, facts (c .before))
+    let pos = pow-pos (c .args .n) in
+    record {
+      some = omega arith;
+      within = omega (arith, pos);
+      counts = shifted (c .pre .0);
+      same-length = refl;
+      right = λ m l. weights-first (c .args .weights .now) (c .args .n) m (omega (arith, pos, c .pre .1)) l;
+    }
 
 loop-again : tie.Need-loop-again Inv-loop μ-loop
 loop-again c =
     let loop = c .before .before .loop in
-    let l = c .before .loop-test .taken in (
-      omega arith,
-      omega (arith, l, loop .inv .2),
-      loop .inv .2,
-      simp length-set (simp length-set at (loop .inv .3)),
-      weights-next (loop .weights) (c .before .before .before .args .n) (loop .mask) (loop .inv .4)
-          (omega (arith, loop .inv .0))
-          (omega (arith, l, loop .inv .2)) (facts (c .before) .0),
-    )
+    let l = c .before .loop-test .taken in
+    record {
+      some = omega arith;
+      within = omega (arith, l, loop .inv .counts);
+      counts = loop .inv .counts;
+      same-length = simp length-set (simp length-set at (loop .inv .same-length));
+      right =
+          weights-next (loop .weights) (c .before .before .before .args .n) (loop .mask) (loop .inv .right)
+          (omega (arith, loop .inv .some)) (omega (arith, l, loop .inv .counts)) (facts (c .before) .0);
+    }
 
 same-length : tie.Need-same-length Inv-loop μ-loop
-same-length c = c .before .loop .inv .3 ∙ simp length-set
+same-length c = c .before .loop .inv .same-length ∙ simp length-set
 
 returns : tie.Need-returns Inv-loop μ-loop
 returns c =
@@ -95,14 +78,14 @@ returns c =
     let start = c .before .before in
     record {
       few = start .pre .0;
-      room = omega (arith, simp length-set at (loop .inv .3), start .pre .1);
-      right = λ m l. loop .inv .4 m (omega (arith, loop .inv .2, c .loop-test .left));
+      room = omega (arith, simp length-set at (loop .inv .same-length), start .pre .1);
+      right = λ m l. loop .inv .right m (omega (arith, loop .inv .counts, c .loop-test .left));
     }
 
 pub fill-weights-spec : {M : Type 1} → statement M
 fill-weights-spec =
-    tie.close
-    (tie.spec
-    Inv-loop μ-loop (λ c. search needs) slice-write-weights loop-holds mul-weights slice-read-weights mul-weights-2
-    cast-weights add-weights mul-weights-3 slice-write-weights-2 (λ c. search needs) (λ c. search needs) loop-again
-    same-length returns)
+    tie.close (tie.spec Inv-loop μ-loop (λ c. search needs) (λ c. omega (arith, pow-pos (c .args .n), c .pre .1))
+    loop-holds (λ c. omega (arith, facts c)) (λ c. omega (arith, facts (c .before)))
+    (λ c. omega (arith, facts (c .before))) (λ c. omega (arith, facts (c .before)))
+    (λ c. omega (arith, facts (c .before))) (λ c. omega (arith, facts (c .before)))
+    (λ c. omega (arith, facts (c .before))) (λ c. search needs) (λ c. search needs) loop-again same-length returns)

@@ -1,4 +1,4 @@
--- `tables::join_halves` meets its contract: what it reads stands below what it writes. Assumes nothing.
+-- `tables::join_halves` meets its contract: what it reads stands below what it writes.
 use Prim.Native.Nat.{_-_, _≤_}
 use mathlib.Core.Path.{_≡_}
 use native.Mathlib.Omega.{arith}
@@ -14,9 +14,6 @@ Inv-loop sound₀ k power j₀ sound j = (j ≤ power) × HalvesJoined sound₀ 
 abbrev μ-loop : tie.MeasureT-loop
 μ-loop sound₀ k power j₀ sound j = power - j
 
-loop-holds : tie.Need-loop-holds Inv-loop μ-loop
-loop-holds c = (omega arith, joined-none (c .args .sound .now) (c .args .k) (c .args .power))
-
 loop-again : tie.Need-loop-again Inv-loop μ-loop
 loop-again c =
     let entry : tie.Start Inv-loop μ-loop = search in
@@ -31,8 +28,7 @@ returns c =
 
 pub join-halves-spec : {M : Type 1} → statement M
 join-halves-spec =
-    tie.close
-    (tie.spec
-    Inv-loop μ-loop loop-holds (λ c. search needs) (λ c. search needs) (λ c. search needs) (λ c. search needs)
+    tie.close (tie.spec Inv-loop μ-loop (λ c. search (joined-none, arith)) (λ c. search needs) (λ c. search needs)
     (λ c. search needs) (λ c. search needs) (λ c. search needs) (λ c. search needs) (λ c. search needs)
-    (λ c. search needs) (λ c. search needs) loop-again (λ c. search needs) returns)
+    (λ c. search needs) (λ c. search needs) (λ c. search needs) (λ c. search needs) loop-again (λ c. search needs)
+    returns)

@@ -1,4 +1,4 @@
--- `op_gather::arranged::fill_table` meets its contract: after j turns j words stand. Assumes nothing.
+-- `op_gather::arranged::fill_table` meets its contract: after j turns j words stand.
 use Prim.Native.Nat.{_≤_, _<_, _-_}
 use mathlib.Core.Path.{_≡_, refl}
 use native.Mathlib.Omega.{arith}
@@ -30,12 +30,6 @@ loop-holds c = (omega arith, filling-none _)
 cast-table : tie.Need-cast-table Inv-loop μ-loop
 cast-table c = omega (arith, c .shared-slice-known .given (c .before .before .before .loop .j))
 
-add-table : tie.Need-add-table Inv-loop μ-loop
-add-table c = omega (arith, number-below (c .before .before))
-
-cast-table-2 : tie.Need-cast-table-2 Inv-loop μ-loop
-cast-table-2 c = omega (arith, number-below (c .before .before))
-
 loop-again : tie.Need-loop-again Inv-loop μ-loop
 unfolding newWord
 loop-again c =
@@ -53,7 +47,6 @@ returns c =
 
 pub fill-table-spec : {M : Type 1} → statement M
 fill-table-spec =
-    tie.close
-    (tie.spec
-    Inv-loop μ-loop loop-holds (λ c. omega arith) (λ c. omega arith) cast-table add-table cast-table-2
+    tie.close (tie.spec Inv-loop μ-loop loop-holds (λ c. omega arith) (λ c. omega arith) cast-table
+    (λ c. omega (arith, number-below (c .before .before))) (λ c. omega (arith, number-below (c .before .before)))
     (λ c. omega arith) (λ c. omega arith) (λ c. omega arith) (λ c. omega arith) loop-again same-length returns)

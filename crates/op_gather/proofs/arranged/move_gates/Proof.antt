@@ -1,4 +1,4 @@
--- `op_gather::arranged::move_gates` meets its contract: after t turns t gates stand. Assumes nothing.
+-- `op_gather::arranged::move_gates` meets its contract: after t turns t gates stand.
 use Prim.Native.Nat.{_-_, _≤_}
 use mathlib.Core.Path.{_≡_, refl, _∙_}
 use native.Mathlib.Omega.{arith}
@@ -55,7 +55,5 @@ returns c =
 
 pub move-gates-spec : {M : Type 1} → statement M
 move-gates-spec =
-    tie.close
-    (tie.spec
-    Inv-loop μ-loop loop-holds (λ c. omega arith) (λ c. omega arith) cast-write-gate write-gate-requires
-    (λ c. omega arith) (λ c. omega arith) loop-again same-length returns)
+    tie.close (tie.spec Inv-loop μ-loop loop-holds (λ c. omega arith) (λ c. omega arith) cast-write-gate
+    write-gate-requires (λ c. omega arith) (λ c. omega arith) loop-again same-length returns)

@@ -1,5 +1,5 @@
 -- `op_gather::arranged::write_arranged` meets its contract: the front as it is, the gates in the order listed, and the
--- outputs, one after the other, are the encoding of the arranged block. Assumes nothing.
+-- outputs, one after the other, are the encoding of the arranged block.
 use native.Mathlib.Omega.{arith}
 use Rattle.op_gather.proofs.Written.{ordered-as, Sizes, sizes, arranged-written}
 use borrow.Author.Needs.{needs}
@@ -33,12 +33,6 @@ moving c = c .before .before .before
 -- what the sizes are
 known : (p : tie.After-nodes-of) → Sizes (start p .args .words .now) (p .nodes-of .result)
 known p = sizes (start p .args .words .now) (start p .pre .whole) (p .nodes-of .ensures)
-
-mul-outputs : tie.Need-mul-outputs
-mul-outputs c = omega (arith, known (c .before))
-
-add-outputs : tie.Need-add-outputs
-add-outputs c = omega (arith, known (c .before .before))
 
 fill-table-requires : tie.Need-fill-table-requires
 fill-table-requires c κs =
@@ -99,7 +93,6 @@ returns c =
 
 pub write-arranged-spec : {M : Type 1} → statement M
 write-arranged-spec =
-    tie.close
-    (tie.spec
-    (λ c κs. search needs) mul-outputs add-outputs fill-table-requires copy-words-requires move-gates-requires
+    tie.close (tie.spec (λ c κs. search needs) (λ c. omega (arith, known (c .before)))
+    (λ c. omega (arith, known (c .before .before))) fill-table-requires copy-words-requires move-gates-requires
     (λ c κs. search needs) copy-outputs-requires (λ c. search needs) (λ c. search needs) returns)

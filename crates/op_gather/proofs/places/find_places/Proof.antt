@@ -1,5 +1,5 @@
 -- `op_gather::places::find_places` meets its contract: a list of another length is none, and before the walk nothing is
--- marked. Assumes nothing.
+-- marked.
 use Rattle.op_gather.proofs.Marks.{places-length, marked-none}
 use borrow.Author.Needs.{needs}
 use Rattle.op_gather.proofs.places.find_places.Statement.{statement}
@@ -16,12 +16,10 @@ mark-places-requires c κs =
     record {
       few = s .pre .0;
       lengthIs = else .if1 .left;
-      none = rw (fill .fill-words .ensures)
-          (marked-none _ _ (s .args .places .now));
+      none = rw (fill .fill-words .ensures) (marked-none _ _ (s .args .places .now));
     }
 
 pub find-places-spec : {M : Type 1} → statement M
 find-places-spec =
-    tie.close
-    (tie.spec
-    returns (λ c. search needs) (λ c κs. search needs) mark-places-requires (λ c. search needs) (λ c. search needs))
+    tie.close (tie.spec returns (λ c. search needs) (λ c κs. search needs) mark-places-requires (λ c. search needs)
+    (λ c. search needs))

@@ -1,4 +1,4 @@
--- `op_gather::steps::check_rooms` meets its contract: the first slice, and then the second. Assumes nothing.
+-- `op_gather::steps::check_rooms` meets its contract: the first slice, and then the second.
 use mathlib.Core.Path.{refl}
 use borrow.Author.Tests.{lt-ltb, le-ltb}
 use Rattle.words_refusals.specs.Tests.{testOf}

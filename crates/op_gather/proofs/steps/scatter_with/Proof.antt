@@ -1,5 +1,5 @@
 -- `op_gather::steps::scatter_with` meets its contract: the list's condition, the room's, and then the gates where the
--- list says. Assumes nothing.
+-- list says.
 use mathlib.Core.Path.{_≡_, refl, ap, _∙_}
 use mathlib.Core.Bool.{Bool, true, not}
 use native.Mathlib.Omega.{arith}
@@ -100,21 +100,15 @@ returns-3 c =
     let t = room-test e in
     let f = listing (order-test (t .before)) in
     let s = entry f in
-    finished
-    (passed bare keeps-bare _ _ NoRoom (scatter-room (now (s .args .words)) _ _ (s .pre .whole)
-    (counting f .gates-of .ensures) (passes (t .before)))
-    (t .test-room .ensures) (e .enum-told3 .given .1))
-    refl
+    finished (passed bare keeps-bare _ _ NoRoom (scatter-room (now (s .args .words)) _ _ (s .pre .whole)
+    (counting f .gates-of .ensures) (passes (t .before))) (t .test-room .ensures) (e .enum-told3 .given .1)) refl
     (scattered-written (now (s .args .words)) (s .pre .whole) _ (counting f .gates-of .ensures) _ _
     (f .find-places .ensures) (passes (t .before))
     (omega (arith, f .find-places .kept .1 .1 .0, s .pre .placeRoom, counting f .gates-of .ensures))
-    (s .args .original .now) _
-    (w .write-arranged .ensures))
+    (s .args .original .now) _ (w .write-arranged .ensures))
 
 pub scatter-with-spec : {M : Type 1} → statement M
 scatter-with-spec =
-    tie.close
-    (tie.spec
-    (λ c κs. search needs) find-places-requires (λ c κs. search needs) (λ c. search needs) (λ c. search needs)
-    (λ c κs. search needs) returns (λ c κs. search needs) (λ c. search needs) (λ c. search needs)
+    tie.close (tie.spec (λ c κs. search needs) find-places-requires (λ c κs. search needs) (λ c. search needs)
+    (λ c. search needs) (λ c κs. search needs) returns (λ c κs. search needs) (λ c. search needs) (λ c. search needs)
     (λ c κs. search needs) returns-2 write-arranged-requires (λ c. search needs) returns-3)

@@ -1,5 +1,4 @@
 -- `op_gather::steps::write_gathered` meets its contract: the list is the one by groups, its places are the new numbers.
--- Assumes nothing.
 use Prim.Native.Nat.{_≤_}
 use mathlib.Core.Path.{_≡_, sym}
 use native.Mathlib.Omega.{arith}
@@ -69,8 +68,7 @@ slice-aggregate-find-places : tie.Need-slice-aggregate-find-places
 slice-aggregate-find-places c =
     let l = c .before .before .before in
     let g = counting (numbering l) in
-    sym
-    (length-take-le (g .gates-of .result) _
+    sym (length-take-le (g .gates-of .result) _
     (omega (arith, g .gates-of .ensures, start g .pre .block .listRoom, l .list-members .kept .1 .1 .1 .0)))
 
 find-places-requires : tie.Need-find-places-requires
@@ -86,8 +84,7 @@ write-arranged-requires c κs =
     let g = counting (numbering l) in
     let s = start g in
     let orders = gathered-orders (now (s .args .words)) (s .pre .block .whole) _ (g .gates-of .ensures) _ _ _ (listed l)
-    (f .find-places .ensures)
-    (omega (arith, f .find-places .kept .1 .1 .0, s .pre .placeRoom, g .gates-of .ensures)) in
+    (f .find-places .ensures) (omega (arith, f .find-places .kept .1 .1 .0, s .pre .placeRoom, g .gates-of .ensures)) in
     record {
       whole = s .pre .block .whole;
       gates = orders .0;
@@ -106,14 +103,12 @@ returns c =
       gathered-written (now (s .args .words)) (s .pre .block .whole) _ (g .gates-of .ensures) _ _ _ (listed l)
           (f .find-places .ensures)
           (omega (arith, f .find-places .kept .1 .1 .0, s .pre .placeRoom, g .gates-of .ensures))
-          (s .args .gathered .now) _
-          (w .write-arranged .ensures),
+          (s .args .gathered .now) _ (w .write-arranged .ensures),
       listed l,
     )
 
 pub write-gathered-spec : {M : Type 1} → statement M
 write-gathered-spec =
-    tie.close
-    (tie.spec
-    (λ c κs. search needs) (λ c κs. search needs) list-members-requires (λ c. search needs) slice-aggregate-find-places
-    find-places-requires write-arranged-requires (λ c. search needs) (λ c. search needs) returns)
+    tie.close (tie.spec (λ c κs. search needs) (λ c κs. search needs) list-members-requires (λ c. search needs)
+    slice-aggregate-find-places find-places-requires write-arranged-requires (λ c. search needs) (λ c. search needs)
+    returns)

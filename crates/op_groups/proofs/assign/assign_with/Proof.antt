@@ -1,4 +1,4 @@
--- `op_groups::assign::assign_with` meets its contract: a block has its graph's groups. Assumes nothing.
+-- `op_groups::assign::assign_with` meets its contract: a block has its graph's groups.
 use borrow.Author.Needs.{needs}
 use Rattle.op_groups.proofs.Answered.{block-numbered}
 use Rattle.op_groups.proofs.assign.assign_with.Statement.{statement}
@@ -22,7 +22,5 @@ returns c =
 
 pub assign-with-spec : {M : Type 1} → statement M
 assign-with-spec =
-    tie.close
-    (tie.spec
-    (λ c κs. search needs) (λ c κs. search needs) number-groups-requires (λ c κs. search needs) (λ c. search needs)
-    returns)
+    tie.close (tie.spec (λ c κs. search needs) (λ c κs. search needs) number-groups-requires (λ c κs. search needs)
+    (λ c. search needs) returns)

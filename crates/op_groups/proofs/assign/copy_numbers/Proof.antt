@@ -1,4 +1,4 @@
--- `op_groups::assign::copy_numbers` meets its contract: number after number is copied. Assumes nothing.
+-- `op_groups::assign::copy_numbers` meets its contract: number after number is copied.
 use Prim.Native.Nat.{_-_}
 use native.Mathlib.Omega.{arith}
 use borrow.Author.Needs.{needs}
@@ -20,8 +20,6 @@ loop-again c =
 
 pub copy-numbers-spec : {M : Type 1} → statement M
 copy-numbers-spec =
-    tie.close
-    (tie.spec
-    Inv-loop μ-loop (λ c. tabled-none) (λ c κs. search needs) (λ c. omega arith) (λ c. omega arith) (λ c. search needs)
-    (λ c. search needs) loop-again (λ c. c .before .loop .inv .kept)
+    tie.close (tie.spec Inv-loop μ-loop (λ c. tabled-none) (λ c κs. search needs) (λ c. omega arith) (λ c. omega arith)
+    (λ c. search needs) (λ c. search needs) loop-again (λ c. c .before .loop .inv .kept)
     (λ c. tabled-all (c .before .loop .inv) (omega arith)))

@@ -1,4 +1,4 @@
--- `op_groups::numbering::number_all` meets its contract: each turn gives the next group its number. Assumes nothing.
+-- `op_groups::numbering::number_all` meets its contract: each turn gives the next group its number.
 use Prim.Native.Nat.{_-_, _≤_}
 use native.Mathlib.Omega.{arith}
 use lib.ListN.{length}
@@ -13,17 +13,20 @@ use Rattle.op_groups.proofs.numbering.number_all.Tie as tie
 
 abbrev Inv-loop : tie.InvT-loop
 Inv-loop graph m leaders nexts fanout numbers₀ counts₀ ready₀ g₀ numbers counts ready g =
-    (g ≤ length (groups (network m graph))) × NumberedUpTo m graph g numbers
-    × Waiting m leaders numbers m (allOpen graph leaders numbers) counts ready
+    record {
+      within : g ≤ length (groups (network m graph));
+      numbered : NumberedUpTo m graph g numbers;
+      waiting : Waiting m leaders numbers m (allOpen graph leaders numbers) counts ready;
+    }
 
 abbrev μ-loop : tie.MeasureT-loop
 μ-loop graph m leaders nexts fanout numbers₀ counts₀ ready₀ g₀ numbers counts ready g = m - g
 
 loop-holds : tie.Need-loop-holds Inv-loop μ-loop
-loop-holds c = (omega arith, c .pre .numbersAre, c .pre .waiting)
+loop-holds c = record { within = omega arith; numbered = c .pre .numbersAre; waiting = c .pre .waiting }
 
 lowest-requires : tie.Need-lowest-requires Inv-loop μ-loop
-lowest-requires c κs = omega (arith, c .before .before .before .loop .inv .2 .readyRoom)
+lowest-requires c κs = omega (arith, c .before .before .before .loop .inv .waiting .readyRoom)
 
 returns : tie.Need-returns Inv-loop μ-loop
 returns c =
@@ -32,9 +35,9 @@ returns c =
     let s = turn .before in
     let l = turn .loop in
     let r = s .pre .linked .prepared in
-    numbers-end r (l .inv .1)
-    (turn-last r (l .g) (l .inv .1) (s .args .m) (none-next r (l .inv .2) (found .lowest .ensures) (c .if1 .taken))
-    (l .inv .0) (omega arith))
+    numbers-end r (l .inv .numbered)
+    (turn-last r (l .g) (l .inv .numbered) (s .args .m)
+    (none-next r (l .inv .waiting) (found .lowest .ensures) (c .if1 .taken)) (l .inv .within) (omega arith))
 
 number-group-requires : tie.Need-number-group-requires Inv-loop μ-loop
 number-group-requires c κs =
@@ -45,18 +48,18 @@ number-group-requires c κs =
     let s = turn .before in
     let l = turn .loop in
     let r = s .pre .linked .prepared in
-    let next = lowest-next r (l .inv .2) (found .lowest .ensures) (chosen .if1 .left) in
-    let in-set = lowest-in r (l .inv .2) (found .lowest .ensures) (chosen .if1 .left) in
+    let next = lowest-next r (l .inv .waiting) (found .lowest .ensures) (chosen .if1 .left) in
+    let in-set = lowest-in r (l .inv .waiting) (found .lowest .ensures) (chosen .if1 .left) in
     record {
       linked = s .pre .linked;
       below = chosen .if1 .left;
       numberFits = omega (arith, test .loop-test .taken, r .legal .few);
-      room = l .inv .1 .room;
+      room = l .inv .numbered .room;
       bare =
-          turn-bare r (l .g) (l .inv .1) (found .lowest .result) next (chosen .if1 .left)
-          (l .inv .2 .sound (found .lowest .result) in-set .bare);
+          turn-bare r (l .g) (l .inv .numbered) (found .lowest .result) next (chosen .if1 .left)
+          (l .inv .waiting .sound (found .lowest .result) in-set .bare);
       chosen = in-set;
-      waiting = l .inv .2;
+      waiting = l .inv .waiting;
     }
 
 add-g : tie.Need-add-g Inv-loop μ-loop
@@ -77,12 +80,14 @@ loop-again c =
     let s = turn .before in
     let l = turn .loop in
     let r = s .pre .linked .prepared in
-    let next = lowest-next r (l .inv .2) (found .lowest .ensures) (chosen .if1 .left) in
-    let n = c .number-group .ensures in (
-      turn-within r (l .g) (l .inv .1) (found .lowest .result) next (chosen .if1 .left),
-      turn-numbers r (l .g) (l .inv .1) (found .lowest .result) next (chosen .if1 .left) (n .room) (n .each),
-      n .waiting,
-    )
+    let next = lowest-next r (l .inv .waiting) (found .lowest .ensures) (chosen .if1 .left) in
+    let n = c .number-group .ensures in
+    record {
+      within = turn-within r (l .g) (l .inv .numbered) (found .lowest .result) next (chosen .if1 .left);
+      numbered =
+          turn-numbers r (l .g) (l .inv .numbered) (found .lowest .result) next (chosen .if1 .left) (n .room) (n .each);
+      waiting = n .waiting;
+    }
 
 returns-2 : tie.Need-returns-2 Inv-loop μ-loop
 returns-2 c =
@@ -90,10 +95,9 @@ returns-2 c =
     let s = turn .before in
     let l = turn .loop in
     let r = s .pre .linked .prepared in
-    numbers-end r (l .inv .1) (end-late r (l .inv .0) (c .loop-test .left))
+    numbers-end r (l .inv .numbered) (end-late r (l .inv .within) (c .loop-test .left))
 
 pub number-all-spec : {M : Type 1} → statement M
 number-all-spec =
-    tie.close
-    (tie.spec
-    Inv-loop μ-loop loop-holds lowest-requires returns number-group-requires add-g loop-less loop-again returns-2)
+    tie.close (tie.spec Inv-loop μ-loop loop-holds lowest-requires returns number-group-requires add-g loop-less
+    loop-again returns-2)

@@ -1,5 +1,4 @@
 -- `op_groups::numbering::number_group` meets its contract: the gates of the group below the next one have the number.
--- Assumes nothing.
 use Prim.Native.Nat.{_-_}
 use native.Mathlib.Omega.{arith}
 use borrow.Author.Needs.{needs}
@@ -78,7 +77,5 @@ returns c =
 
 pub number-group-spec : {M : Type 1} → statement M
 number-group-spec =
-    tie.close
-    (tie.spec
-    Inv-loop μ-loop remove-requires loop-holds cast-numbers mul-numbers element-write-numbers count-down-requires
-    word-of-requires (λ c. search needs) loop-less loop-again returns)
+    tie.close (tie.spec Inv-loop μ-loop remove-requires loop-holds cast-numbers mul-numbers element-write-numbers
+    count-down-requires word-of-requires (λ c. search needs) loop-less loop-again returns)

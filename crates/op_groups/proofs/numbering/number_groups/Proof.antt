@@ -1,5 +1,5 @@
 -- `op_groups::numbering::number_groups` meets its contract: every array has room for the 1,024 gates that a graph may
--- have. Assumes nothing.
+-- have.
 use mathlib.Core.Path.{refl}
 use borrow.Author.Needs.{needs}
 use Rattle.op_groups.proofs.Sets.{zeros, set-empty}

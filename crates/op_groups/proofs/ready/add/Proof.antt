@@ -1,4 +1,4 @@
--- `op_groups::ready::add` meets its contract: one bit more. Assumes nothing.
+-- `op_groups::ready::add` meets its contract: one bit more.
 use native.Mathlib.Omega.{arith}
 use Rattle.op_groups.proofs.Sets.{set-added}
 use borrow.Author.Needs.{needs}
@@ -10,7 +10,5 @@ returns c = let s = c .before in set-added (s .args .l) (s .args .ready .now) (o
 
 pub add-spec : {M : Type 1} → statement M
 add-spec =
-    tie.close
-    (tie.spec
-    (λ c. search needs) (λ c. search needs) (λ c. search needs) (λ c. search needs) (λ c. search needs)
-    (λ c. search needs) returns)
+    tie.close (tie.spec (λ c. search needs) (λ c. search needs) (λ c. search needs) (λ c. search needs)
+    (λ c. search needs) (λ c. search needs) returns)

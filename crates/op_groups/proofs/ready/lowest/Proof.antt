@@ -1,4 +1,4 @@
--- `op_groups::ready::lowest` meets its contract: no gate of the words passed is in the set. Assumes nothing.
+-- `op_groups::ready::lowest` meets its contract: no gate of the words passed is in the set.
 use borrow.Author.Needs.{needs}
 use native.Mathlib.Omega.{arith}
 use Prim.Native.Nat.{_-_, _≤_}
@@ -10,13 +10,13 @@ use Rattle.op_groups.proofs.ready.lowest.Statement.{statement}
 use Rattle.op_groups.proofs.ready.lowest.Tie as tie
 
 abbrev Inv-loop : tie.InvT-loop
-Inv-loop ready at₀ at = (at ≤ length ready) × NoneBelow ready at
+Inv-loop ready at₀ at = record { within : at ≤ length ready; none : NoneBelow ready at }
 
 abbrev μ-loop : tie.MeasureT-loop
 μ-loop ready at₀ at = length ready - at
 
 loop-holds : tie.Need-loop-holds Inv-loop μ-loop
-loop-holds c = (omega arith, λ i l. absurd (omega arith))
+loop-holds c = record { within = omega arith; none = λ i l. absurd (omega arith) }
 
 add-result : tie.Need-add-result Inv-loop μ-loop
 add-result c =
@@ -26,7 +26,7 @@ add-result c =
       arith,
       c .lowest-lane .ensures,
       least-le (hasLane (getD (s .args .ready .now) (head .loop .at) 0)) 64,
-      head .loop .inv .0,
+      head .loop .inv .within,
       s .pre,
     )
 
@@ -35,28 +35,27 @@ returns c =
     let head : tie.At-loop Inv-loop μ-loop = search in
     let s : tie.Start Inv-loop μ-loop = search in
     let l = head .loop in
-    rw (c .lowest-lane .ensures)
-    (word-lowest (s .args .ready .now) (l .at) (l .inv .1)
+    rw (c .lowest-lane .ensures) (word-lowest (s .args .ready .now) (l .at) (l .inv .none)
     (omega (arith, c .before .before .shared-slice-known2 .given (l .at))) (c .before .if1 .taken)
     (c .before .before .before .loop-test .taken))
 
 loop-again : tie.Need-loop-again Inv-loop μ-loop
 loop-again c =
     let s : tie.Start Inv-loop μ-loop = search in
-    let l = c .before .before .before .loop in (
-      omega (arith, c .before .before .loop-test .taken),
-      empty-word (s .args .ready .now) (l .at) (l .inv .1) (c .if1 .left),
-    )
+    let l = c .before .before .before .loop in
+    record {
+      within = omega (arith, c .before .before .loop-test .taken);
+      none = empty-word (s .args .ready .now) (l .at) (l .inv .none) (c .if1 .left);
+    }
 
 returns-2 : tie.Need-returns-2 Inv-loop μ-loop
 returns-2 c =
     let s = c .before .before .before in
     let l = c .before .loop in
-    none-lowest (s .args .ready .now) (l .at) (l .inv .1) (omega (arith, l .inv .0, c .loop-test .left))
+    none-lowest (s .args .ready .now) (l .at) (l .inv .none) (omega (arith, l .inv .within, c .loop-test .left))
 
 pub lowest-spec : {M : Type 1} → statement M
 lowest-spec =
-    tie.close
-    (tie.spec
-    Inv-loop μ-loop loop-holds (λ c. search needs) (λ c. search needs) (λ c. search needs) (λ c κs. search needs)
-    add-result returns (λ c. search needs) (λ c. search needs) loop-again (λ c. search needs) returns-2)
+    tie.close (tie.spec Inv-loop μ-loop loop-holds (λ c. search needs) (λ c. search needs) (λ c. search needs)
+    (λ c κs. search needs) add-result returns (λ c. search needs) (λ c. search needs) loop-again (λ c. search needs)
+    returns-2)

@@ -1,4 +1,4 @@
--- `op_groups::ready::remove` meets its contract: one bit turns. Assumes nothing.
+-- `op_groups::ready::remove` meets its contract: one bit turns.
 use native.Mathlib.Omega.{arith}
 use Rattle.op_groups.proofs.Sets.{set-removed}
 use borrow.Author.Needs.{needs}
@@ -10,7 +10,5 @@ returns c = let s = c .before in set-removed (s .args .l) (s .args .ready .now) 
 
 pub remove-spec : {M : Type 1} → statement M
 remove-spec =
-    tie.close
-    (tie.spec
-    (λ c. search needs) (λ c. search needs) (λ c. search needs) (λ c. search needs) (λ c. search needs)
-    (λ c. search needs) returns)
+    tie.close (tie.spec (λ c. search needs) (λ c. search needs) (λ c. search needs) (λ c. search needs)
+    (λ c. search needs) (λ c. search needs) returns)

@@ -1,4 +1,4 @@
--- `op_groups::waiting::add_all_ready` meets its contract: gate after gate is looked at. Assumes nothing.
+-- `op_groups::waiting::add_all_ready` meets its contract: gate after gate is looked at.
 use Prim.Native.Nat.{_-_, _≤_}
 use mathlib.Core.Path.{_≡_}
 use native.Mathlib.Omega.{arith}
@@ -32,5 +32,5 @@ returns c =
 
 pub add-all-ready-spec : {M : Type 1} → statement M
 add-all-ready-spec =
-    tie.close
-    (tie.spec Inv-loop μ-loop loop-holds add-ready-requires (λ c. search needs) (λ c. search needs) loop-again returns)
+    tie.close (tie.spec Inv-loop μ-loop loop-holds add-ready-requires (λ c. search needs) (λ c. search needs) loop-again
+    returns)

@@ -1,4 +1,4 @@
--- `op_groups::waiting::add_ready` meets its contract, by both tests. Assumes nothing.
+-- `op_groups::waiting::add_ready` meets its contract, by both tests.
 use mathlib.Core.Path.{sym, _∙_}
 use borrow.Author.Needs.{needs}
 use Rattle.op_groups.proofs.Counted.{ready-skip, ready-more}
@@ -19,12 +19,9 @@ returns-3 c =
     let leads = zero .before .before in
     let s = leads .before .before in
     ready-more (s .pre .0) (c .add .kept .1 .0) (c .add .ensures)
-    (sym (leads .before .word-of .ensures) ∙ leads .if1 .left)
-    (sym (zero .before .word-of2 .ensures) ∙ zero .if2 .left)
+    (sym (leads .before .word-of .ensures) ∙ leads .if1 .left) (sym (zero .before .word-of2 .ensures) ∙ zero .if2 .left)
 
 pub add-ready-spec : {M : Type 1} → statement M
 add-ready-spec =
-    tie.close
-    (tie.spec
-    (λ c κs. search needs) (λ c. search needs) returns (λ c κs. search needs) returns-2 (λ c κs. search needs)
-    returns-3)
+    tie.close (tie.spec (λ c κs. search needs) (λ c. search needs) returns (λ c κs. search needs) returns-2
+    (λ c κs. search needs) returns-3)

@@ -1,5 +1,4 @@
 -- `op_groups::waiting::count_down` meets its contract: the list goes down over all slots that read the gate.
--- Assumes nothing.
 use Prim.Native.Nat.{suc, _+_, _-_}
 use mathlib.Core.Path.{_≡_}
 use native.Mathlib.Omega.{arith}
@@ -13,9 +12,10 @@ use Rattle.op_groups.proofs.waiting.count_down.Tie as tie
 
 abbrev Inv-loop : tie.InvT-loop
 Inv-loop graph m k leaders numbers fanout counts₀ ready₀ at₀ counts ready at =
-    CountingDown m graph k fanout at × Waiting m leaders numbers (getD leaders k 0)
-    (isOpen graph leaders numbers k at) counts
-    ready
+    record {
+      counting : CountingDown m graph k fanout at;
+      waiting : Waiting m leaders numbers (getD leaders k 0) (isOpen graph leaders numbers k at) counts ready;
+    }
 
 abbrev μ-loop : tie.MeasureT-loop
 μ-loop graph m k leaders numbers fanout counts₀ ready₀ at₀ counts ready at = at
@@ -26,10 +26,10 @@ fanout-word-requires c κs = omega (arith, c .pre .below, c .pre .prepared .lega
 loop-holds : tie.Need-loop-holds Inv-loop μ-loop
 loop-holds c =
     let s = c .before in
-    rw (c .fanout-word .ensures) (
-      counting-down-first (s .pre .linked) (s .pre .below) (s .pre .prepared .legal .few),
-      s .pre .waiting,
-    )
+    rw (c .fanout-word .ensures) record {
+      counting = counting-down-first (s .pre .linked) (s .pre .below) (s .pre .prepared .legal .few);
+      waiting = s .pre .waiting;
+    }
 
 count-down-slot-requires : tie.Need-count-down-slot-requires Inv-loop μ-loop
 count-down-slot-requires c κs =
@@ -40,24 +40,26 @@ count-down-slot-requires c κs =
     let next : l .at ≡ l .at - 1 + 1 = omega (arith, c .before .before .loop-test .taken) in
     record {
       prepared = s .pre .prepared;
-      slot = omega (arith, l .inv .0 .within, up);
+      slot = omega (arith, l .inv .counting .within, up);
       reads =
-          counting-down-reads (s .pre .linked) (s .pre .below) (s .pre .prepared .legal .few) (rw up at (l .inv .0));
+          counting-down-reads (s .pre .linked) (s .pre .below) (s .pre .prepared .legal .few)
+          (rw up at (l .inv .counting));
       below = s .pre .below;
       numbered = s .pre .numbered;
-      waiting = rw (← next) (l .inv .1);
+      waiting = rw (← next) (l .inv .waiting);
     }
 
 add-fanout-word : tie.Need-add-fanout-word Inv-loop μ-loop
 add-fanout-word c =
     let head : tie.At-loop Inv-loop μ-loop = search in
-    omega (arith, head .loop .inv .0 .within, head .before .before .pre .prepared .legal .few)
+    omega (arith, head .loop .inv .counting .within, head .before .before .pre .prepared .legal .few)
 
 fanout-word-requires-2 : tie.Need-fanout-word-requires-2 Inv-loop μ-loop
 fanout-word-requires-2 c κs =
     let turn : tie.In-loop Inv-loop μ-loop = search in
     let head = turn .before in
-    omega (arith, head .loop .inv .0 .within, head .before .before .pre .prepared .legal .few, turn .loop-test .taken)
+    let few = head .before .before .pre .prepared .legal .few in
+    omega (arith, head .loop .inv .counting .within, few, turn .loop-test .taken)
 
 loop-less : tie.Need-loop-less Inv-loop μ-loop
 loop-less c =
@@ -74,11 +76,12 @@ loop-again c =
     let l = head .loop in
     let up : l .at ≡ suc (l .at - 1) = omega (arith, turn .loop-test .taken) in
     let few = s .pre .prepared .legal .few in
-    rw (c .fanout-word2 .ensures) (
-      counting-down-next (s .pre .linked) (s .pre .below) few (rw up at (l .inv .0)),
-      counting-down-down (s .pre .linked) (s .pre .below) few (rw up at (l .inv .0)) (s .pre .numbered)
-          (c .before .count-down-slot .ensures),
-    )
+    rw (c .fanout-word2 .ensures) record {
+      counting = counting-down-next (s .pre .linked) (s .pre .below) few (rw up at (l .inv .counting));
+      waiting =
+          counting-down-down (s .pre .linked) (s .pre .below) few (rw up at (l .inv .counting)) (s .pre .numbered)
+          (c .before .count-down-slot .ensures);
+    }
 
 returns : tie.Need-returns Inv-loop μ-loop
 returns c =
@@ -86,12 +89,10 @@ returns c =
     let s = turn .before .before in
     let a = s .args in
     let end : turn .loop .at ≡ 0 = omega (arith, c .loop-test .left) in
-    waiting-as (turn .loop .inv .1)
+    waiting-as (turn .loop .inv .waiting)
     (λ e el. rw end (open-end (a .graph .now) (a .leaders .now) (a .numbers .now) (a .k) (s .pre .numbered) e))
 
 pub count-down-spec : {M : Type 1} → statement M
 count-down-spec =
-    tie.close
-    (tie.spec
-    Inv-loop μ-loop fanout-word-requires (λ c. search needs) loop-holds (λ c. search needs) count-down-slot-requires
-    add-fanout-word fanout-word-requires-2 (λ c. search needs) loop-less loop-again returns)
+    tie.close (tie.spec Inv-loop μ-loop fanout-word-requires (λ c. search needs) loop-holds (λ c. search needs)
+    count-down-slot-requires add-fanout-word fanout-word-requires-2 (λ c. search needs) loop-less loop-again returns)

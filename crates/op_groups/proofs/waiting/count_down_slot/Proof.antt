@@ -1,5 +1,5 @@
 -- `op_groups::waiting::count_down_slot` meets its contract: the group of another gate counts one slot less, and is
--- ready when none is left. Assumes nothing.
+-- ready when none is left.
 use mathlib.Core.Path.{sym, _∙_}
 use native.Mathlib.Omega.{arith}
 use borrow.Author.Needs.{needs}
@@ -53,10 +53,8 @@ returns-2 c =
     let led = apart .before .before in
     let s = led .before in
     let read = none .before .word-of3 .ensures in
-    rw read
-    (slot-ready (s .pre) (led .word-of .ensures) (λ q. apart .if1 .left (apart .before .word-of2 .ensures ∙ q))
-    (rw (← read) (none .if2 .taken))
-    (c .add .kept .1 .0) (c .add .ensures))
+    rw read (slot-ready (s .pre) (led .word-of .ensures) (λ q. apart .if1 .left (apart .before .word-of2 .ensures ∙ q))
+    (rw (← read) (none .if2 .taken)) (c .add .kept .1 .0) (c .add .ensures))
 
 returns-3 : tie.Need-returns-3
 returns-3 c =
@@ -69,8 +67,6 @@ returns-3 c =
 
 pub count-down-slot-spec : {M : Type 1} → statement M
 count-down-slot-spec =
-    tie.close
-    (tie.spec
-    (λ c κs. search needs) (λ c. search needs) (λ c κs. search needs) (λ c. search needs) returns word-of-requires-3
-    (λ c. search needs) sub-left (λ c. search needs) (λ c. search needs) element-write-counts add-requires returns-2
-    returns-3)
+    tie.close (tie.spec (λ c κs. search needs) (λ c. search needs) (λ c κs. search needs) (λ c. search needs) returns
+    word-of-requires-3 (λ c. search needs) sub-left (λ c. search needs) (λ c. search needs) element-write-counts
+    add-requires returns-2 returns-3)

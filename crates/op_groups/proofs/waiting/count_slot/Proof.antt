@@ -1,4 +1,4 @@
--- `op_groups::waiting::count_slot` meets its contract, by what the slot reads and its leader. Assumes nothing.
+-- `op_groups::waiting::count_slot` meets its contract, by what the slot reads and its leader.
 use Prim.Native.Nat.{_/_, _<_}
 use mathlib.Core.Path.{sym, _∙_}
 use native.Mathlib.Omega.{arith}
@@ -33,8 +33,7 @@ returns-2 c =
     let led = c .before .before in
     let read = led .before .before in
     let s = read .before in
-    counting-skip (s .pre .0)
-    (crosses-same (s .args .graph .now) (s .args .leaders .now) (s .args .e)
+    counting-skip (s .pre .0) (crosses-same (s .args .graph .now) (s .args .leaders .now) (s .args .e)
     (rw (← read .graph-word .ensures) (sym (c .before .word-of2 .ensures) ∙ c .if2 .taken ∙ led .word-of .ensures)))
 
 word-of-requires-3 : tie.Need-word-of-requires-3
@@ -86,8 +85,7 @@ returns-3 c =
     let within : s .args .e / slots < s .args .m = omega (arith, s .pre .1) in
     let low : led .word-of .result < s .args .m =
     omega (arith, led .word-of .ensures, lead-le (s .pre .0 .prepared) (s .args .e / slots) within) in
-    rw (c .word-of3 .ensures)
-    (counting-more (s .pre .0)
+    rw (c .word-of3 .ensures) (counting-more (s .pre .0)
     (crosses-other (s .args .graph .now) (s .args .leaders .now) (s .args .e)
     (omega (arith, read .graph-word .ensures, led .before .if1 .left))
     (rw (← read .graph-word .ensures) (λ q. other .if2 .left
@@ -96,8 +94,6 @@ returns-3 c =
 
 pub count-slot-spec : {M : Type 1} → statement M
 count-slot-spec =
-    tie.close
-    (tie.spec
-    (λ c. search needs) (λ c. search needs) (λ c κs. search needs) (λ c. search needs) returns (λ c κs. search needs)
-    (λ c. search needs) word-of-requires-2 (λ c. search needs) returns-2 word-of-requires-3 (λ c. search needs)
-    (λ c. search needs) cast-counts-2 (λ c. search needs) element-write-counts returns-3)
+    tie.close (tie.spec (λ c. search needs) (λ c. search needs) (λ c κs. search needs) (λ c. search needs) returns
+    (λ c κs. search needs) (λ c. search needs) word-of-requires-2 (λ c. search needs) returns-2 word-of-requires-3
+    (λ c. search needs) (λ c. search needs) cast-counts-2 (λ c. search needs) element-write-counts returns-3)

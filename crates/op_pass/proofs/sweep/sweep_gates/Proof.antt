@@ -1,5 +1,4 @@
--- `op_pass::sweep::sweep_gates` meets its contract: each gate is evaluated from the values already there. Assumes
--- nothing.
+-- `op_pass::sweep::sweep_gates` meets its contract: each gate is evaluated from the values already there.
 use Prim.Native.Nat.{_-_, _≤_}
 use native.Mathlib.Omega.{arith}
 use Rattle.graph_simulation.proofs.State.{legal-gate}
@@ -40,7 +39,5 @@ returns c = sweeping-end _ (c .before .before .pre .1) (c .before .loop .inv .1)
 
 pub sweep-gates-spec : {M : Type 1} → statement M
 sweep-gates-spec =
-    tie.close
-    (tie.spec
-    Inv-loop μ-loop loop-holds gate-value-requires (λ c. omega arith) element-write-values (λ c. omega arith)
-    (λ c. omega arith) loop-again returns)
+    tie.close (tie.spec Inv-loop μ-loop loop-holds gate-value-requires (λ c. omega arith) element-write-values
+    (λ c. omega arith) (λ c. omega arith) loop-again returns)

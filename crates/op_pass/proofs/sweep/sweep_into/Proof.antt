@@ -1,5 +1,4 @@
--- `op_pass::sweep::sweep_into` meets its contract: the sweep of the graph is the block's (`swept-bytes`). Assumes
--- nothing.
+-- `op_pass::sweep::sweep_into` meets its contract: the sweep of the graph is the block's (`swept-bytes`).
 use denote.Ref.{now}
 use Rattle.graph_simulation.proofs.Starts.{blank}
 use Rattle.op_pass.proofs.Sweeps.{swept-bytes}
@@ -31,15 +30,11 @@ returns c =
     let d = p .before .before in
     let a = start .args in (
       swept-bytes (now (a .words)) (now (a .setting)) (now (a .out)) (d .decode-gates .ensures)
-          (p .put-setting .ensures) _
-          (m .gates-of .ensures) (w .sweep-gates .ensures)
-          (t .take-gates .ensures),
+          (p .put-setting .ensures) _ (m .gates-of .ensures) (w .sweep-gates .ensures) (t .take-gates .ensures),
       m .gates-of .ensures,
     )
 
 pub sweep-into-spec : {M : Type 1} → statement M
 sweep-into-spec =
-    tie.close
-    (tie.spec
-    (λ c κs. search needs) (λ c κs. search needs) put-setting-requires (λ c κs. search needs) sweep-gates-requires
-    (λ c κs. search needs) (λ c. search needs) returns)
+    tie.close (tie.spec (λ c κs. search needs) (λ c κs. search needs) put-setting-requires (λ c κs. search needs)
+    sweep-gates-requires (λ c κs. search needs) (λ c. search needs) returns)

@@ -1,4 +1,4 @@
--- `op_read::steps::earlier_repeat` meets its contract. Assumes nothing.
+-- `op_read::steps::earlier_repeat` meets its contract.
 use Rattle.netlist.specs.declared.Refusal.the-variants.{DuplicateDeclaration}
 use Rattle.op_read.proofs.TestPlaces.{repeat-tells, other-alone, one-alone, one-first, other-first}
 use borrow.Author.Needs.{needs}
@@ -18,8 +18,7 @@ returns-3 c =
     let other = details .before .before .before in
     let one = other .before .before .before in
     one-first DuplicateDeclaration repeat-tells (one .one .given .1) (other .other .given .1)
-    (details .before .detail-of .ensures)
-    (details .detail-of2 .ensures) (c .if1 .taken)
+    (details .before .detail-of .ensures) (details .detail-of2 .ensures) (c .if1 .taken)
 
 returns-4 : tie.Need-returns-4
 returns-4 c =
@@ -27,12 +26,9 @@ returns-4 c =
     let other = details .before .before .before in
     let one = other .before .before .before in
     other-first DuplicateDeclaration repeat-tells (one .one .given .1) (other .other .given .1)
-    (details .before .detail-of .ensures)
-    (details .detail-of2 .ensures) (c .if1 .left)
+    (details .before .detail-of .ensures) (details .detail-of2 .ensures) (c .if1 .left)
 
 pub earlier-repeat-spec : {M : Type 1} → statement M
 earlier-repeat-spec =
-    tie.close
-    (tie.spec
-    (λ c. search needs) (λ c. search needs) returns (λ c. search needs) (λ c. search needs) returns-2
-    (λ c κs. search needs) (λ c κs. search needs) returns-3 returns-4)
+    tie.close (tie.spec (λ c. search needs) (λ c. search needs) returns (λ c. search needs) (λ c. search needs)
+    returns-2 (λ c κs. search needs) (λ c κs. search needs) returns-3 returns-4)

@@ -1,5 +1,5 @@
 -- `op_read::steps::read_tables` meets its contract: the tables, 4 as the lesser of two places, 5 in never lines, and
--- then the rest. Assumes nothing.
+-- then the rest.
 use native.Mathlib.Omega.{arith}
 use mathlib.Core.Path.{sym}
 use Prim.Native.Nat.{_+_}
@@ -44,8 +44,7 @@ returns c =
     let f = filled r in
     let s = entry (f .before) in
     twice (s .pre) (f .declare .ensures) (r .duplicate .ensures) (e .earlier-repeat .ensures) (s .args .block .now)
-    (c .before .before .match .keys2)
-    (c .refusal .ensures)
+    (c .before .before .match .keys2) (c .refusal .ensures)
 
 returns-2 : tie.Need-returns-2
 returns-2 c =
@@ -55,8 +54,7 @@ returns-2 c =
     let f = filled r in
     let s = entry (f .before) in
     outsider (s .pre) (f .declare .ensures) (r .duplicate .ensures) (e .earlier-repeat .ensures)
-    (once .enum-told .given .1) (s .args .block .now)
-    (c .before .before .match2 .keys2) (c .refusal2 .ensures)
+    (once .enum-told .given .1) (s .args .block .now) (c .before .before .match2 .keys2) (c .refusal2 .ensures)
 
 read-terms-requires : tie.Need-read-terms-requires
 read-terms-requires c κs =
@@ -67,13 +65,11 @@ read-terms-requires c κs =
     let r = repeats e in
     let f = filled r in
     terms-ready (entry (f .before) .pre) (f .declare .ensures) (r .duplicate .ensures) (e .earlier-repeat .ensures)
-    (once .enum-told .given .1)
-    (inside .enum-told3 .given .1)
+    (once .enum-told .given .1) (inside .enum-told3 .given .1)
 
 pub read-tables-spec : {M : Type 1} → statement M
 read-tables-spec =
-    tie.close
-    (tie.spec
-    declare-requires slice-aggregate-duplicate slice-aggregate-duplicate-2 (λ c. search needs) duplicate-requires
-    (λ c κs. search needs) (λ c. search needs) (λ c. search needs) (λ c κs. search needs) returns (λ c. search needs)
-    (λ c. search needs) (λ c κs. search needs) returns-2 read-terms-requires (λ c. search needs) (λ c. search needs))
+    tie.close (tie.spec declare-requires slice-aggregate-duplicate slice-aggregate-duplicate-2 (λ c. search needs)
+    duplicate-requires (λ c κs. search needs) (λ c. search needs) (λ c. search needs) (λ c κs. search needs) returns
+    (λ c. search needs) (λ c. search needs) (λ c κs. search needs) returns-2 read-terms-requires (λ c. search needs)
+    (λ c. search needs))

@@ -1,4 +1,4 @@
--- `op_read::steps::read_terms` meets its contract: 5 behind never lines, and then the rest. Assumes nothing.
+-- `op_read::steps::read_terms` meets its contract: 5 behind never lines, and then the rest.
 use native.Mathlib.Omega.{arith}
 use Rattle.op_read.proofs.Stages.{resolve-ready, unknown, write-ready}
 use borrow.Author.Needs.{needs}
@@ -33,7 +33,5 @@ finish-requires c κs =
 
 pub read-terms-spec : {M : Type 1} → statement M
 read-terms-spec =
-    tie.close
-    (tie.spec
-    (λ c. search needs) resolve-requires (λ c. search needs) (λ c. search needs)
+    tie.close (tie.spec (λ c. search needs) resolve-requires (λ c. search needs) (λ c. search needs)
     (λ c κs. search needs) returns finish-requires (λ c. search needs) (λ c. search needs))

@@ -1,5 +1,5 @@
 -- `op_render::listing::list_numbered` meets its contract: the numbers of the graph's groups are the block's, and list
--- them. Assumes nothing.
+-- them.
 use borrow.Author.Needs.{needs}
 use lib.ListN.{getD}
 use Rattle.netlist.specs.StoredBlock.{decode}
@@ -38,8 +38,6 @@ returns c =
 
 pub list-numbered-spec : {M : Type 1} → statement M
 list-numbered-spec =
-    tie.close
-    (tie.spec
-    (λ c κs. search needs)
+    tie.close (tie.spec (λ c κs. search needs)
     (λ c κs. let m = c .before in (rw (m .gates-of .ensures) (start m .pre .0 .legal), start m .pre .1 .0))
     list-groups-requires returns)

@@ -1,5 +1,5 @@
 -- `op_render::writing::finish` meets its contract: the room is the rendered block's length, and the words are the
--- rendering's. Assumes nothing.
+-- rendering's.
 use Prim.Native.Nat.{_+_, _*_}
 use mathlib.Core.Path.{_≡_, sym}
 use native.Mathlib.Omega.{arith}
@@ -116,8 +116,6 @@ returns-2 c =
 
 pub finish-spec : {M : Type 1} → statement M
 finish-spec =
-    tie.close
-    (tie.spec
-    (λ c κs. search needs) (λ c κs. search needs) (λ c κs. search needs) outputs-behind-requires mul-size add-size
-    (λ c κs. search needs) (λ c. search needs) (λ c. search needs) (λ c κs. search needs) returns write-copies-requires
-    (λ c. search needs) returns-2)
+    tie.close (tie.spec (λ c κs. search needs) (λ c κs. search needs) (λ c κs. search needs) outputs-behind-requires
+    mul-size add-size (λ c κs. search needs) (λ c. search needs) (λ c. search needs) (λ c κs. search needs) returns
+    write-copies-requires (λ c. search needs) returns-2)

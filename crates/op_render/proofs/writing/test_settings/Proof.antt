@@ -1,5 +1,5 @@
 -- `op_render::writing::test_settings` meets its contract: what is lowest among 2 ^ n settings tells whether the block
--- is sound. Assumes nothing.
+-- is sound.
 use native.Mathlib.Omega.{arith}
 use borrow.Author.Needs.{needs}
 use Rattle.theory_encoding.proofs.Readers.{whole-parts}

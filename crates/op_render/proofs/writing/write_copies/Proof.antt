@@ -1,5 +1,4 @@
--- `op_render::writing::write_copies` meets its contract: the parts one behind the other are the schedule. Assumes
--- nothing.
+-- `op_render::writing::write_copies` meets its contract: the parts one behind the other are the schedule.
 use native.Mathlib.Omega.{arith}
 use borrow.Author.Needs.{needs}
 use Rattle.theory_encoding.proofs.Readers.{whole-parts}
@@ -12,8 +11,7 @@ append-parts-requires c κs =
     let s : tie.Start = search in
     let r = s .pre .0 in (
       r .fewGroups,
-      rw (r .copies, schedule-length (s .args .words .now) (s .args .total) (r .totalIs))
-          (omega (arith, r .fits)),
+      rw (r .copies, schedule-length (s .args .words .now) (s .args .total) (r .totalIs)) (omega (arith, r .fits)),
     )
 
 write-rendering-requires : tie.Need-write-rendering-requires
@@ -33,7 +31,5 @@ write-rendering-requires c κs =
 
 pub write-copies-spec : {M : Type 1} → statement M
 write-copies-spec =
-    tie.close
-    (tie.spec
-    (λ c. search needs) append-parts-requires (λ c. search needs) (λ c. search needs) write-rendering-requires
-    (λ c. search needs) (λ c. search needs))
+    tie.close (tie.spec (λ c. search needs) append-parts-requires (λ c. search needs) (λ c. search needs)
+    write-rendering-requires (λ c. search needs) (λ c. search needs))

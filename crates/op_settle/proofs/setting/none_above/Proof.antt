@@ -1,5 +1,4 @@
--- `op_settle::setting::none_above` meets its contract. The loop's invariant: no byte passed is above `most`. Assumes
--- nothing.
+-- `op_settle::setting::none_above` meets its contract. The loop's invariant: no byte passed is above `most`.
 use mathlib.Core.Path.{_≡_, sym, _∙_}
 use mathlib.Core.Bool.{true, false, true≢false}
 use Prim.Native.Nat.{ℕ, _≤_, _<_, _-_}
@@ -44,6 +43,5 @@ returns-2 c =
 
 pub none-above-spec : {M : Type 1} → statement M
 none-above-spec =
-    tie.close
-    (tie.spec
-    Inv-loop μ-loop loop-holds (λ c. omega arith) returns (λ c. omega arith) (λ c. omega arith) loop-again returns-2)
+    tie.close (tie.spec Inv-loop μ-loop loop-holds (λ c. omega arith) returns (λ c. omega arith) (λ c. omega arith)
+    loop-again returns-2)

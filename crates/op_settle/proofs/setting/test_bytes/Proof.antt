@@ -1,4 +1,4 @@
--- `op_settle::setting::test_bytes` meets its contract: the length is tested, and then the bytes. Assumes nothing.
+-- `op_settle::setting::test_bytes` meets its contract: the length is tested, and then the bytes.
 use mathlib.Core.Path.{_≡_}
 use mathlib.Core.Bool.{not}
 use denote.Ref.{now}

@@ -1,5 +1,4 @@
--- `op_settle::setting::test_setting` meets its contract: the bytes of a block's inputs, in three values. Assumes
--- nothing.
+-- `op_settle::setting::test_setting` meets its contract: the bytes of a block's inputs, in three values.
 use denote.Ref.{now}
 use borrow.Author.Needs.{needs}
 use Rattle.op_settle.proofs.Settings.{bad-setting}

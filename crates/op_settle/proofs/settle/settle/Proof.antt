@@ -1,5 +1,5 @@
 -- `op_settle::settle::settle` meets its contract: the tests are the definition's conditions in its order, and then the
--- rounds settle. Assumes nothing.
+-- rounds settle.
 use mathlib.Core.Path.{_≡_, _∙_}
 use mathlib.Core.List.{map}
 use denote.Ref.{now}
@@ -37,8 +37,7 @@ room-test c = c .before .before
 -- what is left of the chain of conditions behind each
 behind-words : (c : tie.After-enum-told) → let a = start (words-test c) .args in
     settle (now (a .words)) (now (a .setting)) (length (now (a .values)))
-    ≡ inRoom (length (now (a .values)))
-    (refuseIf (isBadSetting (decode (now (a .words))) (now (a .setting))) BadSetting
+    ≡ inRoom (length (now (a .values))) (refuseIf (isBadSetting (decode (now (a .words))) (now (a .setting))) BadSetting
     (settleBlock (decode (now (a .words))) (map valueOf (now (a .setting)))))
 behind-words c =
     passed (inRoom _) (keeps-room _) _ _ MalformedBlock (settle-chain _ _ _) (words-test c .check-words .ensures)
@@ -59,15 +58,13 @@ returns : tie.Need-returns
 returns c =
     let t = c .before .before .before in
     failed (inRoom _) (keeps-room _) _ _ MalformedBlock (settle-chain _ _ _) (t .check-words .ensures)
-    (now (start t .args .values))
-    (c .before .before .match .keys2) (c .refusal .ensures)
+    (now (start t .args .values)) (c .before .before .match .keys2) (c .refusal .ensures)
 
 returns-2 : tie.Need-returns-2
 returns-2 c =
     let t = c .before .before .before in
     failed (inRoom _) (keeps-room _) _ _ BadSetting (behind-words (t .before)) (t .test-setting .ensures)
-    (now (start (words-test (t .before)) .args .values))
-    (c .before .before .match2 .keys2) (c .refusal2 .ensures)
+    (now (start (words-test (t .before)) .args .values)) (c .before .before .match2 .keys2) (c .refusal2 .ensures)
 
 returns-3 : tie.Need-returns-3
 returns-3 c =
@@ -95,16 +92,13 @@ returns-4 : tie.Need-returns-4
 returns-4 c =
     let t : tie.After-enum-told5 = search in
     let d = c .before .before .settle-into .ensures in
-    finished
-    (passed bare keeps-bare _ _ NoRoom (behind-setting (room-test t .before .before))
+    finished (passed bare keeps-bare _ _ NoRoom (behind-setting (room-test t .before .before))
     (rw (← room-test t .before .gates-of .ensures) (room-test t .test-room .ensures)) (t .enum-told5 .given .1))
     (d .reported) (d .values)
 
 pub settle-spec : {M : Type 1} → statement M
 settle-spec =
-    tie.close
-    (tie.spec
-    (λ c κs. search needs) (λ c. search needs) (λ c. search needs) (λ c κs. search needs) returns
+    tie.close (tie.spec (λ c κs. search needs) (λ c. search needs) (λ c. search needs) (λ c κs. search needs) returns
     (λ c κs. search needs) (λ c. search needs) (λ c. search needs) (λ c κs. search needs) returns-2
     (λ c κs. search needs) (λ c κs. search needs) (λ c. search needs) (λ c. search needs) (λ c κs. search needs)
     returns-3 settle-into-requires (λ c. search needs) returns-4)

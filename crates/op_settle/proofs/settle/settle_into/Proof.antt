@@ -1,5 +1,4 @@
 -- `op_settle::settle::settle_into` meets its contract: the graph's settled values are the block's (`settled-bytes`).
--- Assumes nothing.
 use mathlib.Core.Path.{refl}
 use denote.Ref.{now}
 use Rattle.graph_simulation.proofs.Starts.{empty, blank}
@@ -51,12 +50,9 @@ returns c =
     let r = ready (put v) in
     let a = start r .args in
     settled-bytes (now (a .setting)) (now (a .out)) (r .prepare .ensures .decoded) (put v .put-setting .ensures) _
-    (after-gates-of .gates-of .ensures)
-    (t .before .before .before .settle-prepared .ensures) (t .take-gates .ensures)
+    (after-gates-of .gates-of .ensures) (t .before .before .before .settle-prepared .ensures) (t .take-gates .ensures)
 
 pub settle-into-spec : {M : Type 1} → statement M
 settle-into-spec =
-    tie.close
-    (tie.spec
-    (λ c κs. search needs) prepare-requires put-setting-requires (λ c κs. search needs) settle-prepared-requires
-    (λ c κs. search needs) (λ c. search needs) returns)
+    tie.close (tie.spec (λ c κs. search needs) prepare-requires put-setting-requires (λ c κs. search needs)
+    settle-prepared-requires (λ c κs. search needs) (λ c. search needs) returns)

@@ -1,5 +1,4 @@
--- `op_sheet::inputs::put_records` meets its contract: after k turns the first k inputs' pairs stand there. Assumes
--- nothing.
+-- `op_sheet::inputs::put_records` meets its contract: after k turns the first k inputs' pairs stand there.
 use mathlib.Core.Path.{_≡_}
 use Prim.Native.Nat.{_-_, _≤_}
 use native.Mathlib.Omega.{arith}
@@ -43,7 +42,5 @@ returns c =
 
 pub put-records-spec : {M : Type 1} → statement M
 put-records-spec =
-    tie.close
-    (tie.spec
-    Inv-loop μ-loop loop-holds (λ c. omega arith) record-pair-requires (λ c κs. omega arith) (λ c. omega arith)
-    (λ c. omega arith) loop-again returns)
+    tie.close (tie.spec Inv-loop μ-loop loop-holds (λ c. omega arith) record-pair-requires (λ c κs. omega arith)
+    (λ c. omega arith) (λ c. omega arith) loop-again returns)

@@ -1,5 +1,5 @@
 -- `op_sheet::inputs::record_pair` meets its contract: the pair is packed from the last record to the first
--- (`packed-next`). Assumes nothing.
+-- (`packed-next`).
 use mathlib.Core.Path.{_≡_, refl, sym}
 use mathlib.Core.Bool.{cond}
 use Prim.Native.Nat.{_-_, _<_}
@@ -98,9 +98,7 @@ returns c = packed-all (c .before .loop .inv) (omega arith)
 
 pub record-pair-spec : {M : Type 1} → statement M
 record-pair-spec =
-    tie.close
-    (tie.spec
-    Inv-loop μ-loop loop-holds (λ c. omega arith) (λ c. omega (arith, small c)) small
+    tie.close (tie.spec Inv-loop μ-loop loop-holds (λ c. omega arith) (λ c. omega (arith, small c)) small
     (λ c. omega (arith, small (c .before))) (λ c. small (c .before)) mul-zeros
     (λ c κs. entry (c .before .before) .pre .1) add-zeros mul-marked
     (λ c κs. let z = c .before in entry (z .before .before) .pre .1) add-marked (λ c. omega arith) loop-again returns)

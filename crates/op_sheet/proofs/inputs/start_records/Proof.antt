@@ -1,4 +1,4 @@
--- `op_sheet::inputs::start_records` meets its contract: the constants, then the inputs. Assumes nothing.
+-- `op_sheet::inputs::start_records` meets its contract: the constants, then the inputs.
 use Rattle.op_sheet.proofs.SideLaws.{records-started}
 use Rattle.op_sheet.proofs.inputs.start_records.Statement.{statement}
 use Rattle.op_sheet.proofs.inputs.start_records.Tie as tie

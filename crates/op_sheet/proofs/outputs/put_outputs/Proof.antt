@@ -1,5 +1,4 @@
--- `op_sheet::outputs::put_outputs` meets its contract: after o turns the first o outputs' pairs stand there. Assumes
--- nothing.
+-- `op_sheet::outputs::put_outputs` meets its contract: after o turns the first o outputs' pairs stand there.
 use mathlib.Core.Path.{_≡_, refl, _∙_}
 use Prim.Native.Nat.{_-_, _≤_, _<_}
 use native.Mathlib.Omega.{arith}
@@ -71,12 +70,9 @@ returns c =
 
 pub put-outputs-spec : {M : Type 1} → statement M
 put-outputs-spec =
-    tie.close
-    (tie.spec
-    Inv-loop μ-loop (λ c κs. search needs) (λ c κs. search needs) (λ c κs. search needs) loop-holds output-pair-requires
+    tie.close (tie.spec Inv-loop μ-loop (λ c κs. search needs) (λ c κs. search needs) (λ c κs. search needs) loop-holds
+    output-pair-requires (λ c. omega (arith, small (c .before))) (λ c. omega (arith, small (c .before)))
     (λ c. omega (arith, small (c .before))) (λ c. omega (arith, small (c .before)))
-    (λ c. omega (arith, small (c .before)))
     (λ c. omega (arith, small (c .before))) (λ c. omega (arith, small (c .before)))
-    (λ c. omega (arith, small (c .before)))
     (λ c. omega (arith, small (c .before))) (λ c. omega (arith, small (c .before))) (λ c. omega arith) loop-again
     returns)

@@ -1,4 +1,4 @@
--- `op_sheet::outputs::show_lane` meets its contract: the masks of the outputs from o on are gathered. Assumes nothing.
+-- `op_sheet::outputs::show_lane` meets its contract: the masks of the outputs from o on are gathered.
 use mathlib.Core.Path.{_≡_, sym, _∙_}
 use mathlib.Core.Bool.{cond}
 use Prim.Native.Nat.{_-_, _<_}
@@ -83,10 +83,6 @@ returns c = gathered-record _ _ (c .before .loop .inv) (omega arith)
 
 pub show-lane-spec : {M : Type 1} → statement M
 show-lane-spec =
-    tie.close
-    (tie.spec
-    Inv-loop μ-loop (λ c κs. search needs) loop-holds (λ c. omega arith) mul-defined
-    (λ c κs. (small c, entry c .pre .1))
-    add-defined mul-values (λ c κs. (small (c .before), entry (c .before) .pre .1)) add-values (λ c. omega arith)
-    loop-again
-    returns)
+    tie.close (tie.spec Inv-loop μ-loop (λ c κs. search needs) loop-holds (λ c. omega arith) mul-defined
+    (λ c κs. (small c, entry c .pre .1)) add-defined mul-values (λ c κs. (small (c .before), entry (c .before) .pre .1))
+    add-values (λ c. omega arith) loop-again returns)

@@ -1,5 +1,4 @@
 -- `op_sheet::settling::settle_lanes` meets its contract: a straight block is settled by one sweep, another by its plan.
--- Assumes nothing.
 use borrow.Author.Needs.{needs}
 use Rattle.netlist.specs.declared.Refusal.the-variants.{NotStraight}
 use Rattle.words_refusals.proofs.Promised.{passed-false}
@@ -37,7 +36,5 @@ returns-2 c =
 
 pub settle-lanes-spec : {M : Type 1} → statement M
 settle-lanes-spec =
-    tie.close
-    (tie.spec
-    (λ c κs. search needs) (λ c. search needs) (λ c. search needs) (λ c κs. search needs) (λ c. search needs)
-    (λ c κs. search needs) (λ c κs. search needs) settle-straight-requires returns-2)
+    tie.close (tie.spec (λ c κs. search needs) (λ c. search needs) (λ c. search needs) (λ c κs. search needs)
+    (λ c. search needs) (λ c κs. search needs) (λ c κs. search needs) settle-straight-requires returns-2)

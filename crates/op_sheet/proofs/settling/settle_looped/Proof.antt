@@ -1,4 +1,4 @@
--- `op_sheet::settling::settle_looped` meets its contract: the lanes are settled by the plan. Assumes nothing.
+-- `op_sheet::settling::settle_looped` meets its contract: the lanes are settled by the plan.
 use borrow.Author.Needs.{needs}
 use Rattle.op_sheet.proofs.SettledLaws.{fixed-decoded}
 use Rattle.op_sheet.proofs.settling.settle_looped.Statement.{statement}
@@ -25,5 +25,4 @@ returns c =
     fixed-decoded (planned m .plan-block .ensures .decoded) (rw (m .gates-of .ensures) at (c .settle-layers .ensures))
 
 pub settle-looped-spec : {M : Type 1} → statement M
-settle-looped-spec =
-    tie.close (tie.spec (λ c κs. search needs) (λ c κs. search needs) settle-layers-requires returns)
+settle-looped-spec = tie.close (tie.spec (λ c κs. search needs) (λ c κs. search needs) settle-layers-requires returns)

@@ -1,4 +1,4 @@
--- `op_sheet::settling::settle_records` meets its contract: the lanes are started, settled and shown. Assumes nothing.
+-- `op_sheet::settling::settle_records` meets its contract: the lanes are started, settled and shown.
 use denote.Ref.{now}
 use borrow.Author.Needs.{needs}
 use Rattle.theory_encoding.proofs.Readers.{whole-parts}
@@ -48,7 +48,5 @@ returns c =
 
 pub settle-records-spec : {M : Type 1} → statement M
 settle-records-spec =
-    tie.close
-    (tie.spec
-    (λ c κs. search needs) (λ c κs. search needs) start-records-requires settle-lanes-requires put-outputs-requires
-    returns)
+    tie.close (tie.spec (λ c κs. search needs) (λ c κs. search needs) start-records-requires settle-lanes-requires
+    put-outputs-requires returns)

@@ -1,4 +1,4 @@
--- `op_sheet::turns::answer` meets its contract: the record as it was, or the answer. Assumes nothing.
+-- `op_sheet::turns::answer` meets its contract: the record as it was, or the answer.
 use mathlib.Core.Path.{refl}
 use borrow.Author.Needs.{needs}
 use borrow.Author.Tests.{lt-ltb, le-ltb}

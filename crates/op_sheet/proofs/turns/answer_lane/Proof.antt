@@ -1,4 +1,4 @@
--- `op_sheet::turns::answer_lane` meets its contract: 7, or the outputs under the settled values. Assumes nothing.
+-- `op_sheet::turns::answer_lane` meets its contract: 7, or the outputs under the settled values.
 use mathlib.Core.Path.{_∙_}
 use native.Mathlib.Omega.{arith}
 use denote.Ref.{now}
@@ -43,7 +43,5 @@ returns-2 c =
 
 pub answer-lane-spec : {M : Type 1} → statement M
 answer-lane-spec =
-    tie.close
-    (tie.spec
-    (λ c κs. search needs) are-masks-requires (λ c κs. search needs) returns
-    show-lane-requires returns-2)
+    tie.close (tie.spec (λ c κs. search needs) are-masks-requires (λ c κs. search needs) returns show-lane-requires
+    returns-2)

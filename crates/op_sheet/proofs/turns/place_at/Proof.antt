@@ -1,4 +1,4 @@
--- `op_sheet::turns::place_at` meets its contract. Assumes nothing.
+-- `op_sheet::turns::place_at` meets its contract.
 use mathlib.Core.Path.{refl}
 use borrow.Author.Needs.{needs}
 use borrow.Author.Tests.{lt-ltb, le-ltb}
@@ -16,7 +16,5 @@ returns-2 c = rw (← c .before .size-at .ensures, le-ltb _ _ (c .if1 .left)) re
 
 pub place-at-spec : {M : Type 1} → statement M
 place-at-spec =
-    tie.close
-    (tie.spec
-    (λ c κs. search needs) (λ c. search needs) (λ c. search needs) returns (λ c. search needs) (λ c. search needs)
-    returns-2)
+    tie.close (tie.spec (λ c κs. search needs) (λ c. search needs) (λ c. search needs) returns (λ c. search needs)
+    (λ c. search needs) returns-2)

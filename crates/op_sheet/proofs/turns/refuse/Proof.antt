@@ -1,4 +1,4 @@
--- `op_sheet::turns::refuse` meets its contract. Assumes nothing.
+-- `op_sheet::turns::refuse` meets its contract.
 use native.Mathlib.Omega.{arith}
 use borrow.Author.Needs.{needs}
 use Rattle.netlist.specs.Answers.{refusalNumber}

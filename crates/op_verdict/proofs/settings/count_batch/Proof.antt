@@ -1,5 +1,5 @@
 -- `op_verdict::settings::count_batch` meets its contract: below the first batch with another, those that may come are
--- settled. Assumes nothing.
+-- settled.
 use mathlib.Core.Path.{_≡_, refl, _∙_}
 use native.Mathlib.Omega.{arith}
 use borrow.Author.Needs.{needs}
@@ -63,9 +63,7 @@ returns-3 c =
 
 pub count-batch-spec : {M : Type 1} → statement M
 count-batch-spec =
-    tie.close
-    (tie.spec
-    (λ c κs. search needs) (λ c κs. search needs) add-if1 coming-lanes-requires (λ c κs. search needs) returns
-    (λ c κs. let s : tie.Start = search in s .pre .1 .held (c .before .if2 .taken)) returns-2
-    (λ c κs. let s : tie.Start = search in (s .pre .0 .0, s .pre .1 .aligned, s .pre .0 .1))
+    tie.close (tie.spec (λ c κs. search needs) (λ c κs. search needs) add-if1 coming-lanes-requires
+    (λ c κs. search needs) returns (λ c κs. let s : tie.Start = search in s .pre .1 .held (c .before .if2 .taken))
+    returns-2 (λ c κs. let s : tie.Start = search in (s .pre .0 .0, s .pre .1 .aligned, s .pre .0 .1))
     (λ c κs. c .before .judge-batch .ensures) returns-3)

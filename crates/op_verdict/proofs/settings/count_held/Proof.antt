@@ -1,4 +1,4 @@
--- `op_verdict::settings::count_held` meets its contract. Assumes nothing.
+-- `op_verdict::settings::count_held` meets its contract.
 use mathlib.Core.Path.{_∙_}
 use borrow.Author.Needs.{needs}
 use Rattle.lanes_dual_rail.proofs.InputLaws.{lanesOf-most}
@@ -16,6 +16,5 @@ returns c =
 
 pub count-held-spec : {M : Type 1} → statement M
 count-held-spec =
-    tie.close
-    (tie.spec (λ c κs. search needs) (λ c κs. rw (c .inputs-of .ensures) (c .before .before .pre))
+    tie.close (tie.spec (λ c κs. search needs) (λ c κs. rw (c .inputs-of .ensures) (c .before .before .pre))
     (λ c κs. search needs) returns)

@@ -1,6 +1,5 @@
 -- `op_verdict::settings::count_settled` meets its contract: `settled` counts the settled settings of the batches
 -- passed.
--- Assumes nothing.
 use mathlib.Core.Path.{_≡_, refl, sym, ap, _∙_}
 use mathlib.Core.List.{List}
 use Prim.Native.Nat.{ℕ, _-_, _+_, _^_, _≤_, _<_}
@@ -136,7 +135,6 @@ returns c =
 
 pub count-settled-spec : {M : Type 1} → statement M
 count-settled-spec =
-    tie.close
-    (tie.spec
-    Inv-loop μ-loop (λ c κs. search needs) (λ c κs. rw (c .inputs-of .ensures) (few (c .before .before)))
-    (λ c κs. search needs) loop-holds count-batch-requires add-settled add-base loop-less loop-again returns)
+    tie.close (tie.spec Inv-loop μ-loop (λ c κs. search needs)
+    (λ c κs. rw (c .inputs-of .ensures) (few (c .before .before))) (λ c κs. search needs) loop-holds
+    count-batch-requires add-settled add-base loop-less loop-again returns)

@@ -1,6 +1,5 @@
 -- `op_verdict::settings::search_settings` meets its contract: the count goes on from the values of the first batch
 -- found.
--- Assumes nothing.
 use borrow.Author.Needs.{needs}
 use Rattle.op_verdict.proofs.settings.search_settings.Statement.{statement}
 use Rattle.op_verdict.proofs.settings.search_settings.Tie as tie
@@ -19,5 +18,4 @@ count-settled-requires c κs =
 
 pub search-settings-spec : {M : Type 1} → statement M
 search-settings-spec =
-    tie.close
-    (tie.spec (λ c κs. c .before .before .pre) lowest-in-requires count-settled-requires (λ c. search needs))
+    tie.close (tie.spec (λ c κs. c .before .before .pre) lowest-in-requires count-settled-requires (λ c. search needs))

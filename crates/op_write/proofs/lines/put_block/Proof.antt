@@ -1,5 +1,5 @@
 -- `op_write::lines::put_block` meets its contract: the four parts, one after the other, at the places that the header
--- gives. Assumes nothing.
+-- gives.
 use mathlib.Core.Path.{_≡_}
 use native.Mathlib.Omega.{arith}
 use lib.ListN.{getD}
@@ -50,16 +50,14 @@ nevers-are : (c : tie.After-nevers-of) → let ws = start (counted (first c)) .a
 nevers-are c =
     let n = counted (first c) in
     nevers-part (start n .args .words .now) (n .inputs-of .result) (n .inputs-of .ensures)
-    (c .before .nevers-at .result) (c .nevers-of .result)
-    (c .before .nevers-at .ensures) (c .nevers-of .ensures)
+    (c .before .nevers-at .result) (c .nevers-of .result) (c .before .nevers-at .ensures) (c .nevers-of .ensures)
 
 gates-are : (c : tie.After-gates-of) → let ws = start (counted (first (second c .before))) .args .words .now in
     pieces (gateText ws (c .before .gates-at .result)) (c .gates-of .result)
     ≡ pieces (gateText ws (gatesAt (getD ws 0 0) (getD ws 3 0))) (getD ws 1 0)
 gates-are c =
     gates-part (start (counted (first (second c .before))) .args .words .now) (c .before .gates-at .result)
-    (c .gates-of .result)
-    (c .before .gates-at .ensures) (c .gates-of .ensures)
+    (c .gates-of .result) (c .before .gates-at .ensures) (c .gates-of .ensures)
 
 outputs-are : (c : tie.After-outputs-of) → let ws =
     start (counted (first (second (third c .before) .before))) .args .words .now in
@@ -67,8 +65,7 @@ outputs-are : (c : tie.After-outputs-of) → let ws =
     ≡ pieces (outputText ws (outputsAt (getD ws 0 0) (getD ws 3 0) (getD ws 1 0))) (getD ws 2 0)
 outputs-are c =
     outputs-part (start (counted (first (second (third c .before) .before))) .args .words .now)
-    (c .before .outputs-at .result) (c .outputs-of .result)
-    (c .before .outputs-at .ensures) (c .outputs-of .ensures)
+    (c .before .outputs-at .result) (c .outputs-of .result) (c .before .outputs-at .ensures) (c .outputs-of .ensures)
 
 put-inputs-requires : tie.Need-put-inputs-requires
 unfolding blockText
@@ -142,8 +139,6 @@ returns c =
 
 pub put-block-spec : {M : Type 1} → statement M
 put-block-spec =
-    tie.close
-    (tie.spec
-    (λ c κs. search needs) put-inputs-requires nevers-at-requires (λ c κs. search needs) put-nevers-requires
-    (λ c κs. search needs) (λ c κs. search needs) put-gates-requires (λ c κs. search needs) (λ c κs. search needs)
-    put-outputs-requires (λ c. search needs) returns)
+    tie.close (tie.spec (λ c κs. search needs) put-inputs-requires nevers-at-requires (λ c κs. search needs)
+    put-nevers-requires (λ c κs. search needs) (λ c κs. search needs) put-gates-requires (λ c κs. search needs)
+    (λ c κs. search needs) put-outputs-requires (λ c. search needs) returns)

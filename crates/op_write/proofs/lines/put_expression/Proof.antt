@@ -1,4 +1,4 @@
--- `op_write::lines::put_expression` meets its contract: its four pieces, one after the other. Assumes nothing.
+-- `op_write::lines::put_expression` meets its contract: its four pieces, one after the other.
 use Prim.Native.Nat.{_/_, _%_}
 use mathlib.Core.List.{_++_}
 use mathlib.Core.Path.{_≡_}
@@ -65,13 +65,10 @@ returns c =
     let filled : tie.After-put-items = search in
     let named : tie.After-put-keyword = search in
     let opened : tie.After-put = search in
-    rw (parts (opened .before .before))
-    (appended-then (opened .put .ensures)
+    rw (parts (opened .before .before)) (appended-then (opened .put .ensures)
     (appended-then (named .put-keyword .ensures) (appended-then (filled .put-items .ensures) (closed .put2 .ensures))))
 
 pub put-expression-spec : {M : Type 1} → statement M
 put-expression-spec =
-    tie.close
-    (tie.spec
-    (λ c κs. search needs) put-requires put-keyword-requires put-items-requires put-requires-2 (λ c. search needs)
-    returns)
+    tie.close (tie.spec (λ c κs. search needs) put-requires put-keyword-requires put-items-requires put-requires-2
+    (λ c. search needs) returns)

@@ -1,7 +1,6 @@
--- `op_write::lines::put_input` meets its contract: its three pieces, one after the other. Assumes nothing.
+-- `op_write::lines::put_input` meets its contract: its three pieces, one after the other.
 use native.Mathlib.Omega.{arith}
 use borrow.Author.Needs.{needs}
-use Rattle.prelude.specs.Lists.{ascii}
 use Rattle.op_write.specs.Lines.{inputText}
 use Rattle.text_pieces.proofs.Appending.{appended-then, short-first, short-rest}
 use Rattle.op_write.proofs.lines.put_input.Statement.{statement}
@@ -25,7 +24,5 @@ returns c = search appended-then
 
 pub put-input-spec : {M : Type 1} → statement M
 put-input-spec =
-    tie.close
-    (tie.spec
-    (λ c. search needs) put-all-requires (λ c. search needs) (λ c. search needs) put-name-requires (λ c. search needs)
-    put-all-requires-2 (λ c. search needs) returns)
+    tie.close (tie.spec (λ c. search needs) put-all-requires (λ c. search needs) (λ c. search needs) put-name-requires
+    (λ c. search needs) put-all-requires-2 (λ c. search needs) returns)

@@ -1,4 +1,4 @@
--- `op_write::lines::put_item` meets its contract: a space, and then the operand. Assumes nothing.
+-- `op_write::lines::put_item` meets its contract: a space, and then the operand.
 use borrow.Author.Needs.{needs}
 use Rattle.prelude.specs.Lists.{ascii}
 use Rattle.op_write.specs.Lines.{itemText}
@@ -22,6 +22,5 @@ returns c = search appended-then
 
 pub put-item-spec : {M : Type 1} → statement M
 put-item-spec =
-    tie.close
-    (tie.spec
-    put-requires (λ c. search needs) (λ c. search needs) put-operand-requires (λ c. search needs) returns)
+    tie.close (tie.spec put-requires (λ c. search needs) (λ c. search needs) put-operand-requires (λ c. search needs)
+    returns)

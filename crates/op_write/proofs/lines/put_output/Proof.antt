@@ -1,4 +1,4 @@
--- `op_write::lines::put_output` meets its contract: its five pieces, one after the other. Assumes nothing.
+-- `op_write::lines::put_output` meets its contract: its five pieces, one after the other.
 use native.Mathlib.Omega.{arith}
 use borrow.Author.Needs.{needs}
 use Rattle.prelude.specs.Lists.{ascii}
@@ -45,7 +45,6 @@ returns c = search appended-then
 
 pub put-output-spec : {M : Type 1} → statement M
 put-output-spec =
-    tie.close
-    (tie.spec
-    (λ c. search needs) (λ c. search needs) (λ c. search needs) put-all-requires put-name-requires put-requires
-    (λ c. search needs) put-operand-requires (λ c. search needs) put-all-requires-2 (λ c. search needs) returns)
+    tie.close (tie.spec (λ c. search needs) (λ c. search needs) (λ c. search needs) put-all-requires put-name-requires
+    put-requires (λ c. search needs) put-operand-requires (λ c. search needs) put-all-requires-2 (λ c. search needs)
+    returns)

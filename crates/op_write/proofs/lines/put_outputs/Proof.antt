@@ -1,4 +1,4 @@
--- `op_write::lines::put_outputs` meets its contract: after o turns the first o lines are appended. Assumes nothing.
+-- `op_write::lines::put_outputs` meets its contract: after o turns the first o lines are appended.
 use Prim.Native.Nat.{_-_}
 use native.Mathlib.Omega.{arith}
 use Rattle.op_write.specs.Lines.{outputText}
@@ -20,7 +20,5 @@ put-output-requires c κs =
 
 pub put-outputs-spec : {M : Type 1} → statement M
 put-outputs-spec =
-    tie.close
-    (tie.spec
-    Inv-loop μ-loop (λ c. put-none) put-output-requires (λ c. omega arith) (λ c. omega arith)
+    tie.close (tie.spec Inv-loop μ-loop (λ c. put-none) put-output-requires (λ c. omega arith) (λ c. omega arith)
     (λ c. search put-more) (λ c. appended-length (c .before .loop .inv .there)) (λ c. search put-every))

@@ -1,5 +1,5 @@
 -- `op_write::nevers::put_fixed` meets its contract: nothing, or the pair, by the input's bit in the mask of the fixed
--- ones. Assumes nothing.
+-- ones.
 use native.Mathlib.Omega.{arith}
 use borrow.Author.Needs.{needs}
 use Rattle.netlist.specs.Assignments.{bit}
@@ -20,8 +20,7 @@ put-pair-requires c κs =
     let start : tie.Start = search in
     let a = start .args in (
       omega (arith, start .pre .0),
-      rw (fixed-some (a .words .now) (a .fixed) (a .ones) (a .i)
-          (c .before .if1 .left)) at (start .pre .1),
+      rw (fixed-some (a .words .now) (a .fixed) (a .ones) (a .i) (c .before .if1 .left)) at (start .pre .1),
     )
 
 returns-2 : tie.Need-returns-2
@@ -34,7 +33,5 @@ returns-2 c =
 
 pub put-fixed-spec : {M : Type 1} → statement M
 put-fixed-spec =
-    tie.close
-    (tie.spec
-    (λ c. search needs) returns (λ c. search needs) (λ c. search needs) (λ c. search needs) (λ c. search needs)
-    (λ c. search needs) put-pair-requires (λ c. search needs) returns-2)
+    tie.close (tie.spec (λ c. search needs) returns (λ c. search needs) (λ c. search needs) (λ c. search needs)
+    (λ c. search needs) (λ c. search needs) put-pair-requires (λ c. search needs) returns-2)

@@ -1,4 +1,4 @@
--- `op_write::nevers::put_never` meets its contract: its three pieces, one after the other. Assumes nothing.
+-- `op_write::nevers::put_never` meets its contract: its three pieces, one after the other.
 use mathlib.Core.List.{_++_}
 use mathlib.Core.Path.{_≡_}
 use borrow.Author.Needs.{needs}
@@ -61,13 +61,11 @@ returns c =
     let closed = c .before .before in
     let filled : tie.After-put-pairs = search in
     let head = filled .before in
-    rw (parts head)
-    (appended-then (opened head .put-all .ensures)
+    rw (parts head) (appended-then (opened head .put-all .ensures)
     (appended-then (filled .put-pairs .ensures) (closed .put-all2 .ensures)))
 
 pub put-never-spec : {M : Type 1} → statement M
 put-never-spec =
-    tie.close
-    (tie.spec
-    (λ c κs. search needs) (λ c. search needs) (λ c κs. search needs) (λ c. search needs) put-all-requires
-    (λ c κs. search needs) put-pairs-requires (λ c. search needs) put-all-requires-2 (λ c. search needs) returns)
+    tie.close (tie.spec (λ c κs. search needs) (λ c. search needs) (λ c κs. search needs) (λ c. search needs)
+    put-all-requires (λ c κs. search needs) put-pairs-requires (λ c. search needs) put-all-requires-2
+    (λ c. search needs) returns)

@@ -1,4 +1,4 @@
--- `op_write::nevers::put_nevers` meets its contract: after i turns the first i lines are appended. Assumes nothing.
+-- `op_write::nevers::put_nevers` meets its contract: after i turns the first i lines are appended.
 use Prim.Native.Nat.{_-_}
 use native.Mathlib.Omega.{arith}
 use Rattle.op_write.specs.Lines.{neverLineText}
@@ -25,8 +25,6 @@ loop-again c = search put-more
 
 pub put-nevers-spec : {M : Type 1} → statement M
 put-nevers-spec =
-    tie.close
-    (tie.spec
-    Inv-loop μ-loop (λ c. put-none) (λ c. omega arith) (λ c. omega arith) put-never-requires (λ c. omega arith)
-    (λ c. omega arith)
-    loop-again (λ c. appended-length (c .before .loop .inv .there)) (λ c. search put-every))
+    tie.close (tie.spec Inv-loop μ-loop (λ c. put-none) (λ c. omega arith) (λ c. omega arith) put-never-requires
+    (λ c. omega arith) (λ c. omega arith) loop-again (λ c. appended-length (c .before .loop .inv .there))
+    (λ c. search put-every))

@@ -1,5 +1,4 @@
--- `op_write::nevers::put_pairs` meets its contract: after i turns the pairs of the first i inputs are appended. Assumes
--- nothing.
+-- `op_write::nevers::put_pairs` meets its contract: after i turns the pairs of the first i inputs are appended.
 use Prim.Native.Nat.{_-_}
 use native.Mathlib.Omega.{arith}
 use Rattle.op_write.specs.Lines.{fixedText}
@@ -21,7 +20,5 @@ put-fixed-requires c κs =
 
 pub put-pairs-spec : {M : Type 1} → statement M
 put-pairs-spec =
-    tie.close
-    (tie.spec
-    Inv-loop μ-loop (λ c. put-none) put-fixed-requires (λ c. omega arith) (λ c. omega arith)
+    tie.close (tie.spec Inv-loop μ-loop (λ c. put-none) put-fixed-requires (λ c. omega arith) (λ c. omega arith)
     (λ c. search put-more) (λ c. appended-length (c .before .loop .inv .there)) (λ c. search put-every))

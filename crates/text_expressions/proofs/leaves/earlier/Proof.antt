@@ -1,4 +1,4 @@
--- `text_expressions::leaves::earlier` meets its contract. Assumes nothing.
+-- `text_expressions::leaves::earlier` meets its contract.
 use Rattle.text_expressions.proofs.Fronts.{earlier-first}
 use Rattle.text_expressions.specs.Leaves.{earlier}
 use Rattle.text_expressions.proofs.leaves.earlier.Statement.{statement}

@@ -1,4 +1,4 @@
--- `text_expressions::leaves::leaf_here` meets its contract. Assumes nothing.
+-- `text_expressions::leaves::leaf_here` meets its contract.
 use mathlib.Core.Path.{sym, _∙_}
 use native.Mathlib.Omega.{arith}
 use Rattle.text_expressions.proofs.Fronts.{leaf-0, leaf-1, leaf-name}
@@ -42,5 +42,4 @@ returns-3 c =
 
 pub leaf-here-spec : {M : Type 1} → statement M
 leaf-here-spec =
-    tie.close
-    (tie.spec (λ c κs. search needs) sub-t9 returns sub-t10 returns-2 (λ c κs. search needs) returns-3)
+    tie.close (tie.spec (λ c κs. search needs) sub-t9 returns sub-t10 returns-2 (λ c κs. search needs) returns-3)

@@ -1,4 +1,4 @@
--- `text_expressions::leaves::name_here` meets its contract. Assumes nothing.
+-- `text_expressions::leaves::name_here` meets its contract.
 use native.Mathlib.Omega.{arith}
 use Rattle.text_expressions.proofs.Fronts.{name-found, name-unknown}
 use Rattle.text_names.proofs.Packing.{front-shorter}
@@ -34,7 +34,6 @@ returns-2 c =
 
 pub name-here-spec : {M : Type 1} → statement M
 name-here-spec =
-    tie.close
-    (tie.spec
-    (λ c κs. search needs) sub-left (λ c κs. search needs) (λ c κs. search needs) (λ c. search needs)
-    (λ c. search needs) (λ c κs. search needs) returns (λ c. search needs) (λ c κs. search needs) returns-2)
+    tie.close (tie.spec (λ c κs. search needs) sub-left (λ c κs. search needs) (λ c κs. search needs)
+    (λ c. search needs) (λ c. search needs) (λ c κs. search needs) returns (λ c. search needs) (λ c κs. search needs)
+    returns-2)

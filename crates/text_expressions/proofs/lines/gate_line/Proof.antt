@@ -1,5 +1,4 @@
--- `text_expressions::lines::gate_line` meets its contract: its expression stands behind its name and a bracket. Assumes
--- nothing.
+-- `text_expressions::lines::gate_line` meets its contract: its expression stands behind its name and a bracket.
 use mathlib.Core.Path.{refl}
 use native.Mathlib.Omega.{arith}
 use Rattle.text_expressions.proofs.LineForms.{GateParts, gate-parts, gate-here, gate-left, gate-read}
@@ -32,9 +31,6 @@ part-name-length-start c =
     let p = start .pre .0 in
     omega (arith, gate-parts (start .args .s .now) _ refl (p .line) (p .rest) (p .here) .long)
 
-add-at : tie.Need-add-at
-add-at c = omega (arith, parts c .long, entry c .good)
-
 sub-expression : tie.Need-sub-expression
 sub-expression c = parts c .long
 
@@ -47,8 +43,7 @@ expression-requires c κs =
     let start = entry named in
     let a = start .args in (
       gate-here (a .s .now) (named .name-length .result) (named .name-length .ensures) (a .n) (a .names .now)
-          (a .words .now) (a .first) (a .gates .now)
-          (start .pre .0),
+          (a .words .now) (a .first) (a .gates .now) (start .pre .0),
       start .pre .1,
     )
 
@@ -73,7 +68,6 @@ returns c =
 
 pub gate-line-spec : {M : Type 1} → statement M
 gate-line-spec =
-    tie.close
-    (tie.spec
-    sub-name-length part-name-length-start (λ c. search needs) (λ c κs. search needs) add-at sub-expression
-    part-expression-start (λ c. search needs) expression-requires sub-left returns)
+    tie.close (tie.spec sub-name-length part-name-length-start (λ c. search needs) (λ c κs. search needs)
+    (λ c. omega (arith, parts c .long, entry c .good)) sub-expression part-expression-start (λ c. search needs)
+    expression-requires sub-left returns)

@@ -1,5 +1,5 @@
 -- `text_expressions::lines::gate_lines` meets its contract: what is done so far and what the other lines add is what
--- all add. Assumes nothing.
+-- all add.
 use borrow.Author.Needs.{needs}
 use native.Mathlib.Omega.{arith}
 use Prim.Native.Nat.{_-_, _≤_}
@@ -30,9 +30,6 @@ loop-holds c =
     let a = known (c .before) .args in
     lines-start gateForm gate-lawful (a .lines) (a .text .now) (a .n) (a .names .now) (a .words .now) 0 (a .gates .now)
 
-sub-gate-line : tie.Need-sub-gate-line Inv-loop μ-loop
-sub-gate-line c = omega (arith, c .before .loop .inv .within)
-
 gate-line-requires : tie.Need-gate-line-requires Inv-loop μ-loop
 gate-line-requires c κs =
     let in-loop = c .before .before in
@@ -59,16 +56,12 @@ module _ (c : tie.After-gate-line Inv-loop μ-loop) where
       lines-kept gateForm gate-lawful (a .lines) (a .text .now) (a .n) (a .names .now) (a .words .now) 0
       (a .gates .now) (l .i) (l .left) (l .first)
       (l .unknown) (l .gates) (l .inv) (c .gate-line .last .1 .1 .1 .1 .1 .1 .1 .0) (c .gate-line .result)
-      (c .gate-line .ensures) maxGates
-      (start .pre .0) (in-loop .loop-test .taken)
+      (c .gate-line .ensures) maxGates (start .pre .0) (in-loop .loop-test .taken)
 
 add-i : tie.Need-add-i Inv-loop μ-loop
 add-i c =
     let turn = in-loop c in
     omega (arith, turn .loop-test .taken, entry (turn .before) .fits .lines)
-
-loop-less : tie.Need-loop-less Inv-loop μ-loop
-loop-less c = omega (arith, in-loop c .loop-test .taken)
 
 loop-again : tie.Need-loop-again Inv-loop μ-loop
 loop-again c =
@@ -85,12 +78,10 @@ returns c =
     let a = entry (c .before) .args in
     let l = c .before .loop in
     lines-end gateForm gate-lawful (a .lines) (a .text .now) (a .n) (a .names .now) (a .words .now) 0 (a .gates .now)
-    (l .i) (l .left) (l .first)
-    (l .unknown) (l .gates) (l .inv) (c .loop-test .left)
+    (l .i) (l .left) (l .first) (l .unknown) (l .gates) (l .inv) (c .loop-test .left)
 
 pub gate-lines-spec : {M : Type 1} → statement M
 gate-lines-spec =
-    tie.close
-    (tie.spec
-    Inv-loop μ-loop loop-holds sub-gate-line (λ c. omega arith) (λ c. omega arith) (λ c. search needs)
-    gate-line-requires add-i loop-less loop-again returns)
+    tie.close (tie.spec Inv-loop μ-loop loop-holds (λ c. omega (arith, c .before .loop .inv .within)) (λ c. omega arith)
+    (λ c. omega arith) (λ c. search needs) gate-line-requires add-i (λ c. omega (arith, in-loop c .loop-test .taken))
+    loop-again returns)

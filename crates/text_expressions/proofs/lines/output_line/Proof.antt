@@ -1,4 +1,4 @@
--- `text_expressions::lines::output_line` meets its contract. Assumes nothing.
+-- `text_expressions::lines::output_line` meets its contract.
 use mathlib.Core.Path.{refl}
 use native.Mathlib.Omega.{arith}
 use Rattle.text_expressions.proofs.LineForms.{output-parts, output-left, output-read}
@@ -25,8 +25,7 @@ add-at c =
     let start : tie.Start = search in
     let a = start .args in let p = start .pre .0 .1 in omega (
       arith,
-      output-parts (a .s .now) (c .name-length .result) (c .name-length .ensures) (p .line) (p .rest)
-          (p .here) .long,
+      output-parts (a .s .now) (c .name-length .result) (c .name-length .ensures) (p .line) (p .rest) (p .here) .long,
       start .good,
     )
 
@@ -34,22 +33,19 @@ sub-name-here : tie.Need-sub-name-here
 sub-name-here c =
     let start : tie.Start = search in
     let a = start .args in let p = start .pre .0 .1 in output-parts (a .s .now) (c .name-length .result)
-    (c .name-length .ensures) (p .line) (p .rest)
-    (p .here) .long
+    (c .name-length .ensures) (p .line) (p .rest) (p .here) .long
 
 part-name-here-start : tie.Need-part-name-here-start
 part-name-here-start c =
     let start : tie.Start = search in
     let a = start .args in let p = start .pre .0 .1 in output-parts (a .s .now) (c .name-length .result)
-    (c .name-length .ensures) (p .line) (p .rest)
-    (p .here) .long
+    (c .name-length .ensures) (p .line) (p .rest) (p .here) .long
 
 name-here-requires : tie.Need-name-here-requires
 name-here-requires c κs =
     let b : tie.Start = search in
     let p = b .pre .0 .1 in (
-      table-lengths (b .pre .0 .0) (p .bindings) (b .args .names .now) (b .args .words .now)
-          (p .table),
+      table-lengths (b .pre .0 .0) (p .bindings) (b .args .names .now) (b .args .words .now) (p .table),
       b .pre .1,
     )
 
@@ -80,8 +76,7 @@ sub-t10 c =
     output-left (s .args .s .now) (b .name-length .result) (b .name-length .ensures) (s .pre .0 .0)
     (s .args .names .now) (s .args .words .now)
     (s .args .first) (s .args .unknown) (s .args .outputs .now) (l .name-here .result) (l .name-here .ensures)
-    (p .bindings) (p .line) (p .rest)
-    (p .table) (p .here)
+    (p .bindings) (p .line) (p .rest) (p .table) (p .here)
 
 returns : tie.Need-returns
 returns c =
@@ -99,8 +94,7 @@ returns c =
 
 pub output-line-spec : {M : Type 1} → statement M
 output-line-spec =
-    tie.close
-    (tie.spec
-    sub-name-length part-name-length-start (λ c. search needs) (λ c κs. search needs) add-at sub-name-here
-    part-name-here-start (λ c. search needs) name-here-requires sub-pack part-pack-start (λ c. search needs)
-    (λ c κs. search needs) put-output-requires sub-t10 (λ c. search needs) (λ c. search needs) returns)
+    tie.close (tie.spec sub-name-length part-name-length-start (λ c. search needs) (λ c κs. search needs) add-at
+    sub-name-here part-name-here-start (λ c. search needs) name-here-requires sub-pack part-pack-start
+    (λ c. search needs) (λ c κs. search needs) put-output-requires sub-t10 (λ c. search needs) (λ c. search needs)
+    returns)

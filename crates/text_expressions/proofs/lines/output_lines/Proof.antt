@@ -1,5 +1,5 @@
 -- `text_expressions::lines::output_lines` meets its contract: what is done so far and what the other lines add is what
--- all add. Assumes nothing.
+-- all add.
 use native.Mathlib.Omega.{arith}
 use borrow.Author.Needs.{needs}
 use Prim.Native.Nat.{ℕ, _-_}
@@ -22,9 +22,6 @@ loop-holds c =
     let start : tie.Start Inv-loop μ-loop = search in
     λ n. let a = start .args in lines-start outputForm output-lawful (a .lines) (a .text .now) n (a .names .now)
     (a .words .now) (a .seen) (a .outputs .now)
-
-sub-output-line : tie.Need-sub-output-line Inv-loop μ-loop
-sub-output-line c = omega (arith, c .before .loop .inv 0 .within)
 
 output-line-requires : tie.Need-output-line-requires Inv-loop μ-loop
 output-line-requires c κs =
@@ -82,12 +79,10 @@ returns c =
     let a = start .args in
     let l = c .before .loop in
     lines-end outputForm output-lawful (a .lines) (a .text .now) n (a .names .now) (a .words .now) (a .seen)
-    (a .outputs .now) (l .i) (l .left) (l .first)
-    (l .unknown) (l .outputs) (l .inv n) (c .loop-test .left)
+    (a .outputs .now) (l .i) (l .left) (l .first) (l .unknown) (l .outputs) (l .inv n) (c .loop-test .left)
 
 pub output-lines-spec : {M : Type 1} → statement M
 output-lines-spec =
-    tie.close
-    (tie.spec
-    Inv-loop μ-loop loop-holds sub-output-line (λ c. omega arith) (λ c. omega arith) (λ c. search needs)
-    output-line-requires add-i loop-less loop-again same-length returns)
+    tie.close (tie.spec Inv-loop μ-loop loop-holds (λ c. omega (arith, c .before .loop .inv 0 .within))
+    (λ c. omega arith) (λ c. omega arith) (λ c. search needs) output-line-requires add-i loop-less loop-again
+    same-length returns)

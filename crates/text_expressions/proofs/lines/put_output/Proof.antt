@@ -1,4 +1,4 @@
--- `text_expressions::lines::put_output` meets its contract. Assumes nothing.
+-- `text_expressions::lines::put_output` meets its contract.
 use Prim.Native.Nat.{_*_, _/_, _%_}
 use mathlib.Core.List.{[], _∷_}
 use lib.ListN.{length-set}
@@ -31,9 +31,8 @@ returns c =
 
 pub put-output-spec : {M : Type 1} → statement M
 put-output-spec =
-    tie.close
-    (tie.spec
-    (λ c. search needs) (λ c. search needs) (λ c. search needs) (λ c. search needs) (λ c. search needs)
-    (λ c. search needs) (λ c. search needs) slice-write-outputs-2 (λ c. search needs) (λ c. search needs)
-    (λ c. search needs) slice-write-outputs-3 (λ c. search needs) (λ c. search needs) (λ c. search needs)
-    slice-write-outputs-4 (λ c. search needs) (λ c. search needs) slice-write-outputs-5 (λ c. search needs) returns)
+    tie.close (tie.spec (λ c. search needs) (λ c. search needs) (λ c. search needs) (λ c. search needs)
+    (λ c. search needs) (λ c. search needs) (λ c. search needs) slice-write-outputs-2 (λ c. search needs)
+    (λ c. search needs) (λ c. search needs) slice-write-outputs-3 (λ c. search needs) (λ c. search needs)
+    (λ c. search needs) slice-write-outputs-4 (λ c. search needs) (λ c. search needs) slice-write-outputs-5
+    (λ c. search needs) returns)

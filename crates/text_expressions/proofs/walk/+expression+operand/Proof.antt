@@ -1,6 +1,5 @@
 -- `text_expressions::walk::expression` and `operand` meet their contracts: whatever term stands here, its first byte
 -- says which; the operands read and those that are left are the expression's, and the bytes left fall with each call.
--- Assumes nothing.
 use borrow.Author.Needs.{needs}
 use native.Mathlib.Omega.{arith}
 use mathlib.Core.Path.{_≡_, refl, sym, _∙_}
@@ -38,12 +37,10 @@ abbrev μ-operand : Measures 5 operand-kinds.ps ℕ
 μ-operand κs a = length (a .0 .now)
 
 abbrev expression-at : ℕ → In 5 expression-kinds.ps
-expression-at t =
-    and 5 expression-kinds.ps (is 5 expression-kinds.ps μ-expression t) expression.Pre
+expression-at t = and 5 expression-kinds.ps (is 5 expression-kinds.ps μ-expression t) expression.Pre
 
 abbrev expression-below : ℕ → In 5 expression-kinds.ps
-expression-below t =
-    and 5 expression-kinds.ps (falls 5 expression-kinds.ps _<_ μ-expression t) expression.Pre
+expression-below t = and 5 expression-kinds.ps (falls 5 expression-kinds.ps _<_ μ-expression t) expression.Pre
 
 abbrev operand-at : ℕ → In 5 operand-kinds.ps
 operand-at t = and 5 operand-kinds.ps (is 5 operand-kinds.ps μ-operand t) operand.Pre
@@ -108,8 +105,7 @@ module _ (t : ℕ) where
       → Inside o depth rest (begun (c .before) .args .s .now) (c .before .kind-here .result) (c .word-length .result)
   expression-inside c o depth rest w =
       inside o depth rest (begun (c .before) .args .s .now) (c .before .kind-here .result) (c .word-length .result) w
-      (c .before .kind-here .ensures)
-      (c .word-length .ensures)
+      (c .before .kind-here .ensures) (c .word-length .ensures)
 
   expression-here : (c : expression-lts.After-word-length (claims t) (expression-at t) expression.Post Inv μ)
       → let s = begun (c .before) in
@@ -123,8 +119,7 @@ module _ (t : ℕ) where
   expression-loop-holds c =
       let a = begun (c .before) .args in
       list-start (a .s .now) (c .word-length .result) (a .n) (a .names .now) (a .words .now) (a .first) (a .unknown)
-      (a .gates .now)
-      (omega (arith, expression-here c .measured)) refl
+      (a .gates .now) (omega (arith, expression-here c .measured)) refl
 
   -- ---- another operand stands here
 
@@ -143,20 +138,16 @@ module _ (t : ℕ) where
         let a = start .args in
         let l = turn .loop in
         operand-there (a .s .now) (turn .before .word-length .result) (a .n) (a .names .now) (a .words .now) (a .first)
-        (a .unknown) (a .gates .now) (l .at)
-        (l .count) (l .closed) (l .missing) (l .gates) (l .slots) (l .inv) another
-        (turn .before .before .kind-here .result) (start .pre .1 .0)
-        (expression-here (turn .before))
+        (a .unknown) (a .gates .now) (l .at) (l .count) (l .closed) (l .missing) (l .gates) (l .slots) (l .inv) another
+        (turn .before .before .kind-here .result) (start .pre .1 .0) (expression-here (turn .before))
 
     slot : turn .loop .count < 4
     slot =
         let a = start .args in
         let l = turn .loop in
         slot-there (a .s .now) (turn .before .word-length .result) (a .n) (a .names .now) (a .words .now) (a .first)
-        (a .unknown) (a .gates .now) (l .at)
-        (l .count) (l .closed) (l .missing) (l .gates) (l .slots) (l .inv) another
-        (turn .before .before .kind-here .result) (start .pre .1 .0)
-        (expression-here (turn .before))
+        (a .unknown) (a .gates .now) (l .at) (l .count) (l .closed) (l .missing) (l .gates) (l .slots) (l .inv) another
+        (turn .before .before .kind-here .result) (start .pre .1 .0) (expression-here (turn .before))
 
   expression-add-operand : expression-lts.Need-add-operand (claims t) (expression-at t) expression.Post Inv μ
   expression-add-operand c = omega (arith, there c, start c .good)
@@ -228,8 +219,7 @@ module _ (t : ℕ) where
       list-step (a .s .now) (in-loop .before .word-length .result) (a .n) (a .names .now) (a .words .now) (a .first)
       (a .unknown) (a .gates .now) (l .at)
       (l .count) (l .closed) (l .missing) (l .gates) (l .slots) (l .inv) (another (in-turn read))
-      (read .operand .last .1 .1 .1 .1 .1 .1 .1 .0)
-      (read .operand .result) (read .operand .ensures) (kept read)
+      (read .operand .last .1 .1 .1 .1 .1 .1 .1 .0) (read .operand .result) (read .operand .ensures) (kept read)
 
   -- ---- all operands are read
 
@@ -243,18 +233,15 @@ module _ (t : ℕ) where
     bounds : let a = entry last-turn .args in
         let l = last-turn .loop in
         Bounded (a .s .now) (last-turn .before .word-length .result) (a .n) (a .names .now) (a .words .now) (a .first)
-        (a .unknown) (a .gates .now) (l .at)
-        (l .count) (l .closed) (l .missing) (l .gates) (l .slots) (l .inv) ended
+        (a .unknown) (a .gates .now) (l .at) (l .count) (l .closed) (l .missing) (l .gates) (l .slots) (l .inv) ended
         (last-turn .before .before .kind-here .result)
     bounds =
         let begin = entry last-turn in
         let a = begin .args in
         let l = last-turn .loop in
         bounded (a .s .now) (last-turn .before .word-length .result) (a .n) (a .names .now) (a .words .now) (a .first)
-        (a .unknown) (a .gates .now) (l .at)
-        (l .count) (l .closed) (l .missing) (l .gates) (l .slots) (l .inv) ended
-        (last-turn .before .before .kind-here .result) (begin .pre .1 .0)
-        (expression-here (last-turn .before))
+        (a .unknown) (a .gates .now) (l .at) (l .count) (l .closed) (l .missing) (l .gates) (l .slots) (l .inv) ended
+        (last-turn .before .before .kind-here .result) (begin .pre .1 .0) (expression-here (last-turn .before))
 
   expression-slice-aggregate-put-gate : expression-lts.Need-slice-aggregate-put-gate (claims t) (expression-at t)
       expression.Post Inv μ
@@ -342,8 +329,7 @@ module _ (t : ℕ) where
       let past-if = c .before .before .before in
       let a = operand-entry (past-if .before) .args in
       opened-read (a .s .now) (a .n) (a .names .now) (a .words .now) (a .first) (a .gates .now) (a .unknown)
-      (c .expression .last .1 .1 .1 .1 .1 .1 .1 .0)
-      (c .expression .result) (bracket past-if) (c .expression .ensures)
+      (c .expression .last .1 .1 .1 .1 .1 .1 .1 .0) (c .expression .result) (bracket past-if) (c .expression .ensures)
 
   operand-leaf-here-requires : operand-lts.Need-leaf-here-requires (operand-claims t) (operand-at t) operand.Post
   operand-leaf-here-requires c κs =
@@ -358,46 +344,16 @@ module _ (t : ℕ) where
       let past-if = c .before in
       let a = operand-entry (past-if .before) .args in
       leaf-read (a .s .now) (a .n) (a .names .now) (a .words .now) (a .first) (a .gates .now) (a .unknown)
-      (c .leaf-here .result) (c .leaf-here .ensures)
-      (λ e. past-if .if1 .left (past-if .before .byte-at .ensures ∙ e))
+      (c .leaf-here .result) (c .leaf-here .ensures) (λ e. past-if .if1 .left (past-if .before .byte-at .ensures ∙ e))
 
 pub +expression+operand-spec : {M : Type 1} → statement M
-+expression+operand-spec = close μ-expression μ-operand (λ t. expression-lts.spec (claims t)
-    (expression-at t)
-    expression.Post
-    Inv
-    μ
-    (λ c κs. search needs)
-    (λ c κs. search needs)
-    (expression-loop-holds t)
-    (λ c κs. search needs)
-    (expression-add-operand t)
-    (expression-sub-operand t)
-    (expression-part-operand-start t)
-    (λ c. search needs)
-    (expression-operand-requires t)
-    (expression-mul-slots t)
-    (expression-array-write-slots t)
-    (expression-sub-at t)
-    (expression-add-count t)
-    (expression-loop-less t)
-    (expression-loop-again t)
-    (expression-slice-aggregate-put-gate t)
-    (expression-put-gate-requires t)
-    (expression-sub-t32 t)
-    (expression-sub-t33 t)
-    (expression-add-t34 t)
-    (expression-cast-t35 t)
-    (expression-add-t36 t)
-    (expression-returns t))
-    λ t. operand-lts.spec (operand-claims t)
-    (operand-at t)
-    operand.Post
-    (λ c κs. search needs)
-    (operand-sub-expression t)
-    (operand-part-expression-start t)
-    (λ c. search needs)
-    (operand-expression-requires t)
-    (operand-returns t)
-    (operand-leaf-here-requires t)
-    (operand-returns-2 t)
++expression+operand-spec = close μ-expression μ-operand (λ t. expression-lts.spec (claims t) (expression-at t)
+    expression.Post Inv μ (λ c κs. search needs) (λ c κs. search needs) (expression-loop-holds t) (λ c κs. search needs)
+    (expression-add-operand t) (expression-sub-operand t) (expression-part-operand-start t) (λ c. search needs)
+    (expression-operand-requires t) (expression-mul-slots t) (expression-array-write-slots t) (expression-sub-at t)
+    (expression-add-count t) (expression-loop-less t) (expression-loop-again t) (expression-slice-aggregate-put-gate t)
+    (expression-put-gate-requires t) (expression-sub-t32 t) (expression-sub-t33 t) (expression-add-t34 t)
+    (expression-cast-t35 t) (expression-add-t36 t) (expression-returns t))
+    λ t. operand-lts.spec (operand-claims t) (operand-at t) operand.Post (λ c κs. search needs)
+    (operand-sub-expression t) (operand-part-expression-start t) (λ c. search needs) (operand-expression-requires t)
+    (operand-returns t) (operand-leaf-here-requires t) (operand-returns-2 t)

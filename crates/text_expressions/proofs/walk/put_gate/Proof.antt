@@ -1,4 +1,4 @@
--- `text_expressions::walk::put_gate` meets its contract. Assumes nothing.
+-- `text_expressions::walk::put_gate` meets its contract.
 use native.Mathlib.Omega.{arith}
 use Prim.Native.Nat.{_+_, _*_}
 use lib.ListN.{length-set}
@@ -27,10 +27,8 @@ returns c =
 
 pub put-gate-spec : {M : Type 1} → statement M
 put-gate-spec =
-    tie.close
-    (tie.spec
+    tie.close (tie.spec (λ c. search needs) (λ c. search needs) (λ c. search needs) (λ c. search needs)
     (λ c. search needs) (λ c. search needs) (λ c. search needs) (λ c. search needs) (λ c. search needs)
-    (λ c. search needs) (λ c. search needs) (λ c. search needs) (λ c. search needs) slice-write-gates-2
-    (λ c. search needs) (λ c. search needs) (λ c. search needs) slice-write-gates-3 (λ c. search needs)
-    (λ c. search needs) (λ c. search needs) slice-write-gates-4 (λ c. search needs) (λ c. search needs)
-    (λ c. search needs) slice-write-gates-5 (λ c. search needs) returns)
+    slice-write-gates-2 (λ c. search needs) (λ c. search needs) (λ c. search needs) slice-write-gates-3
+    (λ c. search needs) (λ c. search needs) (λ c. search needs) slice-write-gates-4 (λ c. search needs)
+    (λ c. search needs) (λ c. search needs) slice-write-gates-5 (λ c. search needs) returns)

@@ -1,5 +1,5 @@
 -- `text_lines::counts::count_behind` meets its contract: what was counted and what is left to count are the whole
--- count. Assumes nothing.
+-- count.
 use Prim.Native.Nat.{_+_, _-_, _≤_}
 use mathlib.Core.Path.{_≡_}
 use native.Mathlib.Omega.{arith}
@@ -12,13 +12,13 @@ use Rattle.text_lines.proofs.counts.count_behind.Statement.{statement}
 use Rattle.text_lines.proofs.counts.count_behind.Tie as tie
 
 abbrev Inv-loop : tie.InvT-loop
-Inv-loop s a b n₀ i₀ n i = (1 ≤ i) × (n + timesBehind a b (drop (i - 1) s) ≡ timesBehind a b s)
+Inv-loop s a b n₀ i₀ n i = record { some : 1 ≤ i; counts : n + timesBehind a b (drop (i - 1) s) ≡ timesBehind a b s }
 
 abbrev μ-loop : tie.MeasureT-loop
 μ-loop s a b n₀ i₀ n i = length s - i
 
 loop-holds : tie.Need-loop-holds Inv-loop μ-loop
-loop-holds c = (omega arith, omega arith)
+loop-holds c = record { some = omega arith; counts = omega arith }
 
 mul-n : tie.Need-mul-n Inv-loop μ-loop
 mul-n c =
@@ -49,7 +49,7 @@ add-n c =
     let a = at-loop .before .before .args in
     let l = at-loop .loop in
     let h =
-    behind-more (a .s .now) (l .i) (omega arith) (omega arith) (a .a) (a .b) (l .n) _ _ (l .inv .1)
+    behind-more (a .s .now) (l .i) (omega arith) (omega arith) (a .a) (a .b) (l .n) _ _ (l .inv .counts)
     (at-one .one-if .ensures) (c .one-if2 .ensures) in
     omega (arith, behind-le (a .a) (a .b) (a .s .now))
 
@@ -60,27 +60,26 @@ loop-again c =
     let a = at-loop .before .before .args in
     let l = at-loop .loop in
     let h =
-    behind-more (a .s .now) (l .i) (omega arith) (omega arith) (a .a) (a .b) (l .n) _ _ (l .inv .1)
+    behind-more (a .s .now) (l .i) (omega arith) (omega arith) (a .a) (a .b) (l .n) _ _ (l .inv .counts)
     (at-one .one-if .ensures) (c .one-if2 .ensures) in
     let e : l .i + 1 - 1 ≡ l .i = omega arith in
-    (omega arith, rw e h)
+    record { some = omega arith; counts = rw e h }
 
 cast-result : tie.Need-cast-result Inv-loop μ-loop
 cast-result c =
     let at-loop = c .before in
     let a = at-loop .before .before .args in
-    omega (arith, behind-le (a .a) (a .b) (a .s .now), at-loop .loop .inv .1)
+    omega (arith, behind-le (a .a) (a .b) (a .s .now), at-loop .loop .inv .counts)
 
 returns : tie.Need-returns Inv-loop μ-loop
 returns c =
     let at-loop = c .before in
     let a = at-loop .before .before .args in
     let l = at-loop .loop in
-    behind-end (a .s .now) (l .i) (l .n) (a .a) (a .b) (omega arith) (omega arith) (l .inv .1)
+    behind-end (a .s .now) (l .i) (l .n) (a .a) (a .b) (omega arith) (omega arith) (l .inv .counts)
 
 pub count-behind-spec : {M : Type 1} → statement M
 count-behind-spec =
-    tie.close
-    (tie.spec
-    Inv-loop μ-loop loop-holds (λ c. omega arith) (λ c. omega arith) (λ c κs. search needs) (λ c. omega arith)
-    (λ c κs. search needs) mul-n cast-n add-n (λ c. omega arith) (λ c. omega arith) loop-again cast-result returns)
+    tie.close (tie.spec Inv-loop μ-loop loop-holds (λ c. omega arith) (λ c. omega arith) (λ c κs. search needs)
+    (λ c. omega arith) (λ c κs. search needs) mul-n cast-n add-n (λ c. omega arith) (λ c. omega arith) loop-again
+    cast-result returns)

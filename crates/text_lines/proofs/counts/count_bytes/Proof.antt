@@ -1,4 +1,4 @@
--- `text_lines::counts::count_bytes` meets its contract. Assumes nothing.
+-- `text_lines::counts::count_bytes` meets its contract.
 use borrow.Author.Needs.{needs}
 use Rattle.text_lines.specs.Counting.{countsOf}
 use Rattle.text_lines.proofs.counts.count_bytes.Statement.{statement}

@@ -1,4 +1,4 @@
--- `text_lines::counts::is_over` meets its contract. Assumes nothing.
+-- `text_lines::counts::is_over` meets its contract.
 use Prim.Native.Nat.{ℕ}
 use mathlib.Core.Path.{_≡_, refl}
 use mathlib.Core.Bool.{Bool, true, false, not}

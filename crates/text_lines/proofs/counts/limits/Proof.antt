@@ -1,4 +1,4 @@
--- `text_lines::counts::limits` meets its contract, by the law on the counts. Assumes nothing.
+-- `text_lines::counts::limits` meets its contract, by the law on the counts.
 use mathlib.Core.Path.{ap, _∙_}
 use Rattle.netlist.specs.declared.Refusal.the-variants.{OverLimit}
 use Rattle.words_refusals.specs.Tests.{testOf}

@@ -1,4 +1,4 @@
--- `text_lines::counts::tally` meets its contract, by the law on the counts of bytes. Assumes nothing.
+-- `text_lines::counts::tally` meets its contract, by the law on the counts of bytes.
 use mathlib.Core.Path.{_∙_}
 use borrow.Author.Needs.{needs}
 use Rattle.text_lines.proofs.TreeCounts.{counts-are}

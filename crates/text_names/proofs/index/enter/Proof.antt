@@ -1,5 +1,4 @@
--- `text_names::index::enter` meets its contract: what is stored where no entry was is on no other name's way. Assumes
--- nothing.
+-- `text_names::index::enter` meets its contract: what is stored where no entry was is on no other name's way.
 use Prim.Native.Nat.{_+_}
 use mathlib.Core.Path.{refl}
 use mathlib.Core.Bool.{true≢false}
@@ -63,7 +62,5 @@ returns-2 c =
 
 pub enter-spec : {M : Type 1} → statement M
 enter-spec =
-    tie.close
-    (tie.spec
-    (λ c. search needs) (λ c. search needs) walk-requires mul-if1 slice-read-if1 (λ c. search needs) returns
-    (λ c. search needs) (λ c. search needs) mul-index slice-write-index (λ c. search needs) returns-2)
+    tie.close (tie.spec (λ c. search needs) (λ c. search needs) walk-requires mul-if1 slice-read-if1 (λ c. search needs)
+    returns (λ c. search needs) (λ c. search needs) mul-index slice-write-index (λ c. search needs) returns-2)

@@ -1,5 +1,4 @@
 -- `text_names::index::enter_all` meets its contract: the names passed are in the index, and none repeats one before it.
--- Assumes nothing.
 use Prim.Native.Nat.{_-_}
 use native.Mathlib.Omega.{arith}
 use lib.ListN.{length}
@@ -37,8 +36,6 @@ loop-again c =
 
 pub enter-all-spec : {M : Type 1} → statement M
 enter-all-spec =
-    tie.close
-    (tie.spec
-    Inv-loop μ-loop (λ c. entering-none (c .before .before .pre)) enter-requires same-length returns (λ c. omega arith)
-    (λ c. omega arith) loop-again (λ c. c .before .loop .inv .sized)
+    tie.close (tie.spec Inv-loop μ-loop (λ c. entering-none (c .before .before .pre)) enter-requires same-length returns
+    (λ c. omega arith) (λ c. omega arith) loop-again (λ c. c .before .loop .inv .sized)
     (λ c. entering-all (c .before .loop .inv) (omega arith)))

@@ -1,5 +1,4 @@
 -- `text_names::index::enter_if_room` meets its contract: what is stored where no entry was is on no other name's way.
--- Assumes nothing.
 use Prim.Native.Nat.{_+_}
 use mathlib.Core.Path.{refl, sym}
 use mathlib.Core.Bool.{true≢false}
@@ -36,8 +35,6 @@ returns-3 c =
 
 pub enter-if-room-spec : {M : Type 1} → statement M
 enter-if-room-spec =
-    tie.close
-    (tie.spec
-    (λ c. search needs) (λ c. search needs) walk-requires (λ c. search needs) returns (λ c. search needs)
-    (λ c. search needs) (λ c. search needs) returns-2 (λ c. search needs) (λ c. search needs) (λ c. search needs)
-    (λ c. search needs) (λ c. search needs) returns-3)
+    tie.close (tie.spec (λ c. search needs) (λ c. search needs) walk-requires (λ c. search needs) returns
+    (λ c. search needs) (λ c. search needs) (λ c. search needs) returns-2 (λ c. search needs) (λ c. search needs)
+    (λ c. search needs) (λ c. search needs) (λ c. search needs) returns-3)

@@ -1,5 +1,5 @@
 -- `text_names::index::enter_while_room` meets its contract: the names passed are in the index, and none repeats one
--- before it. Assumes nothing.
+-- before it.
 use Prim.Native.Nat.{_-_}
 use native.Mathlib.Omega.{arith}
 use lib.ListN.{length}
@@ -34,8 +34,6 @@ loop-again c =
 
 pub enter-while-room-spec : {M : Type 1} → statement M
 enter-while-room-spec =
-    tie.close
-    (tie.spec
-    Inv-loop μ-loop (λ c. holding-none (c .before .before .pre)) enter-if-room-requires same-length returns
-    (λ c. omega arith) (λ c. omega arith) loop-again (λ c. c .before .loop .inv .sized)
+    tie.close (tie.spec Inv-loop μ-loop (λ c. holding-none (c .before .before .pre)) enter-if-room-requires same-length
+    returns (λ c. omega arith) (λ c. omega arith) loop-again (λ c. c .before .loop .inv .sized)
     (λ c. c .before .loop .inv .sought))

@@ -1,5 +1,4 @@
 -- `text_names::index::find_indexed` meets its contract: at the end of its walk stands the entry of the name, or none.
--- Assumes nothing.
 use Prim.Native.Nat.{_-_}
 use native.Mathlib.Omega.{arith}
 use lib.ListN.{length, getD}
@@ -21,8 +20,7 @@ shared-slice-read-found : tie.Need-shared-slice-read-found
 shared-slice-read-found c =
     let s : tie.Start = search in
     ends-inside (s .args .names .now) (s .args .index .now) (s .args .name) (length (s .args .names .now))
-    (c .before .walk .result) (s .pre)
-    (c .before .walk .ensures)
+    (c .before .walk .result) (s .pre) (c .before .walk .ensures)
 
 cast-found : tie.Need-cast-found
 cast-found c = search (needs, c .shared-slice-known3 .given (c .before .walk .result))
@@ -32,8 +30,7 @@ returns c =
     let at-walk = c .before .before in
     let s = at-walk .before .before .before in
     index-miss (s .args .names .now) (s .args .index .now) (length (s .args .names .now)) (s .args .name)
-    (at-walk .walk .result) (held-of (s .pre))
-    (at-walk .walk .ensures) (c .if1 .taken)
+    (at-walk .walk .result) (held-of (s .pre)) (at-walk .walk .ensures) (c .if1 .taken)
 
 returns-2 : tie.Need-returns-2
 returns-2 c =
@@ -46,6 +43,5 @@ returns-2 c =
 
 pub find-indexed-spec : {M : Type 1} → statement M
 find-indexed-spec =
-    tie.close
-    (tie.spec
-    (λ c κs. search needs) mul-found shared-slice-read-found cast-found returns (λ c. search needs) returns-2)
+    tie.close (tie.spec (λ c κs. search needs) mul-found shared-slice-read-found cast-found returns (λ c. search needs)
+    returns-2)

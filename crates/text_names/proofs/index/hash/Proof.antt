@@ -1,4 +1,4 @@
--- `text_names::index::hash` meets its contract. Assumes nothing.
+-- `text_names::index::hash` meets its contract.
 use borrow.Author.Needs.{needs}
 use Rattle.text_names.specs.Index.{hashOf}
 use Rattle.text_names.proofs.index.hash.Statement.{statement}

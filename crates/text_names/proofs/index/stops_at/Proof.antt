@@ -1,4 +1,4 @@
--- `text_names::index::stops_at` meets its contract. Assumes nothing.
+-- `text_names::index::stops_at` meets its contract.
 use borrow.Author.Needs.{needs}
 use Rattle.text_names.specs.Index.{stopsAt}
 use Rattle.text_names.proofs.Indexing.{stops-entry}
@@ -15,5 +15,4 @@ returns-2 c =
     stops-entry (s .args .names .now) (s .args .name) (s .args .entry) (c .before .if1 .left)
 
 pub stops-at-spec : {M : Type 1} → statement M
-stops-at-spec =
-    tie.close (tie.spec returns (λ c. search needs) (λ c. search needs) (λ c. search needs) returns-2)
+stops-at-spec = tie.close (tie.spec returns (λ c. search needs) (λ c. search needs) (λ c. search needs) returns-2)

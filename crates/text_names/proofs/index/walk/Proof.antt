@@ -1,4 +1,4 @@
--- `text_names::index::walk` meets its contract: every entry passed is another name's. Assumes nothing.
+-- `text_names::index::walk` meets its contract: every entry passed is another name's.
 use Prim.Native.Nat.{_-_}
 use native.Mathlib.Omega.{arith}
 use borrow.Author.Needs.{needs}
@@ -33,8 +33,6 @@ loop-again c =
 
 pub walk-spec : {M : Type 1} → statement M
 walk-spec =
-    tie.close
-    (tie.spec
-    Inv-loop μ-loop (λ c κs. search needs) (λ c. walking-none (c .hash .ensures)) (λ c. omega arith) (λ c. omega arith)
-    cast-stops-at stops-at-requires returns (λ c. omega arith) (λ c. omega arith) loop-again
+    tie.close (tie.spec Inv-loop μ-loop (λ c κs. search needs) (λ c. walking-none (c .hash .ensures)) (λ c. omega arith)
+    (λ c. omega arith) cast-stops-at stops-at-requires returns (λ c. omega arith) (λ c. omega arith) loop-again
     (λ c. walking-behind (c .before .loop .inv) (omega arith)))

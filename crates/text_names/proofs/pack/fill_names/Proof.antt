@@ -1,4 +1,4 @@
--- `text_names::pack::fill_names` meets its contract: one name a turn. Assumes nothing.
+-- `text_names::pack::fill_names` meets its contract: one name a turn.
 use Prim.Native.Nat.{_-_}
 use native.Mathlib.Omega.{arith}
 use borrow.Author.Needs.{needs}
@@ -19,8 +19,6 @@ loop-again c = tabled-more (c .before .before .before .loop .inv) (omega arith) 
 
 pub fill-names-spec : {M : Type 1} → statement M
 fill-names-spec =
-    tie.close
-    (tie.spec
-    Inv-loop μ-loop (λ c. tabled-none) (λ c. omega arith) (λ c. omega arith) (λ c κs. search needs) (λ c. omega arith)
-    (λ c. omega arith) (λ c. omega arith) (λ c. omega arith) loop-again (λ c. c .before .loop .inv .kept)
-    (λ c. tabled-all (c .before .loop .inv) (omega arith)))
+    tie.close (tie.spec Inv-loop μ-loop (λ c. tabled-none) (λ c. omega arith) (λ c. omega arith) (λ c κs. search needs)
+    (λ c. omega arith) (λ c. omega arith) (λ c. omega arith) (λ c. omega arith) loop-again
+    (λ c. c .before .loop .inv .kept) (λ c. tabled-all (c .before .loop .inv) (omega arith)))

@@ -1,5 +1,4 @@
--- `text_names::pack::name_length` meets its contract: the bytes passed and the front of the rest are the front. Assumes
--- nothing.
+-- `text_names::pack::name_length` meets its contract: the bytes passed and the front of the rest are the front.
 use Prim.Native.Nat.{_+_, _-_, _≤_}
 use mathlib.Core.Path.{_≡_, sym, _∙_}
 use native.Mathlib.Omega.{arith}
@@ -51,7 +50,5 @@ returns-3 c =
 
 pub name-length-spec : {M : Type 1} → statement M
 name-length-spec =
-    tie.close
-    (tie.spec
-    Inv-loop μ-loop loop-holds returns (λ c. omega arith) (λ c κs. search needs) returns-2 (λ c. omega arith)
-    (λ c. omega arith) loop-again returns-3)
+    tie.close (tie.spec Inv-loop μ-loop loop-holds returns (λ c. omega arith) (λ c κs. search needs) returns-2
+    (λ c. omega arith) (λ c. omega arith) loop-again returns-3)

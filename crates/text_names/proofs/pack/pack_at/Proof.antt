@@ -1,4 +1,4 @@
--- `text_names::pack::pack_at` meets its contract: past the end there is no name. Assumes nothing.
+-- `text_names::pack::pack_at` meets its contract: past the end there is no name.
 use lib.ListN.{drop-of-length-le}
 use borrow.Author.Needs.{needs}
 use Rattle.prelude.proofs.Elements.{rest-is-drop}

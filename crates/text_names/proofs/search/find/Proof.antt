@@ -1,4 +1,4 @@
--- `text_names::search::find` meets its contract: no name passed is the one. Assumes nothing.
+-- `text_names::search::find` meets its contract: no name passed is the one.
 use Prim.Native.Nat.{_-_}
 use mathlib.Core.Path.{refl}
 use native.Mathlib.Omega.{arith}
@@ -28,7 +28,5 @@ returns-2 c = sought-all (c .before .loop .inv) (omega arith)
 
 pub find-spec : {M : Type 1} → statement M
 find-spec =
-    tie.close
-    (tie.spec
-    Inv-loop μ-loop (λ c. sought-none) (λ c. omega arith) (λ c. omega arith) returns (λ c. omega arith)
-    (λ c. omega arith) loop-again returns-2)
+    tie.close (tie.spec Inv-loop μ-loop (λ c. sought-none) (λ c. omega arith) (λ c. omega arith) returns
+    (λ c. omega arith) (λ c. omega arith) loop-again returns-2)

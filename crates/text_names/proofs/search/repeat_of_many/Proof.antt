@@ -1,5 +1,5 @@
 -- `text_names::search::repeat_of_many` meets its contract: no name that was entered repeats one before it; the name
--- behind them does, or each is compared. Assumes nothing.
+-- behind them does, or each is compared.
 use Prim.Native.Nat.{_+_}
 use native.Mathlib.Omega.{arith}
 use Rattle.text_names.specs.Index.{hashes}
@@ -25,7 +25,5 @@ returns-2 c =
 
 pub repeat-of-many-spec : {M : Type 1} → statement M
 repeat-of-many-spec =
-    tie.close
-    (tie.spec
-    (λ c. search needs) enter-while-room-requires returns (λ c κs. search needs) returns-2 (λ c κs. search needs)
-    (λ c. search needs))
+    tie.close (tie.spec (λ c. search needs) enter-while-room-requires returns (λ c κs. search needs) returns-2
+    (λ c κs. search needs) (λ c. search needs))

@@ -1,4 +1,4 @@
--- `text_names::search::repeats` meets its contract. Assumes nothing.
+-- `text_names::search::repeats` meets its contract.
 use borrow.Author.Needs.{needs}
 use Rattle.text_names.specs.Search.{repeatsAt}
 use Rattle.text_names.proofs.search.repeats.Statement.{statement}

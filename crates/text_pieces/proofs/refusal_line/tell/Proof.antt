@@ -1,4 +1,4 @@
--- `text_pieces::refusal_line::tell` meets its contract: its five pieces, one after the other. Assumes nothing.
+-- `text_pieces::refusal_line::tell` meets its contract: its five pieces, one after the other.
 use Prim.Native.Nat.{_≤_}
 use native.Mathlib.Omega.{arith}
 use lib.ListN.{length}
@@ -87,8 +87,6 @@ returns c =
 
 pub tell-spec : {M : Type 1} → statement M
 tell-spec =
-    tie.close
-    (tie.spec
-    (λ c κs. search needs) (λ c κs. search needs) (λ c. search needs) (λ c κs. search needs) put-decimal-requires
-    (λ c. search needs) put-all-requires-2 put-decimal-requires-2 (λ c. search needs) put-all-requires-3
-    (λ c. search needs) returns)
+    tie.close (tie.spec (λ c κs. search needs) (λ c κs. search needs) (λ c. search needs) (λ c κs. search needs)
+    put-decimal-requires (λ c. search needs) put-all-requires-2 put-decimal-requires-2 (λ c. search needs)
+    put-all-requires-3 (λ c. search needs) returns)

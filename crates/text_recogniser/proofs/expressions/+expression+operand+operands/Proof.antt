@@ -1,6 +1,6 @@
 -- The cycle of calls {expression, operand, operands}. Bytes left fall: each measure is twice the length of the text,
 -- one more for an expression, whose operands may begin where it does. Each answer is that of netlist's reader, one law
--- for each way through the code. Assumes nothing.
+-- for each way through the code.
 use Prim.Native.Nat.{ℕ, _<_}
 use borrow.Fn.Kinds.{In}
 use borrow.Fn.PlainCycle.{Measures, is, falls, and}
@@ -54,12 +54,10 @@ abbrev μ-operands : Measures 1 operands-kinds.ps ℕ
 μ-operands κs a = 2 * length (a .0 .now)
 
 abbrev expression-at : ℕ → In 1 expression-kinds.ps
-expression-at t =
-    and 1 expression-kinds.ps (is 1 expression-kinds.ps μ-expression t) expression.Pre
+expression-at t = and 1 expression-kinds.ps (is 1 expression-kinds.ps μ-expression t) expression.Pre
 
 abbrev expression-below : ℕ → In 1 expression-kinds.ps
-expression-below t =
-    and 1 expression-kinds.ps (falls 1 expression-kinds.ps _<_ μ-expression t) expression.Pre
+expression-below t = and 1 expression-kinds.ps (falls 1 expression-kinds.ps _<_ μ-expression t) expression.Pre
 
 abbrev operand-at : ℕ → In 1 operand-kinds.ps
 operand-at t = and 1 operand-kinds.ps (is 1 operand-kinds.ps μ-operand t) operand.Pre
@@ -71,8 +69,7 @@ abbrev operands-at : ℕ → In 1 operands-kinds.ps
 operands-at t = and 1 operands-kinds.ps (is 1 operands-kinds.ps μ-operands t) operands.Pre
 
 abbrev operands-below : ℕ → In 1 operands-kinds.ps
-operands-below t =
-    and 1 operands-kinds.ps (falls 1 operands-kinds.ps _<_ μ-operands t) operands.Pre
+operands-below t = and 1 operands-kinds.ps (falls 1 operands-kinds.ps _<_ μ-operands t) operands.Pre
 
 abbrev expression-claims : ℕ → expression-lts.Claims
 expression-claims t = (
@@ -240,8 +237,7 @@ module _ (t : ℕ) where
   operand-returns-3 c =
       let a : Operand-start = search in
       let byte : Byte = search in
-      sym
-      (operand-1 (a .args .depth) (a .args .s .now) (no-start (c .before .before)) (byte .byte-at .ensures)
+      sym (operand-1 (a .args .depth) (a .args .s .now) (no-start (c .before .before)) (byte .byte-at .ensures)
       (c .before .if2 .left) (c .if3 .taken))
 
   operand-returns-4 : operand-lts.Need-returns-4 (operand-claims t) (operand-at t) operand.Post
@@ -253,8 +249,7 @@ module _ (t : ℕ) where
   operand-returns-5 c =
       let a : Operand-start = search in
       let byte : Byte = search in
-      sym
-      (no-leaf (c .before .before)
+      sym (no-leaf (c .before .before)
       ∙ inner-other (a .args .depth) (a .args .s .now) (c .before .if4 .left) (byte .byte-at .ensures) (c .if5 .taken))
 
   operand-sub-expression-2 : operand-lts.Need-sub-expression-2 (operand-claims t) (operand-at t) operand.Post
@@ -274,8 +269,7 @@ module _ (t : ℕ) where
       let s = a .args .s .now in
       let read = exprReader {A = Term} (termReader (a .args .depth - 1)) apply in
       c .expression .ensures ∙ ap (λ u. scanOf (read u)) (rest-is-drop s 1)
-      ∙ sym
-      (no-leaf (b .before .before)
+      ∙ sym (no-leaf (b .before .before)
       ∙ inner-expression (a .args .depth) s (b .before .if4 .left) (byte .byte-at .ensures) (b .if5 .left))
 
 -- ---- the operands of an expression: where a turn has read its first byte, the loop and the function's entry

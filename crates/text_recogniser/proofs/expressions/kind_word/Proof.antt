@@ -1,5 +1,5 @@
 -- `text_recogniser::expressions::kind_word` meets its contract: the keyword of the kind's signature, without the zeros
--- at its end, is read as any word is. Assumes nothing.
+-- at its end, is read as any word is.
 use mathlib.Core.Path.{sym, ap}
 use lib.Seq.{length-take-le}
 use borrow.Author.Needs.{needs}
@@ -24,7 +24,5 @@ returns c =
 
 pub kind-word-spec : {M : Type 1} → statement M
 kind-word-spec =
-    tie.close
-    (tie.spec
-    (λ c κs. search needs) (λ c. search needs) (λ c κs. search needs) (λ c. search needs) slice-aggregate-word
-    (λ c κs. search needs) returns)
+    tie.close (tie.spec (λ c κs. search needs) (λ c. search needs) (λ c κs. search needs) (λ c. search needs)
+    slice-aggregate-word (λ c κs. search needs) returns)

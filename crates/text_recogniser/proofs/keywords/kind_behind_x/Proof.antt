@@ -1,4 +1,4 @@
--- `text_recogniser::keywords::kind_behind_x` meets its contract. Assumes nothing.
+-- `text_recogniser::keywords::kind_behind_x` meets its contract.
 use mathlib.Core.Path.{refl}
 use borrow.Author.Tests.{ne-eqb}
 use Rattle.text_recogniser.specs.Keywords.{kindBehindX}

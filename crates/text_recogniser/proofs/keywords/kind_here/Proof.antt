@@ -1,5 +1,4 @@
 -- `text_recogniser::keywords::kind_here` meets its contract: each way out is one side of the definition's choices.
--- Assumes nothing.
 use mathlib.Core.Path.{sym, _∙_, ap}
 use Rattle.text_recogniser.specs.Keywords.{kindBehindX}
 use Rattle.text_recogniser.proofs.KeywordLaws.{kind-and, kind-or, kind-x, kind-nand, kind-not, kind-nor}
@@ -56,7 +55,5 @@ returns-6 c =
 
 pub kind-here-spec : {M : Type 1} → statement M
 kind-here-spec =
-    tie.close
-    (tie.spec
-    (λ c κs. search needs) returns returns-2 (λ c κs. search needs) (λ c κs. search needs) returns-3
+    tie.close (tie.spec (λ c κs. search needs) returns returns-2 (λ c κs. search needs) (λ c κs. search needs) returns-3
     (λ c κs. search needs) returns-4 (λ c κs. search needs) returns-5 returns-6)

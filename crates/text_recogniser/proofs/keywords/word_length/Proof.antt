@@ -1,5 +1,5 @@
 -- `text_recogniser::keywords::word_length` meets its contract: the keyword of the kind's signature, without the zeros
--- at its end. Assumes nothing.
+-- at its end.
 use mathlib.Core.Path.{ap}
 use borrow.Author.Needs.{needs}
 use Rattle.netlist.specs.declared.Signature.{Signature}
@@ -15,6 +15,4 @@ returns c =
     (ap (λ (s : Signature). s .keyword) (read .signature-of .ensures)) (r .ensures .0) (r .ensures .1)
 
 pub word-length-spec : {M : Type 1} → statement M
-word-length-spec =
-    tie.close
-    (tie.spec (λ c κs. search needs) (λ c. search needs) (λ c κs. search needs) returns)
+word-length-spec = tie.close (tie.spec (λ c κs. search needs) (λ c. search needs) (λ c κs. search needs) returns)

@@ -1,5 +1,5 @@
 -- `text_recogniser::lines::line` meets its contract: the bracket, the letter and the phase say which line's reader is
--- called. Assumes nothing.
+-- called.
 use borrow.Author.Needs.{needs}
 use mathlib.Core.Path.{_≡_, sym, ap, _∙_}
 use mathlib.Core.Logic.{⊎-elim}
@@ -34,9 +34,7 @@ bracket-there c = byte-there (text c) (c .before .byte-at .ensures) (c .if1 .lef
 behind : (c : tie.After-byte-at2)
     → scanOf (lineBehind (phase c) (rest c)) ≡ scanOf (lineReader (phase c) (text (opened c)))
 behind c =
-    sym
-    (ap scanOf
-    (line-rest (phase c) (text (opened c)) (opened c .before .byte-at .ensures) (opened c .if1 .left)))
+    sym (ap scanOf (line-rest (phase c) (text (opened c)) (opened c .before .byte-at .ensures) (opened c .if1 .left)))
 
 -- past the tests: no input line, no never line, and no gate line may come
 no-input : (c : tie.Joined2) → c .before .byte-at2 .result ≡ 105 → phase (c .before) ≡ 0 → ⊥
@@ -71,8 +69,7 @@ returns-3 c =
     let letter : tie.Then4 = search in
     let allowed : tie.Then5 = search in
     c .never-line .ensures
-    ∙ sym
-    (ap scanOf
+    ∙ sym (ap scanOf
     (chosen-never (phase b) (rest b) (b .byte-at2 .ensures) (no-input j) (letter .if4 .taken) (allowed .if5 .taken)))
     ∙ behind b
 
@@ -84,8 +81,7 @@ returns-4 c =
     let letter : tie.Then6 = search in
     let allowed : tie.Then7 = search in
     c .gate-line .ensures
-    ∙ sym
-    (ap scanOf
+    ∙ sym (ap scanOf
     (chosen-gate (phase b) (rest b) (b .byte-at2 .ensures) (no-input j) (no-never k) (letter .if6 .taken)
     (allowed .if7 .taken)))
     ∙ behind b
@@ -97,14 +93,11 @@ returns-5 c =
     let k : tie.Joined4 = search in
     let l : tie.Joined6 = search in
     c .output-line .ensures
-    ∙ sym
-    (ap scanOf (chosen-output (phase b) (rest b) (b .byte-at2 .ensures) (no-input j) (no-never k) (no-gate l)))
+    ∙ sym (ap scanOf (chosen-output (phase b) (rest b) (b .byte-at2 .ensures) (no-input j) (no-never k) (no-gate l)))
     ∙ behind b
 
 pub line-spec : {M : Type 1} → statement M
 line-spec =
-    tie.close
-    (tie.spec
-    (λ c κs. search needs) returns (λ c. bracket-there c) (λ c. bracket-there c) (λ c. search needs)
+    tie.close (tie.spec (λ c κs. search needs) returns (λ c. bracket-there c) (λ c. bracket-there c) (λ c. search needs)
     (λ c κs. search needs) (λ c κs. search needs) returns-2 (λ c κs. search needs) returns-3 (λ c κs. search needs)
     returns-4 (λ c κs. search needs) returns-5)

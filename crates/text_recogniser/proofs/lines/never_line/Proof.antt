@@ -1,5 +1,4 @@
 -- `text_recogniser::lines::never_line` meets its contract: a chain of calls, each behind what the one before found.
--- Assumes nothing.
 use borrow.Author.Needs.{needs}
 use Rattle.text_recogniser.proofs.Chain.{begin, step, finish}
 use Rattle.text_recogniser.proofs.LineSteps.{never-word, never-pairs}
@@ -17,7 +16,5 @@ returns c =
 
 pub never-line-spec : {M : Type 1} → statement M
 never-line-spec =
-    tie.close
-    (tie.spec
-    (λ c. search needs) (λ c κs. search needs) (λ c κs. search needs) (λ c. search needs) (λ c κs. search needs)
-    returns)
+    tie.close (tie.spec (λ c. search needs) (λ c κs. search needs) (λ c κs. search needs) (λ c. search needs)
+    (λ c κs. search needs) returns)

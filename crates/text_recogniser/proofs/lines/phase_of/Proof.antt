@@ -1,5 +1,4 @@
 -- `text_recogniser::lines::phase_of` meets its contract: the tests are the definition's.
--- Assumes nothing.
 use Rattle.text_recogniser.proofs.lines.phase_of.Statement.{statement}
 use Rattle.text_recogniser.proofs.lines.phase_of.Tie as tie
 use mathlib.Core.Path.{sym}
@@ -15,8 +14,7 @@ unfolding phaseOf
 returns-2 c =
     rw (
       ne-eqb 105 (c .before .before .args .letter) (λ e. c .before .if1 .left (sym e)),
-      eq-eqb 110
-          (c .before .before .args .letter) (sym (c .if2 .taken)),
+      eq-eqb 110 (c .before .before .args .letter) (sym (c .if2 .taken)),
     )
 
 returns-3 : tie.Need-returns-3

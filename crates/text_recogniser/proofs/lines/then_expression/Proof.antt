@@ -1,5 +1,5 @@
 -- `text_recogniser::lines::then_expression` meets its contract: it answers a bad byte as it was found, and else reads
--- what is left. Assumes nothing.
+-- what is left.
 use borrow.Author.Needs.{needs}
 use Rattle.text_recogniser.specs.Scan.{expressionReader}
 use Rattle.text_recogniser.proofs.Chain.{found-bad, found-next}
@@ -21,7 +21,5 @@ returns-2 c =
 
 pub then-expression-spec : {M : Type 1} → statement M
 then-expression-spec =
-    tie.close
-    (tie.spec
-    (λ c. search needs) (λ c. search needs) returns (λ c κs. search needs) (λ c. search needs) (λ c. search needs)
-    (λ c. search needs) (λ c κs. search needs) returns-2)
+    tie.close (tie.spec (λ c. search needs) (λ c. search needs) returns (λ c κs. search needs) (λ c. search needs)
+    (λ c. search needs) (λ c. search needs) (λ c κs. search needs) returns-2)

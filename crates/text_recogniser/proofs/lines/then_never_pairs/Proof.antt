@@ -1,5 +1,5 @@
 -- `text_recogniser::lines::then_never_pairs` meets its contract: it answers a bad byte as it was found, and else reads
--- what is left. Assumes nothing.
+-- what is left.
 use borrow.Author.Needs.{needs}
 use Rattle.netlist.specs.Parse.{neverPairs}
 use Rattle.text_recogniser.proofs.LineSteps.{never-bound}
@@ -21,7 +21,5 @@ returns-2 c =
 
 pub then-never-pairs-spec : {M : Type 1} → statement M
 then-never-pairs-spec =
-    tie.close
-    (tie.spec
-    (λ c. search needs) (λ c. search needs) returns (λ c κs. search needs) (λ c. search needs) (λ c. search needs)
-    (λ c. search needs) (λ c. search needs) (λ c κs. search needs) returns-2)
+    tie.close (tie.spec (λ c. search needs) (λ c. search needs) returns (λ c κs. search needs) (λ c. search needs)
+    (λ c. search needs) (λ c. search needs) (λ c. search needs) (λ c κs. search needs) returns-2)

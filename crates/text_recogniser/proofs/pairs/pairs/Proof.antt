@@ -1,5 +1,5 @@
 -- `text_recogniser::pairs::pairs` meets its contract. The loop's invariant: the answer is that of the pairs still to
--- come, on the bytes left. Assumes nothing.
+-- come, on the bytes left.
 use borrow.Author.Needs.{needs}
 use Prim.Native.Nat.{_-_}
 use Rattle.text_recogniser.proofs.PairSteps.{PairsLeft, pairs-start, pairs-end, left-there, left-closed}
@@ -82,8 +82,6 @@ returns-4 c =
 
 pub pairs-spec : {M : Type 1} → statement M
 pairs-spec =
-    tie.close
-    (tie.spec
-    Inv-loop μ-loop loop-holds sub-byte-at (λ c κs. search needs) returns sub-t14 returns-2 (λ c κs. search needs)
-    (λ c. search needs) (λ c. search needs) returns-3 (λ c. search needs) (λ c. search needs) loop-again
-    (λ c. search needs) (λ c κs. search needs) returns-4)
+    tie.close (tie.spec Inv-loop μ-loop loop-holds sub-byte-at (λ c κs. search needs) returns sub-t14 returns-2
+    (λ c κs. search needs) (λ c. search needs) (λ c. search needs) returns-3 (λ c. search needs) (λ c. search needs)
+    loop-again (λ c. search needs) (λ c κs. search needs) returns-4)

@@ -1,5 +1,4 @@
 -- `text_recogniser::pairs::then_pair` meets its contract: a chain of calls, each behind what the one before found.
--- Assumes nothing.
 use borrow.Author.Needs.{needs}
 use Rattle.text_recogniser.proofs.Chain.{at-found, step, finish}
 use Rattle.text_recogniser.specs.Pairs.{pairScan}
@@ -23,7 +22,5 @@ returns c =
 
 pub then-pair-spec : {M : Type 1} → statement M
 then-pair-spec =
-    tie.close
-    (tie.spec
-    (λ c. search needs) (λ c κs. search needs) (λ c κs. search needs) (λ c. search needs) (λ c κs. search needs)
-    (λ c κs. search needs) (λ c. search needs) (λ c κs. search needs) returns)
+    tie.close (tie.spec (λ c. search needs) (λ c κs. search needs) (λ c κs. search needs) (λ c. search needs)
+    (λ c κs. search needs) (λ c κs. search needs) (λ c. search needs) (λ c κs. search needs) returns)

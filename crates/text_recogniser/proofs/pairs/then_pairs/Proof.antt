@@ -1,5 +1,5 @@
 -- `text_recogniser::pairs::then_pairs` meets its contract: it answers a bad byte as it was found, and else reads what
--- is left. Assumes nothing.
+-- is left.
 use borrow.Author.Needs.{needs}
 use Rattle.netlist.specs.Parse.{pairsReader}
 use Rattle.text_recogniser.proofs.Chain.{found-bad, found-next}
@@ -20,7 +20,5 @@ returns-2 c =
 
 pub then-pairs-spec : {M : Type 1} → statement M
 then-pairs-spec =
-    tie.close
-    (tie.spec
-    (λ c. search needs) (λ c. search needs) returns (λ c κs. search needs) (λ c. search needs) (λ c. search needs)
-    (λ c. search needs) (λ c κs. search needs) returns-2)
+    tie.close (tie.spec (λ c. search needs) (λ c. search needs) returns (λ c κs. search needs) (λ c. search needs)
+    (λ c. search needs) (λ c. search needs) (λ c κs. search needs) returns-2)

@@ -1,5 +1,5 @@
 -- `text_recogniser::pairs::then_value` meets its contract: it answers a bad byte as it was found, and else reads what
--- is left. Assumes nothing.
+-- is left.
 use borrow.Author.Needs.{needs}
 use Rattle.netlist.specs.Parse.{bitReader}
 use Rattle.text_recogniser.proofs.Chain.{found-bad, found-next}
@@ -19,7 +19,5 @@ returns-2 c =
 
 pub then-value-spec : {M : Type 1} → statement M
 then-value-spec =
-    tie.close
-    (tie.spec
-    (λ c. search needs) (λ c. search needs) returns (λ c κs. search needs) (λ c. search needs) (λ c. search needs)
-    (λ c. search needs) (λ c κs. search needs) returns-2)
+    tie.close (tie.spec (λ c. search needs) (λ c. search needs) returns (λ c κs. search needs) (λ c. search needs)
+    (λ c. search needs) (λ c. search needs) (λ c κs. search needs) returns-2)

@@ -1,5 +1,4 @@
 -- `text_recogniser::pairs::value` meets its contract: one law for each byte that may come.
--- Assumes nothing.
 use borrow.Author.Needs.{needs}
 use native.Mathlib.Omega.{arith}
 use Rattle.prelude.proofs.Elements.{byte-there}

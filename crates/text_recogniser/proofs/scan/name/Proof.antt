@@ -1,5 +1,4 @@
--- `text_recogniser::scan::name` meets its contract: a first byte that passes the test, and at most seven more. Assumes
--- nothing.
+-- `text_recogniser::scan::name` meets its contract: a first byte that passes the test, and at most seven more.
 use borrow.Author.Needs.{needs}
 use mathlib.Core.Path.{sym, ap, _∙_, _≡_}
 use mathlib.Core.Bool.{true}
@@ -27,8 +26,7 @@ starts-at c = sym (starts-is (c .before)) ∙ not-false (c .before .starts .resu
 returns : tie.Need-returns
 returns c =
     let a = entered (c .before) .args in
-    sym
-    (name-none (a .underscore) (a .s .now)
+    sym (name-none (a .underscore) (a .s .now)
     (sym (starts-is (c .before)) ∙ not-true (c .before .starts .result) (c .if1 .taken)))
 
 sub-name-bytes : tie.Need-sub-name-bytes
@@ -50,7 +48,5 @@ returns-2 c =
 
 pub name-spec : {M : Type 1} → statement M
 name-spec =
-    tie.close
-    (tie.spec
-    (λ c κs. search needs) (λ c κs. search needs) returns sub-name-bytes part-name-bytes-start (λ c. search needs)
-    (λ c κs. search needs) returns-2)
+    tie.close (tie.spec (λ c κs. search needs) (λ c κs. search needs) returns sub-name-bytes part-name-bytes-start
+    (λ c. search needs) (λ c κs. search needs) returns-2)

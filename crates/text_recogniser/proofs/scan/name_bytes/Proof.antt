@@ -1,5 +1,5 @@
 -- `text_recogniser::scan::name_bytes` meets its contract. The loop's invariant: the answer on the whole is the answer
--- on what is left of the text and of the bytes that may come. Assumes nothing.
+-- on what is left of the text and of the bytes that may come.
 use Rattle.text_recogniser.proofs.scan.name_bytes.Statement.{statement}
 use Rattle.text_recogniser.proofs.scan.name_bytes.Tie as tie
 use Prim.Native.Nat.{_-_, _≤_, _<_}
@@ -16,16 +16,16 @@ use Rattle.netlist.specs.Parse.{nameBytes}
 use Rattle.text_recogniser.proofs.Words.{nameFrom, name-byte-there, name-more, name-over, name-other}
 
 abbrev Inv-loop : tie.InvT-loop
-Inv-loop s most i₀ i = (i ≤ length s) × (scanOf (nameBytes most s) ≡ nameFrom most s i)
+Inv-loop s most i₀ i = record { within : i ≤ length s; same : scanOf (nameBytes most s) ≡ nameFrom most s i }
 
 abbrev μ-loop : tie.MeasureT-loop
 μ-loop s most i₀ i = most - i
 
 loop-holds : tie.Need-loop-holds Inv-loop μ-loop
-loop-holds c = (omega arith, rw (sub-zero (c .before .args .most)))
+loop-holds c = record { within = omega arith; same = rw (sub-zero (c .before .args .most)) }
 
 sub-result : tie.Need-sub-result Inv-loop μ-loop
-sub-result c = let l : tie.At-loop Inv-loop μ-loop = search in l .loop .inv .0
+sub-result c = let l : tie.At-loop Inv-loop μ-loop = search in l .loop .inv .within
 
 returns : tie.Need-returns Inv-loop μ-loop
 returns c =
@@ -35,9 +35,8 @@ returns c =
     let a = b .before .before .args in
     let h : isNameByte (getD (a .s .now) (b .loop .i) 0) ≡ false =
     ap isNameByte (sym (c .before .before .byte-at .ensures)) ∙ sym (c .before .is-name-byte .ensures)
-    ∙ not-true (c .before .is-name-byte .result) (c .if1 .taken)
-    in
-    sym (b .loop .inv .1 ∙ name-other (a .most) (a .s .now) (b .loop .i) (at-loop-test .loop-test .taken) h)
+    ∙ not-true (c .before .is-name-byte .result) (c .if1 .taken) in
+    sym (b .loop .inv .same ∙ name-other (a .most) (a .s .now) (b .loop .i) (at-loop-test .loop-test .taken) h)
 
 add-i : tie.Need-add-i Inv-loop μ-loop
 add-i c =
@@ -52,23 +51,20 @@ loop-again c =
     let a = b .before .before .args in
     let h : isNameByte (getD (a .s .now) (b .loop .i) 0) ≡ true =
     ap isNameByte (sym (c .before .before .byte-at .ensures)) ∙ sym (c .before .is-name-byte .ensures)
-    ∙ not-false (c .before .is-name-byte .result) (c .if1 .left)
-    in
+    ∙ not-false (c .before .is-name-byte .result) (c .if1 .left) in
     let l : b .loop .i < length (a .s .now) = name-byte-there (a .most) (a .s .now) (b .loop .i) h in
-    let e = b .loop .inv .1 ∙ name-more (a .most) (a .s .now) (b .loop .i) (at-loop-test .loop-test .taken) h in
-    (omega arith, rw (add-one (b .loop .i)) e)
+    let e = b .loop .inv .same ∙ name-more (a .most) (a .s .now) (b .loop .i) (at-loop-test .loop-test .taken) h in
+    record { within = omega arith; same = rw (add-one (b .loop .i)) e }
 
 sub-result-2 : tie.Need-sub-result-2 Inv-loop μ-loop
-sub-result-2 c = c .before .loop .inv .0
+sub-result-2 c = c .before .loop .inv .within
 
 returns-2 : tie.Need-returns-2 Inv-loop μ-loop
 returns-2 c = let a = c .before .before .before .args in
-    sym (c .before .loop .inv .1
-    ∙ name-over (a .most) (a .s .now) (c .before .loop .i) (c .before .loop .inv .0) (c .loop-test .left))
+    sym (c .before .loop .inv .same
+    ∙ name-over (a .most) (a .s .now) (c .before .loop .i) (c .before .loop .inv .within) (c .loop-test .left))
 
 pub name-bytes-spec : {M : Type 1} → statement M
 name-bytes-spec =
-    tie.close
-    (tie.spec
-    Inv-loop μ-loop loop-holds (λ c κs. tt) (λ c κs. tt) sub-result returns add-i (λ c. omega arith) loop-again
-    sub-result-2 returns-2)
+    tie.close (tie.spec Inv-loop μ-loop loop-holds (λ c κs. tt) (λ c κs. tt) sub-result returns add-i (λ c. omega arith)
+    loop-again sub-result-2 returns-2)

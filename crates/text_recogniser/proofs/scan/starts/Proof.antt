@@ -1,5 +1,4 @@
 -- `text_recogniser::scan::starts` meets its contract: the flag chooses the test.
--- Assumes nothing.
 use borrow.Author.Needs.{needs}
 use Rattle.text_recogniser.proofs.scan.starts.Statement.{statement}
 use Rattle.text_recogniser.proofs.scan.starts.Tie as tie

@@ -1,4 +1,4 @@
--- `text_symbols::duplicates::duplicate` meets its contract. Assumes nothing.
+-- `text_symbols::duplicates::duplicate` meets its contract.
 use Prim.Native.Nat.{ℕ, _+_}
 use mathlib.Core.Path.{_≡_, sym}
 use native.Mathlib.Omega.{arith}
@@ -65,8 +65,7 @@ returns-3 c =
           λ t legal counted table. none-repeats t legal (s .args .c) counted (s .args .names .now)
           (s .args .places .now) table
           (s .pre .numberRoom) (s .pre .placeRoom) (at-enter .enter-all .result) (at-enter .enter-all .ensures .answer)
-          (at-if1 .if1 .left)
-          (at-port .repeat-of-few .result) (at-port .repeat-of-few .ensures) (c .if2 .left);
+          (at-if1 .if1 .left) (at-port .repeat-of-few .result) (at-port .repeat-of-few .ensures) (c .if2 .left);
       indexed =
           λ _. at-enter .enter-all .ensures .indexed
           (rw (length-take-le (s .args .c .inputs + s .args .c .named) (s .args .names .now)
@@ -75,9 +74,7 @@ returns-3 c =
 
 pub duplicate-spec : {M : Type 1} → statement M
 duplicate-spec =
-    tie.close
-    (tie.spec
-    (λ c. search needs) slice-aggregate-enter-all enter-all-requires (λ c. search needs) (λ c. search needs)
-    (λ c. search needs) returns (λ c. search needs) (λ c. search needs) (λ c. search needs) (λ c. search needs)
-    (λ c. search needs) (λ c κs. search needs) (λ c. search needs) (λ c. search needs) (λ c. search needs)
-    (λ c. search needs) returns-2 (λ c. search needs) returns-3)
+    tie.close (tie.spec (λ c. search needs) slice-aggregate-enter-all enter-all-requires (λ c. search needs)
+    (λ c. search needs) (λ c. search needs) returns (λ c. search needs) (λ c. search needs) (λ c. search needs)
+    (λ c. search needs) (λ c. search needs) (λ c κs. search needs) (λ c. search needs) (λ c. search needs)
+    (λ c. search needs) (λ c. search needs) returns-2 (λ c. search needs) returns-3)

@@ -1,5 +1,5 @@
 -- `text_symbols::table::declare` meets its contract: the lines of inputs are filled in first, then those behind never
--- lines, by the laws on what the loops fill in. Assumes nothing.
+-- lines, by the laws on what the loops fill in.
 use mathlib.Core.Path.{_∙_}
 use Rattle.text_symbols.proofs.FillSteps.{filled-sizes}
 use Rattle.text_symbols.proofs.TreeTable.{names-sized, tables-are}
@@ -27,7 +27,5 @@ returns c =
 
 pub declare-spec : {M : Type 1} → statement M
 declare-spec =
-    tie.close
-    (tie.spec
-    (λ c. search needs) (λ c κs. search needs) (λ c κs. search needs) (λ c. search needs) (λ c κs. search needs)
-    returns)
+    tie.close (tie.spec (λ c. search needs) (λ c κs. search needs) (λ c κs. search needs) (λ c. search needs)
+    (λ c κs. search needs) returns)

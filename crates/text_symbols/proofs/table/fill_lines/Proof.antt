@@ -1,6 +1,5 @@
--- `text_symbols::table::fill_lines` meets its contract: one line a turn, read from the rest of the text. Assumes
--- nothing.
-use Prim.Native.Nat.{_+_, _-_, _≤_, _<_}
+-- `text_symbols::table::fill_lines` meets its contract: one line a turn, read from the rest of the text.
+use Prim.Native.Nat.{_+_, _-_, _≤_}
 use mathlib.Core.Path.{refl}
 use native.Mathlib.Omega.{arith}
 use lib.ListN.{length}
@@ -108,8 +107,6 @@ returns c = fill-done (entry (c .before) .pre) (c .before .loop .inv) (omega ari
 
 pub fill-lines-spec : {M : Type 1} → statement M
 fill-lines-spec =
-    tie.close
-    (tie.spec
-    Inv-loop μ-loop loop-holds sub-line-of part-line-of-start part-line-of-end line-of-requires add-gates add-places
-    add-places-2 mul-places element-write-places add-line-word line-word-requires cast-words add-words mul-words
-    element-write-words add-at (λ c. omega arith) (λ c. omega arith) loop-again returns)
+    tie.close (tie.spec Inv-loop μ-loop loop-holds sub-line-of part-line-of-start part-line-of-end line-of-requires
+    add-gates add-places add-places-2 mul-places element-write-places add-line-word line-word-requires cast-words
+    add-words mul-words element-write-words add-at (λ c. omega arith) (λ c. omega arith) loop-again returns)

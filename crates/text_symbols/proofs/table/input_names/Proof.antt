@@ -1,5 +1,5 @@
 -- `text_symbols::table::input_names` meets its contract: one line a turn, read from the rest of the text; the first n
--- lines are the inputs'. Assumes nothing.
+-- lines are the inputs'.
 use Prim.Native.Nat.{_-_}
 use mathlib.Core.Path.{refl, _∙_}
 use native.Mathlib.Omega.{arith}
@@ -73,8 +73,6 @@ returns c =
 
 pub input-names-spec : {M : Type 1} → statement M
 input-names-spec =
-    tie.close
-    (tie.spec
-    Inv-loop μ-loop loop-holds sub-line-of part-line-of-start part-line-of-end line-of-requires add-pack-at
-    (λ c κs. search needs) (λ c. omega arith) element-write-inputs add-at (λ c. omega arith) (λ c. omega arith)
-    loop-again returns)
+    tie.close (tie.spec Inv-loop μ-loop loop-holds sub-line-of part-line-of-start part-line-of-end line-of-requires
+    add-pack-at (λ c κs. search needs) (λ c. omega arith) element-write-inputs add-at (λ c. omega arith)
+    (λ c. omega arith) loop-again returns)

@@ -1,4 +1,4 @@
--- `text_symbols::table::line_word` meets its contract. Assumes nothing.
+-- `text_symbols::table::line_word` meets its contract.
 use mathlib.Core.Path.{_≡_}
 use native.Mathlib.Omega.{arith}
 use borrow.Author.Tests.{lt-ltb, le-ltb}

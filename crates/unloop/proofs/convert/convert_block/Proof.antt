@@ -1,4 +1,4 @@
--- `unloop::convert::convert_block` meets its contract. Assumes nothing.
+-- `unloop::convert::convert_block` meets its contract.
 use mathlib.Core.Path.{sym}
 use borrow.Author.Needs.{needs}
 use Rattle.unloop.proofs.convert.convert_block.Statement.{statement}
@@ -44,9 +44,7 @@ slice-aggregate-convert-rendered c =
     let s = start (done-render n) in
     let a = s .args in
     let f = render-fits (length (a .copies .now)) (s .pre .0) (a .words .now) in
-    sym
-    (length-take-le _ _
-    (gave-within
+    sym (length-take-le _ _ (gave-within
     (told-done (renderWords (a .words .now)) _ (a .copies .now) _ f (done-render n .render .ensures .promise)
     (n .count .given .0 .0) (n .count .given .0 .1 .0) (n .count .given .1))))
 
@@ -58,11 +56,9 @@ returns c =
     let a = s .args in
     let o = renderWords (a .words .now) in
     let f = render-fits (length (a .copies .now)) (s .pre .0) (a .words .now) in
-    shown-is
-    (chained-refused o writeWords (w .why .given .0 .0)
+    shown-is (chained-refused o writeWords (w .why .given .0 .0)
     (told-refused o _ (a .copies .now) _ f (refused-render w .render .ensures .promise) (w .why .given .0 .0)
-    (w .why .given .1)))
-    (c .before .before .tell .ensures)
+    (w .why .given .1))) (c .before .before .tell .ensures)
 
 returns-2 : tie.Need-returns-2
 unfolding render
@@ -72,16 +68,12 @@ returns-2 c =
     let a = s .args in
     let o = renderWords (a .words .now) in
     let f = render-fits (length (a .copies .now)) (s .pre .0) (a .words .now) in
-    shown-is
-    (chained-gave o writeWords
-    (told-done o _ (a .copies .now) _ f (done-render n .render .ensures .promise)
+    shown-is (chained-gave o writeWords (told-done o _ (a .copies .now) _ f (done-render n .render .ensures .promise)
     (n .count .given .0 .0) (n .count .given .0 .1 .0) (n .count .given .1)))
     (c .before .before .convert-rendered .ensures)
 
 pub convert-block-spec : {M : Type 1} → statement M
 convert-block-spec =
-    tie.close
-    (tie.spec
-    (λ c κs. search needs) (λ c. search needs) (λ c κs. search needs) (λ c. search needs)
+    tie.close (tie.spec (λ c κs. search needs) (λ c. search needs) (λ c κs. search needs) (λ c. search needs)
     slice-reshare-prefix-convert-rendered slice-aggregate-convert-rendered (λ c κs. search needs) (λ c. search needs)
     (λ c. search needs) returns (λ c. search needs) (λ c. search needs) returns-2)

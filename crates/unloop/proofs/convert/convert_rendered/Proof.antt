@@ -1,4 +1,4 @@
--- `unloop::convert::convert_rendered` meets its contract. Assumes nothing.
+-- `unloop::convert::convert_rendered` meets its contract.
 use borrow.Author.Needs.{needs}
 use Rattle.unloop.proofs.convert.convert_rendered.Statement.{statement}
 use Rattle.unloop.proofs.convert.convert_rendered.Tie as tie
@@ -33,8 +33,7 @@ returns c =
     let f = write-fits (length (a .out .now)) (s .pre) (a .words .now) in
     let e = refused-write w .write .ensures in
     let why = w .why .given in
-    shown-refused o (why .0 .0) (a .out .now) _ _ _
-    (told-refused o _ (a .out .now) _ f e (why .0 .0) (why .1))
+    shown-refused o (why .0 .0) (a .out .now) _ _ _ (told-refused o _ (a .out .now) _ f e (why .0 .0) (why .1))
     (kept-refused o _ (a .out .now) _ f e (why .0 .0) (why .1)) (c .before .before .tell .ensures)
 
 returns-2 : tie.Need-returns-2
@@ -44,13 +43,10 @@ returns-2 c =
     let s = start (done-write n) in
     let a = s .args in
     let f = write-fits (length (a .out .now)) (s .pre) (a .words .now) in
-    shown-gave
-    (told-done (writeWords (a .words .now)) _ (a .out .now) _ f (done-write n .write .ensures)
+    shown-gave (told-done (writeWords (a .words .now)) _ (a .out .now) _ f (done-write n .write .ensures)
     (n .count .given .0 .0) (n .count .given .0 .1 .0) (n .count .given .1))
 
 pub convert-rendered-spec : {M : Type 1} → statement M
 convert-rendered-spec =
-    tie.close
-    (tie.spec
-    (λ c κs. search needs) (λ c. search needs) (λ c κs. search needs) (λ c. search needs) (λ c. search needs) returns
-    (λ c. search needs) returns-2)
+    tie.close (tie.spec (λ c κs. search needs) (λ c. search needs) (λ c κs. search needs) (λ c. search needs)
+    (λ c. search needs) returns (λ c. search needs) returns-2)

@@ -1,4 +1,4 @@
--- `unloop::convert::convert_with` meets its contract. Assumes nothing.
+-- `unloop::convert::convert_with` meets its contract.
 use mathlib.Core.Path.{sym}
 use borrow.Author.Needs.{needs}
 use Rattle.unloop.proofs.convert.convert_with.Statement.{statement}
@@ -32,8 +32,7 @@ slice-reshare-prefix-convert-block c =
     let n = c .before in
     let s = start (done-read n) in
     let a = s .args in
-    gave-within
-    (told-done (readText (a .text .now)) _ (a .block .now) _
+    gave-within (told-done (readText (a .text .now)) _ (a .block .now) _
     (read-fits (length (a .block .now)) (s .pre .0) (a .text .now)) (done-read n .read .ensures)
     (n .count .given .0 .0) (n .count .given .0 .1 .0) (n .count .given .1))
 
@@ -43,10 +42,7 @@ slice-aggregate-convert-block c =
     let n = c .before .before in
     let s = start (done-read n) in
     let a = s .args in
-    sym
-    (length-take-le _ _
-    (gave-within
-    (told-done (readText (a .text .now)) _ (a .block .now) _
+    sym (length-take-le _ _ (gave-within (told-done (readText (a .text .now)) _ (a .block .now) _
     (read-fits (length (a .block .now)) (s .pre .0) (a .text .now)) (done-read n .read .ensures)
     (n .count .given .0 .0) (n .count .given .0 .1 .0) (n .count .given .1))))
 
@@ -56,11 +52,9 @@ returns c =
     let w : tie.After-why = search in
     let s = start (refused-read w) in
     let a = s .args in
-    unloop-refused (a .text .now) (w .why .given .0 .0)
-    (told-refused (readText (a .text .now)) _ (a .block .now) _
+    unloop-refused (a .text .now) (w .why .given .0 .0) (told-refused (readText (a .text .now)) _ (a .block .now) _
     (read-fits (length (a .block .now)) (s .pre .0) (a .text .now)) (refused-read w .read .ensures)
-    (w .why .given .0 .0) (w .why .given .1))
-    (c .before .before .tell .ensures)
+    (w .why .given .0 .0) (w .why .given .1)) (c .before .before .tell .ensures)
 
 returns-2 : tie.Need-returns-2
 unfolding read
@@ -69,16 +63,12 @@ returns-2 c =
     let n : tie.After-count = search in
     let s = start (done-read n) in
     let a = s .args in
-    unloop-gave (a .text .now)
-    (told-done (readText (a .text .now)) _ (a .block .now) _
+    unloop-gave (a .text .now) (told-done (readText (a .text .now)) _ (a .block .now) _
     (read-fits (length (a .block .now)) (s .pre .0) (a .text .now)) (done-read n .read .ensures)
-    (n .count .given .0 .0) (n .count .given .0 .1 .0) (n .count .given .1))
-    (converted .convert-block .ensures)
+    (n .count .given .0 .0) (n .count .given .0 .1 .0) (n .count .given .1)) (converted .convert-block .ensures)
 
 pub convert-with-spec : {M : Type 1} → statement M
 convert-with-spec =
-    tie.close
-    (tie.spec
-    (λ c κs. search needs) (λ c. search needs) (λ c κs. search needs) (λ c. search needs)
+    tie.close (tie.spec (λ c κs. search needs) (λ c. search needs) (λ c κs. search needs) (λ c. search needs)
     slice-reshare-prefix-convert-block slice-aggregate-convert-block (λ c κs. search needs) (λ c. search needs)
     (λ c. search needs) returns (λ c. search needs) (λ c. search needs) (λ c. search needs) returns-2)

@@ -1,5 +1,5 @@
 -- `unroll_depth::group::count_group` meets its contract: the group's settled pairs are put aside, the passes made from
--- undefined, and the pairs put back. Assumes nothing.
+-- undefined, and the pairs put back.
 use mathlib.Core.Path.{_∙_}
 use Rattle.unroll_depth.specs.Passes.{PassReady}
 use Rattle.unroll_depth.proofs.GroupLaws.{group-nodes, group-few}
@@ -23,8 +23,7 @@ ran m = m .before .before .before
 -- what is known when the passes so far are made
 ready : (r : tie.After-run-passes) → let s = start (saved (cleared r)) in
     PassReady (s .args .words .now) (s .args .graph .now) (s .args .members .now) (s .args .turn) (s .args .counted)
-    (r .run-passes .last .1 .1 .1 .1 .1 .0)
-    (saved (cleared r) .put-pairs .last .1 .1 .1 .1 .0)
+    (r .run-passes .last .1 .1 .1 .1 .1 .0) (saved (cleared r) .put-pairs .last .1 .1 .1 .1 .0)
 ready r =
     let c = cleared r in
     let p = saved c in
@@ -54,15 +53,13 @@ returns c =
       m .more-passes .ensures .counted,
       (
         put-back (q .batch) (q .settled) (p .put-pairs .ensures) (d .clear-pairs .ensures) (r .run-passes .ensures)
-            (m .more-passes .ensures)
-            (c .put-pairs2 .ensures),
+            (m .more-passes .ensures) (c .put-pairs2 .ensures),
         p .put-pairs .ensures .long,
       ),
     )
 
 pub count-group-spec : {M : Type 1} → statement M
 count-group-spec =
-    tie.close
-    (tie.spec
-    put-pairs-requires clear-pairs-requires (λ c κs. group-nodes (start (saved (c .before)) .pre .batch))
-    (λ c κs. ready (c .before .before)) put-pairs-requires-2 returns)
+    tie.close (tie.spec put-pairs-requires clear-pairs-requires
+    (λ c κs. group-nodes (start (saved (c .before)) .pre .batch)) (λ c κs. ready (c .before .before))
+    put-pairs-requires-2 returns)

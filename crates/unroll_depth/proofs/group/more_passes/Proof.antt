@@ -1,5 +1,4 @@
--- `unroll_depth::group::more_passes` meets its contract: each turn makes a pass that some setting needs. Assumes
--- nothing.
+-- `unroll_depth::group::more_passes` meets its contract: each turn makes a pass that some setting needs.
 use mathlib.Core.Path.{refl}
 use Prim.Native.Nat.{_+_, _-_, _≤_}
 use native.Mathlib.Omega.{arith}
@@ -57,8 +56,7 @@ loop-again c =
     let l = head d in
     let r = start l .pre in
     passing-more (r .batch) (r .kept) (l .loop .inv) refl (omega (arith, d .before .before .loop-test .taken))
-    (rw (t .if1 .taken) at (d .lacks .ensures))
-    (c .sweep-part .ensures)
+    (rw (t .if1 .taken) at (d .lacks .ensures)) (c .sweep-part .ensures)
 
 returns : tie.Need-returns Inv-loop μ-loop
 returns c =
@@ -75,9 +73,7 @@ returns-2 c =
 
 pub more-passes-spec : {M : Type 1} → statement M
 more-passes-spec =
-    tie.close
-    (tie.spec
-    Inv-loop μ-loop (λ c. omega (arith, c .before .before .pre .batch .positions .ordered))
+    tie.close (tie.spec Inv-loop μ-loop (λ c. omega (arith, c .before .before .pre .batch .positions .ordered))
     (λ c. let s = c .before .before in passing-first (s .pre .batch) (s .pre)) lacks-requires
     (λ c κs. group-nodes (start (head (c .before .before)) .pre .batch)) (λ c. omega (arith, small (looked c)))
     add-total loop-less loop-again returns returns-2)

@@ -1,4 +1,4 @@
--- `unroll_depth::group::run_passes` meets its contract: after p turns p passes are made. Assumes nothing.
+-- `unroll_depth::group::run_passes` meets its contract: after p turns p passes are made.
 use mathlib.Core.Path.{_≡_}
 use mathlib.Core.Bool.{false}
 use Prim.Native.Nat.{_-_, _≤_}
@@ -31,7 +31,5 @@ returns c =
 
 pub run-passes-spec : {M : Type 1} → statement M
 run-passes-spec =
-    tie.close
-    (tie.spec
-    Inv-loop μ-loop (λ c. (omega arith, ran-none (c .args .graph .now) (c .args .lanes .now)))
+    tie.close (tie.spec Inv-loop μ-loop (λ c. (omega arith, ran-none (c .args .graph .now) (c .args .lanes .now)))
     (λ c κs. c .before .before .before .pre) (λ c. omega arith) (λ c. omega arith) loop-again returns)

@@ -1,5 +1,4 @@
--- `unroll_depth::pairs::clear_pairs` meets its contract: after each turn the gates passed are undefined. Assumes
--- nothing.
+-- `unroll_depth::pairs::clear_pairs` meets its contract: after each turn the gates passed are undefined.
 use mathlib.Core.Path.{refl}
 use mathlib.Core.List.{[]}
 use mathlib.Core.Bool.{false}
@@ -52,9 +51,7 @@ returns c =
 
 pub clear-pairs-spec : {M : Type 1} → statement M
 clear-pairs-spec =
-    tie.close
-    (tie.spec
-    Inv-loop μ-loop loop-holds (λ c. omega (arith, c .before .before .before .pre .0 .within))
+    tie.close (tie.spec Inv-loop μ-loop loop-holds (λ c. omega (arith, c .before .before .before .pre .0 .within))
     (λ c. omega (arith, c .before .before .before .pre .0 .within)) (λ c. omega (arith, inside (c .before .before)))
     (λ c. omega (arith, inside (c .before .before))) (λ c κs. omega (arith, inside (c .before .before)))
     (λ c. omega arith) (λ c. omega arith) loop-again returns)

@@ -1,4 +1,4 @@
--- `unroll_depth::pairs::difference` meets its contract: both pairs are read. Assumes nothing.
+-- `unroll_depth::pairs::difference` meets its contract: both pairs are read.
 use borrow.Author.Needs.{needs}
 use Rattle.unroll_depth.specs.Pairs.{differenceOf}
 use Rattle.unroll_depth.proofs.pairs.difference.Statement.{statement}

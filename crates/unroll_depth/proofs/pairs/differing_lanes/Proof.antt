@@ -1,5 +1,4 @@
 -- `unroll_depth::pairs::differing_lanes` meets its contract: after each turn the lanes of the gates passed are marked.
--- Assumes nothing.
 use mathlib.Core.Bool.{false}
 use Prim.Native.Nat.{_-_, _≤_, _<_}
 use native.Mathlib.Omega.{arith}
@@ -37,8 +36,7 @@ loop-again c =
       omega arith,
       omega arith,
       differs-more (a .lanes .now) (a .kept .now) (a .members .now) (a .from) (l .loop .i) (l .loop .differing)
-          (c .difference .result) (l .loop .inv .0)
-          (l .loop .inv .2) (c .difference .ensures),
+          (c .difference .result) (l .loop .inv .0) (l .loop .inv .2) (c .difference .ensures),
     )
 
 returns : tie.Need-returns Inv-loop μ-loop
@@ -50,9 +48,7 @@ returns c =
 
 pub differing-lanes-spec : {M : Type 1} → statement M
 differing-lanes-spec =
-    tie.close
-    (tie.spec
-    Inv-loop μ-loop loop-holds (λ c. omega (arith, c .before .before .pre .within))
+    tie.close (tie.spec Inv-loop μ-loop loop-holds (λ c. omega (arith, c .before .before .pre .within))
     (λ c. omega (arith, c .before .before .pre .within)) (λ c. omega (arith, inside (c .before)))
     (λ c. omega (arith, inside (c .before))) (λ c κs. omega (arith, inside (c .before))) (λ c. omega arith)
     (λ c. omega arith) loop-again returns)

@@ -1,4 +1,4 @@
--- `unroll_depth::pairs::lacks` meets its contract. Assumes nothing.
+-- `unroll_depth::pairs::lacks` meets its contract.
 use borrow.Author.Needs.{needs}
 use lib.ListN.{getD}
 use Rattle.netlist.specs.StoredBlock.{decode}
@@ -25,8 +25,7 @@ returns c =
     let d = c .before in
     let a = start d .args in
     lacks-none (decode (a .words .now)) (getD (a .words .now) 0 0) (a .turn .base) (groupOf (a .members .now) (a .turn))
-    (a .lanes .now) (a .kept .now) (told d)
-    (c .if1 .taken)
+    (a .lanes .now) (a .kept .now) (told d) (c .if1 .taken)
 
 coming-lanes-requires : tie.Need-coming-lanes-requires
 coming-lanes-requires c κs =
@@ -40,8 +39,7 @@ returns-2 c =
     let d = n .before .before in
     let a = start d .args in
     lacks-told (decode (a .words .now)) (getD (a .words .now) 0 0) (a .turn .base) (groupOf (a .members .now) (a .turn))
-    (a .lanes .now) (a .kept .now) (told d)
-    (rw (n .inputs-of .ensures) at (c .coming-lanes .ensures))
+    (a .lanes .now) (a .kept .now) (told d) (rw (n .inputs-of .ensures) at (c .coming-lanes .ensures))
 
 pub lacks-spec : {M : Type 1} → statement M
 lacks-spec =

@@ -1,5 +1,4 @@
--- `unroll_depth::pairs::put_pairs` meets its contract: after each turn the pairs of the gates passed are put. Assumes
--- nothing.
+-- `unroll_depth::pairs::put_pairs` meets its contract: after each turn the pairs of the gates passed are put.
 use mathlib.Core.Bool.{false}
 use Prim.Native.Nat.{_-_, _≤_, _<_}
 use native.Mathlib.Omega.{arith}
@@ -38,8 +37,7 @@ loop-again c =
       omega arith,
       omega arith,
       put-more (s .args .members .now) (s .args .from) (l .loop .i) (l .loop .inv .0) (inside turn) (s .pre .1)
-          (l .loop .inv .2) (q .pair-at .ensures)
-          (c .put-pair .ensures),
+          (l .loop .inv .2) (q .pair-at .ensures) (c .put-pair .ensures),
     )
 
 returns : tie.Need-returns Inv-loop μ-loop
@@ -51,9 +49,7 @@ returns c =
 
 pub put-pairs-spec : {M : Type 1} → statement M
 put-pairs-spec =
-    tie.close
-    (tie.spec
-    Inv-loop μ-loop loop-holds (λ c. omega (arith, c .before .before .pre .0 .within))
+    tie.close (tie.spec Inv-loop μ-loop loop-holds (λ c. omega (arith, c .before .before .pre .0 .within))
     (λ c. omega (arith, c .before .before .pre .0 .within)) (λ c. omega (arith, inside (c .before)))
     (λ c. omega (arith, inside (c .before))) (λ c κs. omega (arith, inside (c .before .before)))
     (λ c κs. omega (arith, inside (c .before .before .before))) (λ c. omega arith) (λ c. omega arith) loop-again

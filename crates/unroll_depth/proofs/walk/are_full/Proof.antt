@@ -1,5 +1,4 @@
 -- `unroll_depth::walk::are_full` meets its contract: after g turns the first g groups have as many passes as gates.
--- Assumes nothing.
 use mathlib.Core.Path.{_≡_}
 use mathlib.Core.Logic.{⊎-elim}
 use mathlib.Core.Bool.{false≢true}
@@ -46,9 +45,7 @@ returns-2 c =
 
 pub are-full-spec : {M : Type 1} → statement M
 are-full-spec =
-    tie.close
-    (tie.spec
-    Inv-loop μ-loop (λ c. (omega arith, λ i l. absurd (omega arith)))
+    tie.close (tie.spec Inv-loop μ-loop (λ c. (omega arith, λ i l. absurd (omega arith)))
     (λ c κs. omega (arith, c .before .before .pre .0)) (λ c. search needs)
     (λ c. omega (arith, c .before .before .before .pre .0)) (λ c. omega (arith, c .before .before .before .pre .0))
     (λ c. omega (arith, few (c .before .before))) (λ c. omega (arith, few (c .before .before)))

@@ -1,5 +1,5 @@
 -- `unroll_depth::walk::count_at` meets its contract: as many passes as gates are enough, and a group that has fewer is
--- counted. Assumes nothing.
+-- counted.
 use mathlib.Core.Path.{refl, _∙_}
 use Prim.Native.Nat.{_+_, _≤_, _<_}
 use native.Mathlib.Omega.{arith}
@@ -110,9 +110,7 @@ returns-2 c =
 
 pub count-at-spec : {M : Type 1} → statement M
 count-at-spec =
-    tie.close
-    (tie.spec
-    (λ c. omega (arith, number (c .before))) (λ c. omega (arith, number (c .before)))
+    tie.close (tie.spec (λ c. omega (arith, number (c .before))) (λ c. omega (arith, number (c .before)))
     (λ c. omega (arith, few (c .before .before))) (λ c. omega (arith, number (c .before .before)))
     (λ c. omega (arith, number (c .before .before))) (λ c. omega (arith, number (c .before .before)))
     (λ c. omega (arith, few (c .before .before .before))) (λ c. omega (arith, number (c .before .before .before)))

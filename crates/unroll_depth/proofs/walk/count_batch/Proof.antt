@@ -1,4 +1,4 @@
--- `unroll_depth::walk::count_batch` meets its contract: after g turns the first g groups are counted. Assumes nothing.
+-- `unroll_depth::walk::count_batch` meets its contract: after g turns the first g groups are counted.
 use mathlib.Core.Path.{_≡_, refl, _∙_}
 use mathlib.Core.List.{List}
 use Prim.Native.Nat.{ℕ, _+_, _-_, _≤_}
@@ -115,7 +115,6 @@ returns-2 c =
 
 pub count-batch-spec : {M : Type 1} → statement M
 count-batch-spec =
-    tie.close
-    (tie.spec
-    Inv-loop μ-loop (λ c κs. let p = c .before .before .pre in ((p .held .judged, p .lowest), p .held .settings))
-    loop-holds count-at-requires (λ c. omega arith) (λ c. omega arith) loop-again returns returns-2)
+    tie.close (tie.spec Inv-loop μ-loop
+    (λ c κs. let p = c .before .before .pre in ((p .held .judged, p .lowest), p .held .settings)) loop-holds
+    count-at-requires (λ c. omega arith) (λ c. omega arith) loop-again returns returns-2)

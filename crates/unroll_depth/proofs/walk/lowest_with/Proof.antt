@@ -1,4 +1,4 @@
--- `unroll_depth::walk::lowest_with` meets its contract: while none is known, the batch's lowest lane. Assumes nothing.
+-- `unroll_depth::walk::lowest_with` meets its contract: while none is known, the batch's lowest lane.
 use mathlib.Core.Path.{_≡_, sym, _∙_}
 use Prim.Native.Nat.{_≤_}
 use native.Mathlib.Omega.{arith}
@@ -26,8 +26,7 @@ settings-are : (c : tie.After-setting-count)
 settings-are c =
     let ws = start c .args .words .now in
     setting-count (decode ws) (c .before .inputs-of .result) (c .setting-count .result)
-    (c .before .inputs-of .ensures ∙ sym (decode-inputCount ws))
-    (c .setting-count .ensures)
+    (c .before .inputs-of .ensures ∙ sym (decode-inputCount ws)) (c .setting-count .ensures)
 
 -- none is known, and what the batch tells
 unknown : (c : tie.Else1) → let k = c .before in
@@ -81,7 +80,5 @@ returns-3 c =
 
 pub lowest-with-spec : {M : Type 1} → statement M
 lowest-with-spec =
-    tie.close
-    (tie.spec
-    (λ c κs. search needs) (λ c κs. search needs) returns unsound-lanes-requires returns-2 (λ c κs. search needs)
-    add-result returns-3)
+    tie.close (tie.spec (λ c κs. search needs) (λ c κs. search needs) returns unsound-lanes-requires returns-2
+    (λ c κs. search needs) add-result returns-3)

@@ -1,6 +1,6 @@
 -- `unroll_depth::walk::walk_batches` meets its contract: one pass for each group, which is all that groups of one gate
--- need, and then every batch. Assumes nothing.
-use mathlib.Core.Path.{_≡_, refl, sym, _∙_}
+-- need, and then every batch.
+use mathlib.Core.Path.{refl, sym, _∙_}
 use Prim.Native.Nat.{_≤_}
 use native.Mathlib.Omega.{arith}
 use lib.ListN.{length, getD}
@@ -64,16 +64,12 @@ returns-2 c =
     let s = start f in
     let e = c .walk-loops .ensures in
     record {
-      counted = counting-all (e .counting) (s .pre .1 .0 .countIs) (e .all) (room s)
-          (rest-then (same f) (e .same));
+      counted = counting-all (e .counting) (s .pre .1 .0 .countIs) (e .all) (room s) (rest-then (same f) (e .same));
       lowest = e .lowest;
     }
 
 pub walk-batches-spec : {M : Type 1} → statement M
 walk-batches-spec =
-    tie.close
-    (tie.spec
-    (λ c κs. room (c .before .before))
+    tie.close (tie.spec (λ c κs. room (c .before .before))
     (λ c κs. let s = start (c .before) in (s .pre .1 .0 .fewGroups, starts-few (s .pre .1 .0)))
-    (λ c κs. start (filled (c .before)) .pre .0) returns
-    walk-loops-requires returns-2)
+    (λ c κs. start (filled (c .before)) .pre .0) returns walk-loops-requires returns-2)

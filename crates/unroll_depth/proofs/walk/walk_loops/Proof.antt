@@ -1,5 +1,5 @@
 -- `unroll_depth::walk::walk_loops` meets its contract: after each batch the passes are enough for its settings too, and
--- its lowest setting is known. Assumes nothing.
+-- its lowest setting is known.
 use mathlib.Core.Path.{_≡_, refl, sym, ap, _∙_}
 use mathlib.Core.List.{List}
 use Prim.Native.Nat.{ℕ, _-_, _+_, _^_, _≤_, _<_}
@@ -70,8 +70,7 @@ settings-are : (c : tie.After-setting-count Inv-loop μ-loop)
 settings-are c =
     let ws = entry c .args .words .now in
     setting-count (decode ws) (c .before .inputs-of .result) (c .setting-count .result)
-    (c .before .inputs-of .ensures ∙ sym (decode-inputCount ws))
-    (c .setting-count .ensures)
+    (c .before .inputs-of .ensures ∙ sym (decode-inputCount ws)) (c .setting-count .ensures)
 
 powers-are : (c : tie.After-setting-count Inv-loop μ-loop)
     → c .setting-count .result ≡ 2 ^ getD (entry c .args .words .now) 0 0
@@ -213,9 +212,8 @@ returns-3 c =
 
 pub walk-loops-spec : {M : Type 1} → statement M
 walk-loops-spec =
-    tie.close
-    (tie.spec
-    Inv-loop μ-loop (λ c κs. search needs) (λ c κs. rw (c .inputs-of .ensures) (few (c .before .before)))
-    (λ c κs. search needs) (λ c κs. search needs) loop-holds
+    tie.close (tie.spec Inv-loop μ-loop (λ c κs. search needs)
+    (λ c κs. rw (c .inputs-of .ensures) (few (c .before .before))) (λ c κs. search needs) (λ c κs. search needs)
+    loop-holds
     (λ c κs. let s : tie.Start Inv-loop μ-loop = search in (s .pre .listing .fewGroups, starts-few (s .pre .listing)))
     returns judge-batch-requires count-batch-requires add-base loop-less loop-again returns-2 returns-3)

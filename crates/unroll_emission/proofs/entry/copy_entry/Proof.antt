@@ -1,5 +1,4 @@
--- `unroll_emission::entry::copy_entry` meets its contract: after i turns i of the five words are written. Assumes
--- nothing.
+-- `unroll_emission::entry::copy_entry` meets its contract: after i turns i of the five words are written.
 use Prim.Native.Nat.{_+_, _-_, _≤_}
 use mathlib.Core.Path.{_≡_, refl, _∙_}
 use native.Mathlib.Omega.{arith}
@@ -41,7 +40,5 @@ returns c = let all : c .before .loop .i ≡ 5 = omega arith in rw all at (c .be
 
 pub copy-entry-spec : {M : Type 1} → statement M
 copy-entry-spec =
-    tie.close
-    (tie.spec
-    Inv-loop μ-loop loop-holds (λ c κs. omega arith) (λ c. omega arith) (λ c. omega arith) (λ c. omega arith)
-    (λ c. omega arith) (λ c. omega arith) loop-again same-length returns)
+    tie.close (tie.spec Inv-loop μ-loop loop-holds (λ c κs. omega arith) (λ c. omega arith) (λ c. omega arith)
+    (λ c. omega arith) (λ c. omega arith) (λ c. omega arith) loop-again same-length returns)

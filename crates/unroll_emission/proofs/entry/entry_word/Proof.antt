@@ -1,4 +1,4 @@
--- `unroll_emission::entry::entry_word` meets its contract: its two tests are the range. Assumes nothing.
+-- `unroll_emission::entry::entry_word` meets its contract: its two tests are the range.
 use mathlib.Core.Path.{sym, _∙_}
 use mathlib.Core.Logic.{inl, inr}
 use native.Mathlib.Omega.{arith}
@@ -28,6 +28,5 @@ returns-3 c =
 
 pub entry-word-spec : {M : Type 1} → statement M
 entry-word-spec =
-    tie.close
-    (tie.spec (λ c. search needs) (λ c. search needs) (λ c. search needs) (λ c κs. search needs) returns returns-2
-    returns-3)
+    tie.close (tie.spec (λ c. search needs) (λ c. search needs) (λ c. search needs) (λ c κs. search needs) returns
+    returns-2 returns-3)

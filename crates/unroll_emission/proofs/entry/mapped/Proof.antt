@@ -1,4 +1,4 @@
--- `unroll_emission::entry::mapped` meets its contract, by the gate that the word names. Assumes nothing.
+-- `unroll_emission::entry::mapped` meets its contract, by the gate that the word names.
 use mathlib.Core.Path.{sym}
 use borrow.Author.Needs.{needs}
 use Rattle.unroll_emission.proofs.Words.{mapped-named, mapped-none}

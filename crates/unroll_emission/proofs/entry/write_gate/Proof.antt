@@ -1,5 +1,4 @@
 -- `unroll_emission::entry::write_gate` meets its contract: the five words of gate j, of which the operands are mapped.
--- Assumes nothing.
 use Prim.Native.Nat.{_+_, _*_}
 use native.Mathlib.Omega.{arith}
 use Rattle.unroll_emission.specs.Words.{copyWords}
@@ -23,7 +22,5 @@ returns c = c .before .before .copy-entry .ensures
 
 pub write-gate-spec : {M : Type 1} → statement M
 write-gate-spec =
-    tie.close
-    (tie.spec
-    (λ c. search needs) (λ c. search needs) (λ c. search needs) (λ c. search needs) cast-count add-last
-    (λ c. search needs) (λ c. search needs) (λ c κs. search needs) (λ c. search needs) returns)
+    tie.close (tie.spec (λ c. search needs) (λ c. search needs) (λ c. search needs) (λ c. search needs) cast-count
+    add-last (λ c. search needs) (λ c. search needs) (λ c κs. search needs) (λ c. search needs) returns)

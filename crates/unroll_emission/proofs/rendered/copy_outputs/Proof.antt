@@ -1,4 +1,4 @@
--- `unroll_emission::rendered::copy_outputs` meets its contract: after o turns o outputs stand. Assumes nothing.
+-- `unroll_emission::rendered::copy_outputs` meets its contract: after o turns o outputs stand.
 use Prim.Native.Nat.{_-_, _≤_}
 use mathlib.Core.Path.{_≡_, refl, _∙_}
 use native.Mathlib.Omega.{arith}
@@ -45,8 +45,6 @@ returns c =
 
 pub copy-outputs-spec : {M : Type 1} → statement M
 copy-outputs-spec =
-    tie.close
-    (tie.spec
-    Inv-loop μ-loop (λ c. omega arith) (λ c. omega arith) loop-holds (λ c. omega arith) (λ c. omega arith)
-    (λ c. omega arith) (λ c. omega arith) (λ c κs. omega arith) (λ c. omega arith) (λ c. omega arith) loop-again
-    same-length returns)
+    tie.close (tie.spec Inv-loop μ-loop (λ c. omega arith) (λ c. omega arith) loop-holds (λ c. omega arith)
+    (λ c. omega arith) (λ c. omega arith) (λ c. omega arith) (λ c κs. omega arith) (λ c. omega arith) (λ c. omega arith)
+    loop-again same-length returns)

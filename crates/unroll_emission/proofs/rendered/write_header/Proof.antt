@@ -1,4 +1,4 @@
--- `unroll_emission::rendered::write_header` meets its contract. Assumes nothing.
+-- `unroll_emission::rendered::write_header` meets its contract.
 use native.Mathlib.Omega.{arith}
 use lib.ListN.{length-set}
 use borrow.Author.Needs.{needs}
@@ -13,7 +13,6 @@ slice-write-out-3 c = simp length-set (omega arith)
 
 pub write-header-spec : {M : Type 1} → statement M
 write-header-spec =
-    tie.close
-    (tie.spec
-    (λ c. search needs) (λ c. search needs) (λ c. search needs) slice-write-out-2 (λ c. search needs) slice-write-out-3
-    (λ c. search needs) (λ c. search needs) (λ c. search needs) (λ c. search needs))
+    tie.close (tie.spec (λ c. search needs) (λ c. search needs) (λ c. search needs) slice-write-out-2
+    (λ c. search needs) slice-write-out-3 (λ c. search needs) (λ c. search needs) (λ c. search needs)
+    (λ c. search needs))

@@ -1,5 +1,5 @@
 -- `unroll_emission::rendered::write_rendering` meets its contract: header, names and never lines, copies and outputs,
--- one after the other, are the encoding of the rendering. Assumes nothing.
+-- one after the other, are the encoding of the rendering.
 use native.Mathlib.Omega.{arith}
 use Rattle.unroll_emission.proofs.Written.{Sizes, sizes, ordered, rendering-written}
 use borrow.Author.Needs.{needs}
@@ -126,8 +126,6 @@ returns c =
 
 pub write-rendering-spec : {M : Type 1} → statement M
 write-rendering-spec =
-    tie.close
-    (tie.spec
-    (λ c κs. search needs) (λ c κs. search needs) (λ c κs. search needs) write-header-requires sub-copy-words
-    copy-words-requires (λ c. search needs) fill-words-requires copy-gates-requires mul-copy-outputs add-copy-outputs
-    copy-outputs-requires (λ c. search needs) (λ c. search needs) returns)
+    tie.close (tie.spec (λ c κs. search needs) (λ c κs. search needs) (λ c κs. search needs) write-header-requires
+    sub-copy-words copy-words-requires (λ c. search needs) fill-words-requires copy-gates-requires mul-copy-outputs
+    add-copy-outputs copy-outputs-requires (λ c. search needs) (λ c. search needs) returns)

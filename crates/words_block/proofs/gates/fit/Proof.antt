@@ -1,4 +1,4 @@
--- `words_block::gates::fit` meets its contract: all gates passed keep their rule. Assumes nothing.
+-- `words_block::gates::fit` meets its contract: all gates passed keep their rule.
 use Prim.Native.Nat.{_-_}
 use borrow.Author.Needs.{needs}
 use Rattle.prelude.proofs.Tested.{Tested, tested-none, tested-more, tested-fails, tested-all}
@@ -14,7 +14,5 @@ abbrev μ-loop : tie.MeasureT-loop
 
 pub fit-spec : {M : Type 1} → statement M
 fit-spec =
-    tie.close
-    (tie.spec
-    Inv-loop μ-loop (λ c. tested-none) (λ c κs. search needs) (λ c. search tested-fails) (λ c. search needs)
-    (λ c. search needs) (λ c. search tested-more) (λ c. search tested-all))
+    tie.close (tie.spec Inv-loop μ-loop (λ c. tested-none) (λ c κs. search needs) (λ c. search tested-fails)
+    (λ c. search needs) (λ c. search needs) (λ c. search tested-more) (λ c. search tested-all))

@@ -1,4 +1,4 @@
--- `words_block::gates::fits` meets its contract: the head word, then the operand words. Assumes nothing.
+-- `words_block::gates::fits` meets its contract: the head word, then the operand words.
 use mathlib.Core.Path.{sym, _∙_}
 use borrow.Author.Needs.{needs}
 use Prim.Native.Nat.{_/_, _%_}
@@ -25,5 +25,4 @@ unfolding gateRule
 returns-2 c = rw (← c .before .before .word-in .ensures, ← c .before .has-arity .ensures, c .if1 .left)
 
 pub fits-spec : {M : Type 1} → statement M
-fits-spec =
-    tie.close (tie.spec (λ c κs. search needs) (λ c κs. search needs) slots-fit-requires returns returns-2)
+fits-spec = tie.close (tie.spec (λ c κs. search needs) (λ c κs. search needs) slots-fit-requires returns returns-2)

@@ -1,4 +1,4 @@
--- `words_block::gates::fits_at` meets its contract: gate j stands 5 j words behind the first gate. Assumes nothing.
+-- `words_block::gates::fits_at` meets its contract: gate j stands 5 j words behind the first gate.
 use borrow.Author.Needs.{needs}
 use native.Mathlib.Omega.{arith}
 use Rattle.words_block.proofs.gates.fits_at.Statement.{statement}

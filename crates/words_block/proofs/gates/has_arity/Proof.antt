@@ -1,5 +1,4 @@
 -- `words_block::gates::has_arity` meets its contract: by the laws on kinds, each arm says in which range the count is.
--- Assumes nothing.
 use mathlib.Core.Path.{sym}
 use borrow.Author.Needs.{needs}
 use Rattle.words_block.proofs.GateLaws.{not-one, not-other, row-fits, row-few, row-many, no-kind}

@@ -1,4 +1,4 @@
--- `words_block::gates::is_node` meets its contract: the test is the rule. Assumes nothing.
+-- `words_block::gates::is_node` meets its contract: the test is the rule.
 use mathlib.Core.Path.{refl}
 use Rattle.theory_encoding.specs.Rules.{nodeRule}
 use Rattle.words_block.proofs.gates.is_node.Statement.{statement}

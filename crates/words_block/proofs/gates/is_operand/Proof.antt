@@ -1,5 +1,4 @@
--- `words_block::gates::is_operand` meets its contract: each way out is one side of the rule's disjunctions. Assumes
--- nothing.
+-- `words_block::gates::is_operand` meets its contract: each way out is one side of the rule's disjunctions.
 use mathlib.Core.Path.{sym, _∙_}
 use borrow.Author.Needs.{needs}
 use borrow.Author.Tests.{eq-eqb, ne-eqb}

@@ -1,5 +1,5 @@
 -- `words_block::gates::is_operand_word` meets its contract: one comparison tests both sides of the rule
--- (`operand-word`). Assumes nothing.
+-- (`operand-word`).
 use borrow.Author.Needs.{needs}
 use native.Mathlib.Omega.{arith}
 use Rattle.words_block.proofs.GateLaws.{operand-word}

@@ -1,5 +1,4 @@
--- `words_block::gates::read_lower` meets its contract: all gates passed keep their rule with only lower gates. Assumes
--- nothing.
+-- `words_block::gates::read_lower` meets its contract: all gates passed keep their rule with only lower gates.
 use Prim.Native.Nat.{_-_}
 use borrow.Author.Needs.{needs}
 use Rattle.prelude.proofs.Tested.{Tested, tested-none, tested-more, tested-fails, tested-all}
@@ -20,7 +19,5 @@ loop-again c =
 
 pub read-lower-spec : {M : Type 1} → statement M
 read-lower-spec =
-    tie.close
-    (tie.spec
-    Inv-loop μ-loop (λ c. tested-none) (λ c. search needs) (λ c κs. search needs) (λ c. search tested-fails)
-    (λ c. search needs) (λ c. search needs) loop-again (λ c. search tested-all))
+    tie.close (tie.spec Inv-loop μ-loop (λ c. tested-none) (λ c. search needs) (λ c κs. search needs)
+    (λ c. search tested-fails) (λ c. search needs) (λ c. search needs) loop-again (λ c. search tested-all))

@@ -1,5 +1,5 @@
 -- `words_block::header::fits` meets its contract: each way out is the first part of the rule that fails, or the last
--- part. Assumes nothing.
+-- part.
 use borrow.Author.Needs.{needs}
 use native.Mathlib.Omega.{arith}
 use borrow.Author.Tests.{le-leb, lt-leb}
@@ -100,7 +100,5 @@ returns-6 c =
 
 pub fits-spec : {M : Type 1} → statement M
 fits-spec =
-    tie.close
-    (tie.spec
-    (λ c κs. search needs) (λ c κs. search needs) (λ c κs. search needs) (λ c κs. search needs) returns returns-2
-    returns-3 returns-4 returns-5 (λ c κs. search needs) (λ c. search needs) add-result returns-6)
+    tie.close (tie.spec (λ c κs. search needs) (λ c κs. search needs) (λ c κs. search needs) (λ c κs. search needs)
+    returns returns-2 returns-3 returns-4 returns-5 (λ c κs. search needs) (λ c. search needs) add-result returns-6)

@@ -1,4 +1,4 @@
--- `words_block::names::byte_at` meets its contract: two bytes to a word, the lower half first. Assumes nothing.
+-- `words_block::names::byte_at` meets its contract: two bytes to a word, the lower half first.
 use Prim.Native.Nat.{_+_, _/_}
 use native.Mathlib.Omega.{arith}
 use borrow.Author.Needs.{needs}

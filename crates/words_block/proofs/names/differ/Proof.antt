@@ -1,4 +1,4 @@
--- `words_block::names::differ` meets its contract: both names stand within the longest words. Assumes nothing.
+-- `words_block::names::differ` meets its contract: both names stand within the longest words.
 use Prim.Native.Nat.{_≤_, _+_, _*_}
 use mathlib.Core.Path.{ap}
 use mathlib.Core.Bool.{not}
@@ -22,8 +22,6 @@ returns c = ap not (c .is-same .ensures)
 
 pub differ-spec : {M : Type 1} → statement M
 differ-spec =
-    tie.close
-    (tie.spec
-    (λ c. omega (arith, place-i (c .before))) (λ c. omega (arith, place-i (c .before)))
+    tie.close (tie.spec (λ c. omega (arith, place-i (c .before))) (λ c. omega (arith, place-i (c .before)))
     (λ c. omega (arith, place-j (c .before))) (λ c. omega (arith, place-j (c .before)))
     (λ c κs. (place-i (c .before), place-j (c .before))) returns)

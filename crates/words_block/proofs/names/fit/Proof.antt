@@ -1,4 +1,4 @@
--- `words_block::names::fit` meets its contract: the names passed are legal and new. Assumes nothing.
+-- `words_block::names::fit` meets its contract: the names passed are legal and new.
 use Prim.Native.Nat.{_-_}
 use borrow.Author.Needs.{needs}
 use Rattle.prelude.proofs.Tested.{Tested, tested-none, tested-more, tested-fails, tested-all}
@@ -23,7 +23,5 @@ returns-2 c = search tested-all
 
 pub fit-spec : {M : Type 1} → statement M
 fit-spec =
-    tie.close
-    (tie.spec
-    Inv-loop μ-loop (λ c. tested-none) (λ c κs. search needs) returns (λ c. search needs)
+    tie.close (tie.spec Inv-loop μ-loop (λ c. tested-none) (λ c κs. search needs) returns (λ c. search needs)
     (λ c. search needs) (λ c. search tested-more) returns-2)

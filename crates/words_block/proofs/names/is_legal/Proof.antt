@@ -1,4 +1,4 @@
--- `words_block::names::is_legal` meets its contract: the first byte, then all eight. Assumes nothing.
+-- `words_block::names::is_legal` meets its contract: the first byte, then all eight.
 use mathlib.Core.Path.{sym, _∙_}
 use borrow.Author.Needs.{needs}
 use Rattle.theory_encoding.specs.Rules.{nameRule}

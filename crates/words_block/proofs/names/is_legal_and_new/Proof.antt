@@ -1,5 +1,4 @@
--- `words_block::names::is_legal_and_new` meets its contract: the two tests, of a name within the longest words. Assumes
--- nothing.
+-- `words_block::names::is_legal_and_new` meets its contract: the two tests, of a name within the longest words.
 use Prim.Native.Nat.{_≤_, _+_, _*_}
 use mathlib.Core.Path.{sym, _∙_}
 use borrow.Author.Needs.{needs}
@@ -20,7 +19,5 @@ returns-2 c = rw (← c .before .is-legal .ensures, c .if1 .left)
 
 pub is-legal-and-new-spec : {M : Type 1} → statement M
 is-legal-and-new-spec =
-    tie.close
-    (tie.spec
-    (λ c. omega (arith, place-j (c .before))) (λ c. omega (arith, place-j (c .before))) (λ c κs. place-j (c .before))
-    (λ c κs. search needs) returns returns-2)
+    tie.close (tie.spec (λ c. omega (arith, place-j (c .before))) (λ c. omega (arith, place-j (c .before)))
+    (λ c κs. place-j (c .before)) (λ c κs. search needs) returns returns-2)

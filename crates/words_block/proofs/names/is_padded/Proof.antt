@@ -1,5 +1,4 @@
--- `words_block::names::is_padded` meets its contract: the bytes passed are name bytes, so the rest decides. Assumes
--- nothing.
+-- `words_block::names::is_padded` meets its contract: the bytes passed are name bytes, so the rest decides.
 use Prim.Native.Nat.{_-_}
 use mathlib.Core.Path.{sym, _∙_}
 use borrow.Author.Needs.{needs}
@@ -27,16 +26,14 @@ returns-2 c =
     let read : tie.After-byte-at Inv-loop μ-loop = search in
     let turn = read .before in
     padded-fails (turn .loop-test .taken) (read .byte-at .ensures) (turn .before .loop .inv)
-    (c .before .before .if1 .left)
-    (sym (c .before .is-name-byte .ensures) ∙ not-true _ (c .if2 .taken))
+    (c .before .before .if1 .left) (sym (c .before .is-name-byte .ensures) ∙ not-true _ (c .if2 .taken))
 
 loop-again : tie.Need-loop-again Inv-loop μ-loop
 loop-again c =
     let read : tie.After-byte-at Inv-loop μ-loop = search in
     let turn = read .before in
     padded-more (turn .loop-test .taken) (read .byte-at .ensures) (turn .before .loop .inv)
-    (c .before .before .if1 .left)
-    (sym (c .before .is-name-byte .ensures) ∙ not-false _ (c .if2 .left))
+    (c .before .before .if1 .left) (sym (c .before .is-name-byte .ensures) ∙ not-false _ (c .if2 .left))
 
 returns-3 : tie.Need-returns-3 Inv-loop μ-loop
 unfolding padded
@@ -44,7 +41,6 @@ returns-3 c = rest-end (c .before .loop .inv) (c .loop-test .left)
 
 pub is-padded-spec : {M : Type 1} → statement M
 is-padded-spec =
-    tie.close
-    (tie.spec
-    Inv-loop μ-loop (λ c. rest-start (search needs)) (λ c κs. search needs) (λ c. search needs) (λ c κs. search needs)
-    returns (λ c κs. search needs) returns-2 (λ c. search needs) (λ c. search needs) loop-again returns-3)
+    tie.close (tie.spec Inv-loop μ-loop (λ c. rest-start (search needs)) (λ c κs. search needs) (λ c. search needs)
+    (λ c κs. search needs) returns (λ c κs. search needs) returns-2 (λ c. search needs) (λ c. search needs) loop-again
+    returns-3)

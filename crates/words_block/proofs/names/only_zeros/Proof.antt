@@ -1,4 +1,4 @@
--- `words_block::names::only_zeros` meets its contract: the bytes passed are zero, so the rest decides. Assumes nothing.
+-- `words_block::names::only_zeros` meets its contract: the bytes passed are zero, so the rest decides.
 use Prim.Native.Nat.{_-_}
 use borrow.Author.Needs.{needs}
 use lib.Dec.{eqb}
@@ -15,8 +15,6 @@ abbrev μ-loop : tie.MeasureT-loop
 
 pub only-zeros-spec : {M : Type 1} → statement M
 only-zeros-spec =
-    tie.close
-    (tie.spec
-    Inv-loop μ-loop (λ c. rest-start (search needs)) (λ c κs. search needs) (λ c. search zeros-fail)
+    tie.close (tie.spec Inv-loop μ-loop (λ c. rest-start (search needs)) (λ c κs. search needs) (λ c. search zeros-fail)
     (λ c. search needs) (λ c. search needs) (λ c. search zeros-more)
     (λ c. rest-end (c .before .loop .inv) (c .loop-test .left)))

@@ -1,4 +1,4 @@
--- `words_block::nevers::fits` meets its contract: some input is fixed, and the two words are masks. Assumes nothing.
+-- `words_block::nevers::fits` meets its contract: some input is fixed, and the two words are masks.
 use borrow.Author.Needs.{needs}
 use borrow.Author.Tests.{lt-ltb, le-ltb}
 use Rattle.theory_encoding.specs.Rules.{neverRule}
@@ -18,6 +18,5 @@ returns-2 c = rw (← c .before .word-at .ensures, le-ltb 0 _ (c .if1 .left))
 
 pub fits-spec : {M : Type 1} → statement M
 fits-spec =
-    tie.close
-    (tie.spec (λ c κs. search needs) (λ c. search needs) (λ c κs. search needs) (λ c κs. search needs) returns
+    tie.close (tie.spec (λ c κs. search needs) (λ c. search needs) (λ c κs. search needs) (λ c κs. search needs) returns
     returns-2)

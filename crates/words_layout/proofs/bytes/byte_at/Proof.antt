@@ -1,4 +1,4 @@
--- `words_layout::bytes::byte_at` meets its contract: past the end the answer is the default. Assumes nothing.
+-- `words_layout::bytes::byte_at` meets its contract: past the end the answer is the default.
 use borrow.Author.Needs.{needs}
 use Rattle.words_layout.proofs.bytes.byte_at.Statement.{statement}
 use Rattle.words_layout.proofs.bytes.byte_at.Tie as tie

@@ -1,4 +1,4 @@
--- `words_layout::bytes::is_digit` meets its contract: the two tests are the definition's. Assumes nothing.
+-- `words_layout::bytes::is_digit` meets its contract: the two tests are the definition's.
 use Rattle.words_layout.proofs.bytes.is_digit.Statement.{statement}
 use Rattle.words_layout.proofs.bytes.is_digit.Tie as tie
 use borrow.Author.Tests.{le-leb, lt-leb}

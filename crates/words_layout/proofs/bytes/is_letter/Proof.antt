@@ -1,4 +1,4 @@
--- `words_layout::bytes::is_letter` meets its contract: the two tests are the definition's. Assumes nothing.
+-- `words_layout::bytes::is_letter` meets its contract: the two tests are the definition's.
 use Rattle.words_layout.proofs.bytes.is_letter.Statement.{statement}
 use Rattle.words_layout.proofs.bytes.is_letter.Tie as tie
 use borrow.Author.Tests.{le-leb, lt-leb}

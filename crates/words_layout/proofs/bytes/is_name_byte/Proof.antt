@@ -1,4 +1,4 @@
--- `words_layout::bytes::is_name_byte` meets its contract: a digit, or else what a name may start with. Assumes nothing.
+-- `words_layout::bytes::is_name_byte` meets its contract: a digit, or else what a name may start with.
 use borrow.Author.Needs.{needs}
 use Rattle.words_layout.proofs.bytes.is_name_byte.Statement.{statement}
 use Rattle.words_layout.proofs.bytes.is_name_byte.Tie as tie

@@ -1,4 +1,4 @@
--- `words_layout::bytes::is_name_start` meets its contract: a letter, or else `_`. Assumes nothing.
+-- `words_layout::bytes::is_name_start` meets its contract: a letter, or else `_`.
 use borrow.Author.Needs.{needs}
 use Rattle.words_layout.proofs.bytes.is_name_start.Statement.{statement}
 use Rattle.words_layout.proofs.bytes.is_name_start.Tie as tie

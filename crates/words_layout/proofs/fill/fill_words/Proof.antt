@@ -1,4 +1,4 @@
--- `words_layout::fill::fill_words` meets its contract: it fills the first elements one by one. Assumes nothing.
+-- `words_layout::fill::fill_words` meets its contract: it fills the first elements one by one.
 use mathlib.Core.Path.{_≡_}
 use Prim.Native.Nat.{_≤_, _-_}
 use native.Mathlib.Omega.{arith}

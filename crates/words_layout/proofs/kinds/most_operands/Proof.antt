@@ -1,4 +1,4 @@
--- `words_layout::kinds::most_operands` meets its contract: the count that the kind's signature holds. Assumes nothing.
+-- `words_layout::kinds::most_operands` meets its contract: the count that the kind's signature holds.
 use mathlib.Core.Path.{ap}
 use borrow.Author.Needs.{needs}
 use Rattle.netlist.specs.declared.Signature.{Signature}

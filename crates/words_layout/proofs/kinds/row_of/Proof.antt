@@ -1,4 +1,4 @@
--- `words_layout::kinds::row_of` meets its contract: the array is the definitions' table, row by row. Assumes nothing.
+-- `words_layout::kinds::row_of` meets its contract: the array is the definitions' table, row by row.
 use mathlib.Core.Path.{sym}
 use Prim.Native.Nat.{_-_}
 use borrow.Author.Needs.{needs}

@@ -1,5 +1,4 @@
--- `words_layout::kinds::signature_of` meets its contract: `not`, `xor`, `xnor`, or what the kind's row holds. Assumes
--- nothing.
+-- `words_layout::kinds::signature_of` meets its contract: `not`, `xor`, `xnor`, or what the kind's row holds.
 use mathlib.Core.Path.{_∙_, ap}
 use borrow.Author.Needs.{needs}
 use Rattle.netlist.specs.Kinds.{signature, signatureIn}

@@ -1,4 +1,4 @@
--- `words_layout::masks::are_masks` meets its contract: the three tests in their order. Assumes nothing.
+-- `words_layout::masks::are_masks` meets its contract: the three tests in their order.
 use mathlib.Core.Path.{sym, _∙_}
 use native.Mathlib.Omega.{arith}
 use borrow.Author.Needs.{needs}

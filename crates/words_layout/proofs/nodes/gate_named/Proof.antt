@@ -1,4 +1,4 @@
--- `words_layout::nodes::gate_named` meets its contract: each way out is one of the definition's cases. Assumes nothing.
+-- `words_layout::nodes::gate_named` meets its contract: each way out is one of the definition's cases.
 use borrow.Author.Needs.{needs}
 use borrow.Author.Tests.{lt-ltb, le-ltb}
 use Rattle.words_layout.specs.Nodes.{gateNamed}

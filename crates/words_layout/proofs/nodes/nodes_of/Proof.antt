@@ -1,4 +1,4 @@
--- `words_layout::nodes::nodes_of` meets its contract: each field is read by a function of `offsets`. Assumes nothing.
+-- `words_layout::nodes::nodes_of` meets its contract: each field is read by a function of `offsets`.
 use mathlib.Core.Path.{refl}
 use borrow.Author.Needs.{needs}
 use Rattle.words_layout.specs.Nodes.{nodesOf}

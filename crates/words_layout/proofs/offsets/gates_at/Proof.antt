@@ -1,4 +1,4 @@
--- `words_layout::offsets::gates_at` meets its contract. Assumes nothing.
+-- `words_layout::offsets::gates_at` meets its contract.
 use borrow.Author.Needs.{needs}
 use native.Mathlib.Omega.{arith}
 use Rattle.netlist.specs.StoredBlock.{neversAt, gatesAt}
@@ -14,5 +14,4 @@ unfolding gatesAt neversAt
 returns c = search needs
 
 pub gates-at-spec : {M : Type 1} → statement M
-gates-at-spec =
-    tie.close (tie.spec (λ c κs. search needs) (λ c κs. search needs) gates-behind-requires returns)
+gates-at-spec = tie.close (tie.spec (λ c κs. search needs) (λ c κs. search needs) gates-behind-requires returns)

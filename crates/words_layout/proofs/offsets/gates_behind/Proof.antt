@@ -1,4 +1,4 @@
--- `words_layout::offsets::gates_behind` meets its contract: the gates stand behind the never lines. Assumes nothing.
+-- `words_layout::offsets::gates_behind` meets its contract: the gates stand behind the never lines.
 use borrow.Author.Needs.{needs}
 use native.Mathlib.Omega.{arith}
 use Rattle.netlist.specs.StoredBlock.{neversAt, gatesAt}

@@ -1,4 +1,4 @@
--- `words_layout::offsets::nevers_at` meets its contract. Assumes nothing.
+-- `words_layout::offsets::nevers_at` meets its contract.
 use borrow.Author.Needs.{needs}
 use mathlib.Core.Path.{refl}
 use Rattle.netlist.specs.StoredBlock.{neversAt}

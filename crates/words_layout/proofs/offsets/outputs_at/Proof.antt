@@ -1,4 +1,4 @@
--- `words_layout::offsets::outputs_at` meets its contract. Assumes nothing.
+-- `words_layout::offsets::outputs_at` meets its contract.
 use borrow.Author.Needs.{needs}
 use native.Mathlib.Omega.{arith}
 use Rattle.netlist.specs.StoredBlock.{neversAt, gatesAt, outputsAt}
@@ -16,6 +16,5 @@ returns c = search needs
 
 pub outputs-at-spec : {M : Type 1} → statement M
 outputs-at-spec =
-    tie.close
-    (tie.spec
-    (λ c κs. search needs) (λ c κs. search needs) (λ c κs. search needs) outputs-behind-requires returns)
+    tie.close (tie.spec (λ c κs. search needs) (λ c κs. search needs) (λ c κs. search needs) outputs-behind-requires
+    returns)

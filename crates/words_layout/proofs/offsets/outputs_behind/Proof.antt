@@ -1,4 +1,4 @@
--- `words_layout::offsets::outputs_behind` meets its contract: the outputs stand behind the gates. Assumes nothing.
+-- `words_layout::offsets::outputs_behind` meets its contract: the outputs stand behind the gates.
 use borrow.Author.Needs.{needs}
 use native.Mathlib.Omega.{arith}
 use Rattle.netlist.specs.StoredBlock.{neversAt, gatesAt, outputsAt}

@@ -1,5 +1,5 @@
 -- `words_layout::read::word_at` meets its contract: a word of the slice fits a usize, and past the end the answer is
--- the default. Assumes nothing.
+-- the default.
 use mathlib.Core.Path.{sym}
 use borrow.Author.Needs.{needs}
 use native.Mathlib.Omega.{arith}

@@ -1,4 +1,4 @@
--- `words_layout::read::word_in` meets its contract: a word fits a usize. Assumes nothing.
+-- `words_layout::read::word_in` meets its contract: a word fits a usize.
 use borrow.Author.Needs.{needs}
 use native.Mathlib.Omega.{arith}
 use Rattle.words_layout.proofs.read.word_in.Statement.{statement}

@@ -1,5 +1,4 @@
--- `words_layout::value_masks::masks_of` meets its contract: the masks of the values passed, from the last. Assumes
--- nothing.
+-- `words_layout::value_masks::masks_of` meets its contract: the masks of the values passed, from the last.
 use borrow.Author.Needs.{needs}
 use mathlib.Core.Path.{_≡_, sym}
 use mathlib.Core.Bool.{cond}
@@ -79,7 +78,5 @@ returns c = gathered-all (c .before .loop .inv) (omega arith)
 
 pub masks-of-spec : {M : Type 1} → statement M
 masks-of-spec =
-    tie.close
-    (tie.spec
-    Inv-loop μ-loop loop-holds (λ c. omega arith) shared-slice-read-v mul-defined (λ c κs. search needs) add-defined
-    mul-ones (λ c κs. search needs) add-ones (λ c. omega arith) loop-again returns)
+    tie.close (tie.spec Inv-loop μ-loop loop-holds (λ c. omega arith) shared-slice-read-v mul-defined
+    (λ c κs. search needs) add-defined mul-ones (λ c κs. search needs) add-ones (λ c. omega arith) loop-again returns)

@@ -1,4 +1,4 @@
--- `words_layout::value_masks::one_bit` meets its contract, in each arm. Assumes nothing.
+-- `words_layout::value_masks::one_bit` meets its contract, in each arm.
 use mathlib.Core.Path.{sym}
 use native.Mathlib.Omega.{arith}
 use Rattle.netlist.specs.Values.{valueOf}
