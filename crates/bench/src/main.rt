@@ -1,6 +1,7 @@
 // The program `bench`: moves bytes from standard input to `bench_session`, and the answers to standard output. What is
 // there is read and answered at once, so that it serves a terminal and a pipe. A proved loop has to end, and nothing
 // says that the input does: the loop over reads counts down from a number that no run uses up.
+#![tactic(auto)]
 ghost use Rattle.bench_session.specs.Session.{Unprepared, SessionReady, SessionRoom};
 
 use bench_session::state::{ANSWER_BYTES, LINE_BYTES, State, is_over, start};

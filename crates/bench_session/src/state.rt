@@ -13,7 +13,7 @@ pub const LINE_BYTES: usize = 4 + (MAX_NAME + 5) * MAX_INPUTS + 2 + 1;
 pub const ANSWER_BYTES: usize = 5 + (MAX_NAME + 5) * MAX_OUTPUTS + 2;
 
 // Where a run stands.
-#[derive(Drop)]
+#[derive(Clone, Copy)]
 pub enum State {
     // In the netlist: the bytes of it that are held, and whether the next one stands at its beginning or behind an LF.
     Netlist { length: usize, fresh: bool },

@@ -1,5 +1,6 @@
 // The operations as C functions (SPECIFICATION 7), for programs in other languages: include/unloop.h declares them.
 // Each has its operation's promise and no condition. A slice is a pointer and a length.
+#![tactic(auto)]
 ghost use Rattle.std.specs.Prelude.{◌≡◌, ◌≤◌, length};
 ghost use Rattle.netlist.specs.Answers.{answer_of, Shows};
 ghost use Rattle.netlist.specs.Operations.{read, write, settle, verdict, cover_of, groups_of};

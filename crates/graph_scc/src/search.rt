@@ -19,7 +19,7 @@ const CLOCK: usize = 8191;
 
 // Where the search stands: the clock's time, the slot that it is at, how many gates wait on the stack, and how many are
 // written.
-#[derive(Drop)]
+#[derive(Clone, Copy)]
 struct Standing {
     time: usize,
     cursor: usize,

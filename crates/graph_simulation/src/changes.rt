@@ -16,7 +16,7 @@ use graph_gates::{FIRST_GATE, GRAPH_WORDS, PLACES, SLOTS};
 use words_layout::limits::MAX_GATES;
 
 // Where the gates that one round changed stand in the queue: from `head` on, before `tail`.
-#[derive(Drop)]
+#[derive(Clone, Copy)]
 pub struct Stretch {
     pub head: usize,
     pub tail: usize,

@@ -1,5 +1,6 @@
 // Sixty-four settings at a time in dual-rail words: a value under each of them is a pair of bits, and a gate's pair of
 // words comes from its operands' pairs.
+#![tactic(auto)]
 use graph_gates::PLACES;
 
 pub mod evaluate;
@@ -7,7 +8,7 @@ pub mod inputs;
 pub mod words;
 
 // Bit s of `zeros` marks value 0 under setting s of a batch, bit s of `ones` value 1; neither: undefined.
-#[derive(Drop)]
+#[derive(Clone, Copy)]
 pub struct Pair {
     pub zeros: u64,
     pub ones: u64,

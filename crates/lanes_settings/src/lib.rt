@@ -1,6 +1,7 @@
 // The settings of a block, walked over in batches of up to 64, a bit of a word for each: how many there are, which
 // never come (`nevers`), under which an output is undefined and which count once a batch is decided (`decided`,
 // `outputs`, `settled`), and the lowest that may come and is not settled (`lowest`).
+#![tactic(auto)]
 ghost use Rattle.std.specs.Prelude.{◌≡◌, ◌^◌, ◌≤◌};
 ghost use Rattle.netlist.specs.Limits.{max_inputs};
 

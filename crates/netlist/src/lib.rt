@@ -1,8 +1,9 @@
 // The declared types of the answers, of a sheet's records and of the table of kinds. specs/ says what each case means;
 // nothing here runs.
+#![tactic(auto)]
 
 // One of the thirteen refusals (SPECIFICATION 7.2), with the place or the setting that it tells.
-#[derive(Drop)]
+#[derive(Clone, Copy)]
 pub enum Refusal {
     // 1, overlong
     TextTooLong,
@@ -42,7 +43,7 @@ pub enum Answer {
 
 // A row of the table of kinds: the least and the greatest operand count, the controlling value, what it forces, and the
 // keyword's bytes, zero behind its end.
-#[derive(Drop)]
+#[derive(Clone, Copy)]
 pub struct Row {
     pub fewest: usize,
     pub most: usize,
@@ -72,7 +73,7 @@ pub struct Reply {
 // A record of a sheet: the caller's mask of fixed inputs and of those at 1, and the answer's own refusal number (0 on
 // success), mask of defined outputs and mask of outputs at 1.
 #[repr(C)]
-#[derive(Drop)]
+#[derive(Clone, Copy)]
 pub struct Record {
     pub fixed: u16,
     pub ones: u16,

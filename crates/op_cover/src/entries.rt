@@ -10,7 +10,7 @@ ghost use Rattle.theory_cover.specs.Tables.{weight_of, Weighed};
 use crate::pairs::next_ones;
 
 // A first mask, and the number of the assignment with it and no input at 1.
-#[derive(Drop)]
+#[derive(Clone, Copy)]
 struct FirstMask {
     fixed: usize,
     base: usize,

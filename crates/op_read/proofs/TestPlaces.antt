@@ -19,9 +19,9 @@ use Rattle.netlist.specs.Reading.{lesser}
 use Rattle.netlist.specs.Answers.{refusal_detail}
 use Rattle.words_refusals.specs.Tests.{test_at}
 
--- the way behind `let Test::Failed(why) = t else`: t is not `Failed`, whose tag is 1
+-- the way behind `let Test::Failed(why) = t else`
 abbrev IsPassed : Test → Type 0
-IsPassed t = OneOf (0 ∷ []) (tag_of the_type t)
+IsPassed t = (r : Refusal) → t ≡ Failed r → ⊥
 
 pub repeat-tells : (q : ℕ) → refusal_detail (DuplicateDeclaration q) ≡ q
 unfolding refusal_detail
@@ -31,7 +31,7 @@ module _ (why : ℕ → Refusal) (tells : (q : ℕ) → refusal_detail (why q) �
   none_told : (p : Option ℕ) {t : Test} → t ≡ test_at p why → IsPassed t → p ≡ none
   unfolding test_at
   none_told none e k = refl
-  none_told (some q) e k = absurd (miss (0 ∷ []) 1 tt (rw e at k))
+  none_told (some q) e k = absurd (k (why q) e)
 
   some-told : (p : Option ℕ) {t : Test} {r : Refusal} → t ≡ test_at p why → t ≡ Failed r → p ≡ some (refusal_detail r)
   unfolding test_at

@@ -2,6 +2,7 @@
 // numbers and arrays: a turn reads a record or answers one, and up to 64 records are settled side by side in lanes
 // (`records`, `inputs`, `settling`, `outputs`). The function over the caller's records is the C function in
 // crates/exports, whose proof goes step by step by hand.
+#![tactic(auto)]
 ghost use Rattle.netlist.specs.Answers.{answer_of, Shows};
 ghost use Rattle.netlist.specs.Sheet.{sheet};
 

@@ -18,7 +18,7 @@ use words_refusals::number_of;
 const TURNS: usize = 2 * LANES;
 
 // The masks of the records that are read, and what the outputs show at their lanes.
-#[derive(Drop)]
+#[derive(Clone, Copy)]
 pub struct Batch {
     pub fixed: [u16; LANES],
     pub ones: [u16; LANES],

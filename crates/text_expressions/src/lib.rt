@@ -1,6 +1,7 @@
 // Resolving the expressions of a text that is known to be the print of a tree, in one walk over its lines of gates and
 // outputs (`lines`), over each expression (`walk`), and down to names and constants (`leaves`): the first name that is
 // not declared, and the words of gates and outputs. Never lines have no expressions.
+#![tactic(auto)]
 ghost use Rattle.text_symbols.specs.Results.{NodesIndexed};
 ghost use Rattle.text_expressions.specs.Resolution.{ResolveReady, Resolved};
 

@@ -14,7 +14,7 @@ use words_layout::limits::{MAX_GATES, MAX_INPUTS, MAX_NEVERS, MAX_OUTPUTS};
 use words_refusals::{Test, refuse_if};
 
 // What a text has: input lines, never lines, lines of named gates, output lines, and gates, inner ones counted.
-#[derive(Drop)]
+#[derive(Clone, Copy)]
 pub struct Counts {
     pub inputs: usize,
     pub nevers: usize,

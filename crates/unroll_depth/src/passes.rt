@@ -3,7 +3,7 @@
 
 // One group for the settings of one batch: its gates are `members[from..end]`, and the batch starts at setting number
 // `base`.
-#[derive(Drop)]
+#[derive(Clone, Copy)]
 pub struct Turn {
     pub from: usize,
     pub end: usize,

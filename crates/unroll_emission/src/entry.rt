@@ -12,7 +12,7 @@ use words_layout::offsets::GATE_SIZE;
 
 // The five words of a gate or an output: where they stand, and which of them are mapped, from `first` on and below
 // `last`.
-#[derive(Drop)]
+#[derive(Clone, Copy)]
 pub struct Entry {
     pub from: usize,
     pub first: usize,

@@ -7,7 +7,7 @@ ghost use Rattle.words_layout.specs.Nodes.{gate_named, nodes_of};
 use crate::offsets::{gates_at, gates_of, inputs_of};
 
 // How many inputs and gates a block has, and where the first gate's words start.
-#[derive(Drop)]
+#[derive(Clone, Copy)]
 pub struct Nodes {
     pub inputs: usize,
     pub gates: usize,

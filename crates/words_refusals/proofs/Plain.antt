@@ -1,33 +1,29 @@
 -- The refusals that tell no place and no setting. Assumes nothing.
 use mathlib.Core.Path.{◌≡◌, refl}
-use mathlib.Core.List.{List, [], ◌∷◌}
 use Prim.Native.Nat.{ℕ}
-use types.Run.{OneOf, miss}
-use denote.Enum.Declared.{tag_of}
 use Rattle.netlist.specs.declared.Refusal.{Refusal}
 use Rattle.netlist.specs.declared.Refusal.TheVariants.{TextTooLong, SyntaxError, OverLimit, DuplicateDeclaration}
 use Rattle.netlist.specs.declared.Refusal.TheVariants.{UndeclaredName, MalformedBlock}
 use Rattle.netlist.specs.declared.Refusal.TheVariants.{BadSetting, TooManyCopies, NotSettled, NotStraight, NoRoom}
 use Rattle.netlist.specs.declared.Refusal.TheVariants.{InterfaceMismatch, NotAPermutation}
-use Rattle.netlist.specs.contracts.Refusal.{the_type}
 use Rattle.netlist.specs.Answers.{refusal_detail}
 
--- the tags of the refusals that tell no place and no setting
-abbrev plain : List ℕ
-plain = 0 ∷ 2 ∷ 5 ∷ 6 ∷ 7 ∷ 9 ∷ 10 ∷ 11 ∷ 12 ∷ []
-
-pub detail-none : (r : Refusal) → OneOf plain (tag_of the_type r) → 0 ≡ refusal_detail r
+-- of the four that tell something, none is left
+pub detail-none : (r : Refusal) → ((p : ℕ) → r ≡ SyntaxError p → ⊥) → ((p : ℕ) → r ≡ DuplicateDeclaration p → ⊥)
+    → ((p : ℕ) → r ≡ UndeclaredName p → ⊥)
+    → ((p : ℕ) → r ≡ NotSettled p → ⊥)
+    → 0 ≡ refusal_detail r
 unfolding refusal_detail
-detail-none TextTooLong k = refl
-detail-none (SyntaxError p) k = absurd (miss plain 1 tt k)
-detail-none OverLimit k = refl
-detail-none (DuplicateDeclaration p) k = absurd (miss plain 3 tt k)
-detail-none (UndeclaredName p) k = absurd (miss plain 4 tt k)
-detail-none MalformedBlock k = refl
-detail-none BadSetting k = refl
-detail-none TooManyCopies k = refl
-detail-none (NotSettled p) k = absurd (miss plain 8 tt k)
-detail-none NotStraight k = refl
-detail-none NoRoom k = refl
-detail-none InterfaceMismatch k = refl
-detail-none NotAPermutation k = refl
+detail-none TextTooLong s d u n = refl
+detail-none (SyntaxError p) s d u n = absurd (s p refl)
+detail-none OverLimit s d u n = refl
+detail-none (DuplicateDeclaration p) s d u n = absurd (d p refl)
+detail-none (UndeclaredName p) s d u n = absurd (u p refl)
+detail-none MalformedBlock s d u n = refl
+detail-none BadSetting s d u n = refl
+detail-none TooManyCopies s d u n = refl
+detail-none (NotSettled p) s d u n = absurd (n p refl)
+detail-none NotStraight s d u n = refl
+detail-none NoRoom s d u n = refl
+detail-none InterfaceMismatch s d u n = refl
+detail-none NotAPermutation s d u n = refl

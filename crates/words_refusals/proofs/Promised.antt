@@ -86,9 +86,9 @@ promise-answer p = told-answer p.told
 
 -- ---- tests
 
--- the way behind `let Test::Passed = t else`: t is not `Passed`, whose tag is 0
+-- the way behind `let Test::Passed = t else`
 abbrev pub IsFailed : Test → Type 0
-IsFailed t = OneOf (1 ∷ []) (tag_of the_type t)
+IsFailed t = t ≡ Passed → ⊥
 
 pub passed-false : (b : Bool) (why : Refusal) {t : Test} → t ≡ test_of b why → t ≡ Passed → b ≡ false
 unfolding test_of
@@ -98,7 +98,7 @@ passed-false false why e f = refl
 pub failed-true : (b : Bool) (why : Refusal) {t : Test} → t ≡ test_of b why → IsFailed t → b ≡ true
 unfolding test_of
 failed-true true why e k = refl
-failed-true false why e k = absurd (miss (1 ∷ []) 0 tt (rw e at k))
+failed-true false why e k = absurd (k e)
 
 -- a test of a condition that tells a place has passed where there is none
 pub passed_none : (p : Option ℕ) (why : ℕ → Refusal) {t : Test} → t ≡ test_at p why → t ≡ Passed → p ≡ none
@@ -136,7 +136,7 @@ module _ (around : Outcome → Outcome) (keeps : (r : Refusal) → around (refus
       where
         go : (p : Option ℕ) → o ≡ around (refuse_at p why next) → t ≡ test_at p why → Promise o entry r entry
         go (some place) c a = promise (rw (c ∙ keeps (why place), e, a) refl) (rw (c ∙ keeps (why place)) refl)
-        go none c a = absurd (miss (1 ∷ []) 0 tt (rw a at k))
+        go none c a = absurd (k a)
 
 -- what stands around the conditions: the room, or nothing
 pub keeps-room : (room : ℕ) (r : Refusal) → in_room room (refused r) ≡ refused r

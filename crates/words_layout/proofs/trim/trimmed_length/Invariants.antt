@@ -1,0 +1,16 @@
+-- `words_layout::trim::trimmed_length` meets its contract: what was passed over, from the end, is zero.
+use Prim.Native.Nat.{◌≤◌}
+use mathlib.Core.Path.{◌≡◌, refl, sym, ◌∙◌}
+use native.Mathlib.Omega.{arith}
+use lib.Seq.{take-length}
+use lib.ListN.{length, take}
+use Rattle.prelude.specs.Lists.{trimmed}
+use Rattle.words_layout.proofs.TrimmedLaws.{trimmed-shorter, trimmed-here}
+use Rattle.words_layout.proofs.trim.trimmed_length.Given as goal
+
+abbrev pub invariant-loop-count : goal.invariant-loop-count
+invariant-loop-count l =
+    record { within : l.count ≤ length l.bytes; same : trimmed (take l.count l.bytes) ≡ trimmed l.bytes }
+
+abbrev pub decreases-loop-count : goal.decreases-loop-count
+decreases-loop-count l = l.count
