@@ -1,0 +1,11 @@
+-- `unroll_emission::rendered::copy_gate` meets its contract: the operand words of gate j are mapped while the table
+-- still has its older copy.
+use mathlib.Core.Path.{refl}
+use borrow.Author.Rules.{rules}
+use Rattle.unroll_emission.proofs.rendered.copy_gate.Goals as goal
+
+pub returns : goal.returns
+returns c = record {
+      out_after = c.write_gate.ensures;
+      newest_after = refl;
+    }

@@ -1,0 +1,13 @@
+-- `words_block::names::only_zeros` meets its contract: the bytes passed are zero, so the rest decides.
+use Prim.Native.Nat.{◌-◌}
+use borrow.Author.Rules.{rules}
+use lib.Dec.{eqb}
+use Rattle.prelude.specs.Lists.{all}
+use Rattle.words_block.proofs.NameLaws.{Rest, rest-start, rest_end, zeros-more, zeros-fail}
+use Rattle.words_block.proofs.names.only_zeros.Given as goal
+
+abbrev pub invariant-loop-j : goal.invariant-loop-j
+invariant-loop-j l = Rest (all (eqb 0)) l.words l.at l.i l.j
+
+abbrev pub decreases-loop-j : goal.decreases-loop-j
+decreases-loop-j l = 8 - l.j
