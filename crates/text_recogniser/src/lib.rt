@@ -3,6 +3,7 @@
 // goes on. Its readers are of words and names (`scan`), keywords, pairs, expressions and lines; each takes the rest of
 // the text as its slice and answers how many bytes are left. Nothing is written.
 #![tactic(auto)]
+
 ghost use Rattle.std.specs.Prelude.{◌≡◌};
 ghost use Rattle.netlist.specs.declared.Refusal.TheVariants.{SyntaxError};
 ghost use Rattle.words_refusals.specs.Tests.{test_at};

@@ -1,13 +1,8 @@
 -- `text_recogniser::form` meets its contract. The loop's invariant: the text's answer is that of the lines behind `at`,
 -- of which those of this phase may come. A line that was read leaves less, and where none is left the text is legal.
-use borrow.Author.Rules.{rules}
-use mathlib.Core.Path.{sym, ap, ◌∙◌}
-use Prim.Native.Nat.{◌-◌, ◌<◌}
-use native.Mathlib.Omega.{arith}
+use Prim.Native.Nat.{◌-◌}
 use lib.ListN.{length}
-use Rattle.text_recogniser.specs.Scan.{phase_of}
-use Rattle.text_recogniser.proofs.Reached.{Reached, reached-start, reached-next, reached-stuck, reached-end}
-use Rattle.text_recogniser.proofs.Reached.{line-left, line-stuck}
+use Rattle.text_recogniser.proofs.Reached.{Reached}
 use Rattle.text_recogniser.proofs.form.Given as goal
 
 abbrev pub invariant-loop-at : goal.invariant-loop-at

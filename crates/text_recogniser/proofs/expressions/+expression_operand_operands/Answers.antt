@@ -129,8 +129,11 @@ space t c =
 
 pub operands-slice_bounds-operand-start : goal.operands-slice_bounds-operand-start
 operands-slice_bounds-operand-start t c =
-    omega (arith, space t (goal.at.operands-slice_bounds-operand-start t c).Else-c-ne32,
-    c.loop-i.invariant.within)
+    omega (
+      arith,
+      space t (goal.at.operands-slice_bounds-operand-start t c).Else-c-ne32,
+      c.loop-i.invariant.within,
+    )
 
 pub operands-operand-found-requires : goal.operands-operand-found-requires
 operands-operand-found-requires t c = (

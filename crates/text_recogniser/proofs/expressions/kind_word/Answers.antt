@@ -2,7 +2,6 @@
 -- at its end, is read as any word is.
 use mathlib.Core.Path.{sym, ap}
 use lib.Seq.{length-take-le}
-use borrow.Author.Rules.{rules}
 use Rattle.netlist.specs.declared.Signature.{Signature}
 use Rattle.text_recogniser.proofs.KindWords.{keyword-read}
 use Rattle.text_recogniser.proofs.expressions.kind_word.Goals as goal

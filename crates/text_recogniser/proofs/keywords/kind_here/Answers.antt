@@ -2,7 +2,6 @@
 use mathlib.Core.Path.{sym, ◌∙◌, ap}
 use Rattle.text_recogniser.specs.Keywords.{kind_behind_x}
 use Rattle.text_recogniser.proofs.KeywordLaws.{kind-and, kind-or, kind-x, kind-nand, kind-not, kind-nor}
-use borrow.Author.Rules.{rules}
 use Rattle.text_recogniser.proofs.keywords.kind_here.Goals as goal
 
 pub returns-then-c-eq-AND_A : goal.returns-then-c-eq-AND_A

@@ -1,7 +1,6 @@
 -- `text_recogniser::keywords::word_length` meets its contract: the keyword of the kind's signature, without the zeros
 -- at its end.
 use mathlib.Core.Path.{ap}
-use borrow.Author.Rules.{rules}
 use Rattle.netlist.specs.declared.Signature.{Signature}
 use Rattle.text_recogniser.proofs.KeywordLaws.{word_read}
 use Rattle.text_recogniser.proofs.keywords.word_length.Goals as goal

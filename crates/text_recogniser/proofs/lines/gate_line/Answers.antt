@@ -1,5 +1,4 @@
 -- `text_recogniser::lines::gate_line` meets its contract: a chain of calls, each behind what the one before found.
-use borrow.Author.Rules.{rules}
 use Rattle.text_recogniser.proofs.Chain.{begin, step, finish}
 use Rattle.text_recogniser.proofs.LineSteps.{gate-word, gate-name, gate-bracket, gate-expression}
 use Rattle.text_recogniser.proofs.lines.gate_line.Goals as goal

@@ -23,22 +23,22 @@ behind c =
 no-input : (c : Joined-c-eq105) → c.byte_at-c.result ≡ 105 → c.args.phase ≡ 0 → ⊥
 no-input c =
     elim c.if-c-eq105.branch [
-      then-c-eq105+else-phase-eq0 w ↦ λ _ p. w.if-phase-eq0.false p
-    | else-c-eq105 w ↦ λ i _. w.if-c-eq105.false i
+      | then-c-eq105+else-phase-eq0 w ↦ λ _ p. w.if-phase-eq0.false p
+      | else-c-eq105 w ↦ λ i _. w.if-c-eq105.false i
     ]
 
 no_never : (c : Joined-c-eq110) → c.byte_at-c.result ≡ 110 → c.args.phase ≤ 1 → ⊥
 no_never c =
     elim c.if-c-eq110.branch [
-      then-c-eq110+else-phase-le1 w ↦ λ _ p. let h = w.if-phase-le1.false in omega arith
-    | else-c-eq110 w ↦ λ g _. w.if-c-eq110.false g
+      | then-c-eq110+else-phase-le1 w ↦ λ _ p. let h = w.if-phase-le1.false in omega arith
+      | else-c-eq110 w ↦ λ g _. w.if-c-eq110.false g
     ]
 
 no-gate : (c : Joined-c-eq103) → c.byte_at-c.result ≡ 103 → c.args.phase ≤ 2 → ⊥
 no-gate c =
     elim c.if-c-eq103.branch [
-      then-c-eq103+else-phase-le2 w ↦ λ _ p. let h = w.if-phase-le2.false in omega arith
-    | else-c-eq103 w ↦ λ g _. w.if-c-eq103.false g
+      | then-c-eq103+else-phase-le2 w ↦ λ _ p. let h = w.if-phase-le2.false in omega arith
+      | else-c-eq103 w ↦ λ g _. w.if-c-eq103.false g
     ]
 
 pub returns-then-byte_at-ne40 : goal.returns-then-byte_at-ne40

@@ -1,5 +1,4 @@
 -- `text_recogniser::lines::output_line` meets its contract: a chain of calls, each behind what the one before found.
-use borrow.Author.Rules.{rules}
 use Rattle.text_recogniser.proofs.Chain.{begin, step, finish}
 use Rattle.text_recogniser.proofs.LineSteps.{output-word, output-port, output-space, output-shown}
 use Rattle.text_recogniser.proofs.lines.output_line.Goals as goal

@@ -1,6 +1,5 @@
 -- `text_recogniser::lines::then_expression` meets its contract: it answers a bad byte as it was found, and else reads
 -- what is left.
-use borrow.Author.Rules.{rules}
 use Rattle.text_recogniser.specs.Scan.{expression_reader}
 use Rattle.text_recogniser.proofs.Chain.{found-bad, found-next}
 use Rattle.text_recogniser.proofs.lines.then_expression.Goals as goal

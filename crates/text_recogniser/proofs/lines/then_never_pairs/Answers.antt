@@ -1,6 +1,5 @@
 -- `text_recogniser::lines::then_never_pairs` meets its contract: it answers a bad byte as it was found, and else reads
 -- what is left.
-use borrow.Author.Rules.{rules}
 use Rattle.netlist.specs.Parse.{never_pairs}
 use Rattle.text_recogniser.proofs.LineSteps.{never-bound}
 use Rattle.text_recogniser.proofs.Chain.{found-bad, found-next}

@@ -1,5 +1,4 @@
 -- `text_recogniser::pairs::then_pair` meets its contract: a chain of calls, each behind what the one before found.
-use borrow.Author.Rules.{rules}
 use Rattle.text_recogniser.proofs.Chain.{at-found, step, finish}
 use Rattle.text_recogniser.specs.Pairs.{pair_scan}
 use Rattle.text_recogniser.proofs.PairSteps.{pair-word, pair-name, pair-space, pair-value}

@@ -1,6 +1,5 @@
 -- `text_recogniser::pairs::then_pairs` meets its contract: it answers a bad byte as it was found, and else reads what
 -- is left.
-use borrow.Author.Rules.{rules}
 use Rattle.netlist.specs.Parse.{pairs_reader}
 use Rattle.text_recogniser.proofs.Chain.{found-bad, found-next}
 use Rattle.text_recogniser.proofs.pairs.then_pairs.Goals as goal

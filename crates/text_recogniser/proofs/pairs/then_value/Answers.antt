@@ -1,6 +1,5 @@
 -- `text_recogniser::pairs::then_value` meets its contract: it answers a bad byte as it was found, and else reads what
 -- is left.
-use borrow.Author.Rules.{rules}
 use Rattle.netlist.specs.Parse.{bit_reader}
 use Rattle.text_recogniser.proofs.Chain.{found-bad, found-next}
 use Rattle.text_recogniser.proofs.pairs.then_value.Goals as goal

@@ -1,5 +1,4 @@
 -- `text_recogniser::pairs::value` meets its contract: one law for each byte that may come.
-use borrow.Author.Rules.{rules}
 use native.Mathlib.Omega.{arith}
 use Rattle.prelude.proofs.Elements.{byte-there}
 use Rattle.text_recogniser.proofs.PairSteps.{value-0, value-1, value_none}

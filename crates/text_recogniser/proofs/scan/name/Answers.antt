@@ -1,9 +1,7 @@
 -- `text_recogniser::scan::name` meets its contract: a first byte that passes the test, and at most seven more.
-use borrow.Author.Rules.{rules}
 use mathlib.Core.Path.{sym, ap, ◌∙◌, ◌≡◌}
 use mathlib.Core.Bool.{true}
 use lib.ListN.{get_or}
-use borrow.Author.Tests.{not-true, not-false}
 use Rattle.prelude.proofs.Elements.{rest-is-drop}
 use Rattle.netlist.specs.Parse.{name_bytes}
 use Rattle.text_recogniser.specs.Readers.{scan_of, first_byte}

@@ -1,17 +1,11 @@
 -- `text_recogniser::scan::name_bytes` meets its contract. The loop's invariant: the answer on the whole is the answer
 -- on what is left of the text and of the bytes that may come.
-use Prim.Native.Nat.{◌-◌, ◌≤◌, ◌<◌}
-use mathlib.Core.Path.{◌≡◌, sym, ap, ◌∙◌}
-use mathlib.Core.Bool.{true, false}
-use borrow.Author.Tests.{not-true, not-false}
-use native.Mathlib.Numerals.{add-one}
-use native.Mathlib.Nat.{sub-zero}
-use native.Mathlib.Omega.{arith}
-use lib.ListN.{length, get_or}
-use Rattle.netlist.specs.Names.{is_name_byte}
+use Prim.Native.Nat.{◌-◌, ◌≤◌}
+use mathlib.Core.Path.{◌≡◌}
+use lib.ListN.{length}
 use Rattle.text_recogniser.specs.Readers.{scan_of}
 use Rattle.netlist.specs.Parse.{name_bytes}
-use Rattle.text_recogniser.proofs.Words.{name_from, name-byte-there, name-more, name-over, name-other}
+use Rattle.text_recogniser.proofs.Words.{name_from}
 use Rattle.text_recogniser.proofs.scan.name_bytes.Given as goal
 
 abbrev pub invariant-loop-i : goal.invariant-loop-i

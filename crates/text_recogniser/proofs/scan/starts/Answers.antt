@@ -1,5 +1,4 @@
 -- `text_recogniser::scan::starts` meets its contract: the flag chooses the test.
-use borrow.Author.Rules.{rules}
 use Rattle.text_recogniser.specs.Readers.{first_byte}
 use Rattle.text_recogniser.proofs.scan.starts.Goals as goal
 

@@ -1,6 +1,5 @@
 -- `text_recogniser::scan::then_name` meets its contract: it answers a bad byte as it was found, and else reads what is
 -- left.
-use borrow.Author.Rules.{rules}
 use Rattle.netlist.specs.Parse.{name_reader}
 use Rattle.text_recogniser.specs.Readers.{first_byte}
 use Rattle.text_recogniser.proofs.Chain.{found-bad, found-next}

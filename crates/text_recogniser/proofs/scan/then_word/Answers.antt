@@ -1,6 +1,5 @@
 -- `text_recogniser::scan::then_word` meets its contract: it answers a bad byte as it was found, and else reads what is
 -- left.
-use borrow.Author.Rules.{rules}
 use Rattle.text_recogniser.specs.Readers.{word_reader}
 use Rattle.text_recogniser.proofs.Chain.{found-bad, found-next}
 use Rattle.text_recogniser.proofs.scan.then_word.Goals as goal

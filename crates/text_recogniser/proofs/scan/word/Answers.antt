@@ -1,11 +1,9 @@
 -- `text_recogniser::scan::word` meets its contract. The loop's invariant: the answer on the whole is the answer on what
 -- is left of the word and of the text.
-use Prim.Native.Nat.{◌-◌, ◌≤◌}
-use mathlib.Core.Path.{◌≡◌, refl, sym, ◌∙◌}
+use mathlib.Core.Path.{refl, sym, ◌∙◌}
 use native.Mathlib.Numerals.{add-one}
 use native.Mathlib.Omega.{arith}
-use lib.ListN.{length}
-use Rattle.text_recogniser.proofs.Words.{word_from, word_over, word-short, word_same, word-other}
+use Rattle.text_recogniser.proofs.Words.{word_over, word-short, word_same, word-other}
 use Rattle.text_recogniser.proofs.scan.word.Goals as goal
 
 pub loop-i-init : goal.loop-i-init

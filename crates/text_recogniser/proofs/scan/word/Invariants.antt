@@ -1,11 +1,9 @@
 -- `text_recogniser::scan::word` meets its contract. The loop's invariant: the answer on the whole is the answer on what
 -- is left of the word and of the text.
 use Prim.Native.Nat.{◌-◌, ◌≤◌}
-use mathlib.Core.Path.{◌≡◌, refl, sym, ◌∙◌}
-use native.Mathlib.Numerals.{add-one}
-use native.Mathlib.Omega.{arith}
+use mathlib.Core.Path.{◌≡◌}
 use lib.ListN.{length}
-use Rattle.text_recogniser.proofs.Words.{word_from, word_over, word-short, word_same, word-other}
+use Rattle.text_recogniser.proofs.Words.{word_from}
 use Rattle.text_recogniser.proofs.scan.word.Given as goal
 
 abbrev pub invariant-loop-i : goal.invariant-loop-i

@@ -1,0 +1,12 @@
+-- `graph_scc::search::explore` meets its contract: the clock goes on by one in each turn, so the search ends.
+use Prim.Native.Nat.{◌-◌}
+use borrow.Author.Rules.{rules}
+use Rattle.graph_scc.specs.Search.{clock_end, StandingReady, SameRooms}
+use Rattle.graph_scc.proofs.search.explore.Given as goal
+
+abbrev pub invariant-loop-standing : goal.invariant-loop-standing
+invariant-loop-standing l =
+    StandingReady l.standing.time l.standing.top l.standing.count × SameRooms l.initial.order l.initial.ends l.order l.ends
+
+abbrev pub decreases-loop-standing : goal.decreases-loop-standing
+decreases-loop-standing l = clock_end - l.standing.time

@@ -1,0 +1,23 @@
+-- `text_lines::skip_parts` meets its contract: a part without an LF and what is left of the line are the line.
+use mathlib.Core.Path.{◌≡◌}
+use Prim.Native.Nat.{◌≤◌, ◌+◌, ◌-◌}
+use native.Mathlib.Omega.{arith}
+use lib.ListN.{length, drop}
+use Rattle.text_lines.specs.Lines.{length_with_lf}
+use Rattle.text_lines.proofs.Scanning.{length-skip}
+use Rattle.text_lines.proofs.skip_parts.Goals as goal
+
+pub loop-i-init : goal.loop-i-init
+loop-i-init c = (omega arith, omega arith)
+
+pub returns-then-has_lf : goal.returns-then-has_lf
+returns-then-has_lf c = c.loop-i.invariant
+
+pub loop-i-preserved : goal.loop-i-preserved
+loop-i-preserved c =
+    let l = c in
+    let none = c.has_lf.ensures c.if-has_lf.false in
+    (omega arith, length-skip l.args.s.now l.loop-i.i 16 (omega arith) none l.loop-i.invariant.1)
+
+pub returns : goal.returns
+returns c = c.loop-i.invariant
