@@ -2,12 +2,14 @@
 // there is read and answered at once, so that it serves a terminal and a pipe. A proved loop has to end, and nothing
 // says that the input does: the loop over reads counts down from a number that no run uses up.
 #![tactic(auto)]
+ghost use Rattle.std.specs.Prelude.{◌≤◌, length};
 ghost use Rattle.bench_session.specs.Session.{Unprepared, SessionReady, SessionRoom};
 
 use bench_session::state::{ANSWER_BYTES, LINE_BYTES, State, is_over, start};
 use bench_session::{feed, finish};
 use graph_gates::GRAPH_WORDS;
 use graph_gates::fanout::FANOUT_WORDS;
+use std::io::{Read, Stdin};
 use words_layout::limits::{BLOCK_WORDS, MAX_TEXT};
 
 // What serving some input came to: the state after it, and whether to read on.
@@ -43,8 +45,21 @@ fn serve_piece(
     state
 }
 
+// One read of what is there now: how many bytes of it stand in front of the piece, 0 at the input's end. A read that
+// fails ends the input too.
+fn read_some(input: Stdin, piece: &mut [u8]) -> usize
+    ensures { result ≤ length piece.new }
+{
+    let mut input = input;
+    match input.read(piece) {
+        Ok(n) => n,
+        Err(_) => 0,
+    }
+}
+
 // Reads the input that is there now, and answers it.
 fn serve_some(
+    input: Stdin,
     state: State,
     text: &mut [u8],
     words: &mut [u16],
@@ -59,7 +74,7 @@ fn serve_some(
         line.new out.new }
 {
     let mut piece = io::buffer();
-    let n = io::count(libc::read(0, &mut piece), &piece);
+    let n = read_some(input, &mut piece);
     if n == 0 {
         return Served { state, more: false };
     }
@@ -70,6 +85,7 @@ fn serve_some(
 
 // Reads and answers until the input ends or the netlist is refused, and answers what is left then.
 fn serve(
+    input: Stdin,
     text: &mut [u8],
     words: &mut [u16],
     graph: &mut [u16; GRAPH_WORDS],
@@ -83,7 +99,7 @@ fn serve(
     let mut more = true;
     let mut turns = u64::MAX;
     while turns > 0 && more {
-        let served = serve_some(state, text, words, graph, fanout, line, out);
+        let served = serve_some(input, state, text, words, graph, fanout, line, out);
         state = served.state;
         more = served.more;
         turns -= 1;
@@ -92,7 +108,7 @@ fn serve(
     io::write_all(1, &out[..written]);
 }
 
-fn main() {
+fn main(rt: HostRuntime) {
     let mut text = [0u8; MAX_TEXT];
     let mut words = [0u16; BLOCK_WORDS];
     let mut graph = [0u16; GRAPH_WORDS];
@@ -100,6 +116,7 @@ fn main() {
     let mut line = [0u8; LINE_BYTES];
     let mut out = [0u8; ANSWER_BYTES];
     serve(
+        rt.stdin(),
         &mut text,
         &mut words,
         &mut graph,

@@ -159,7 +159,7 @@ module _ {m n : ℕ} {graph : List ℕ} where
         underway = rw s.inputs_kept (swept-underway u.underway s.swept);
       }
 
-  pub lanes-swept : {js w after : List ℕ} {changed : Bool} → Graph m graph → ((j : ℕ) → member j js ≡ true → j < m)
+  pub lanes-swept : {w js after : List ℕ} {changed : Bool} → Graph m graph → ((j : ℕ) → member j js ≡ true → j < m)
       → LanesUnderway m n graph w
       → GatesEvaluated graph w js after changed → LanesSwept m n graph js w after changed
   lanes-swept g inside u no_gate = record { filled = u.filled; inputs_kept = refl; swept = swept_none _ u.underway }

@@ -103,7 +103,7 @@ or_else-assoc none q r = refl
 pub failed-first : (p q : Option ℕ) (why : ℕ → Refusal) {r : Test} → r ≡ test_at p why → IsFailed r
     → r ≡ test_at (or_else p q) why
 unfolding or_else test_at
-failed-first none q why e k = absurd (miss (1 ∷ []) 0 tt (rw e at k))
+failed-first none q why e k = absurd (k e)
 failed-first (some x) q why e k = e
 
 or_else-none : (p : Option ℕ) → or_else p none ≡ p

@@ -31,14 +31,14 @@ overflow_add-at c =
     let s = line in
     omega (arith, name-sizes s.requires.short line.loop-i.invariant refl line.line_of-line.ensures, s.requires.short)
 
-pub bounds-inputs-i : goal.bounds-inputs-i
-bounds-inputs-i c = omega (arith, c.requires.few)
-
-pub overflow_add-at : goal.overflow_add-at
-overflow_add-at c =
+pub overflow_add-at-in-loop-i : goal.overflow_add-at-in-loop-i
+overflow_add-at-in-loop-i c =
     let line = c in
     let s = line in
     omega (arith, name-sizes s.requires.short line.loop-i.invariant refl line.line_of-line.ensures, s.requires.short)
+
+pub bounds-inputs-i : goal.bounds-inputs-i
+bounds-inputs-i c = omega (arith, c.requires.few)
 
 pub loop-i-preserved : goal.loop-i-preserved
 loop-i-preserved c =

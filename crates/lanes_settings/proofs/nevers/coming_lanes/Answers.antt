@@ -1,0 +1,7 @@
+-- `lanes_settings::nevers::coming_lanes` meets its contract.
+use borrow.Author.Rules.{rules}
+use Rattle.lanes_settings.proofs.NeverLaws.{coming-tells}
+use Rattle.lanes_settings.proofs.nevers.coming_lanes.Goals as goal
+
+pub returns : goal.returns
+returns c = rw c.used_lanes.ensures (coming-tells _ c.excluded_lanes.ensures)

@@ -1,0 +1,8 @@
+-- `lanes_settings::nevers::line_lanes` meets its contract.
+use borrow.Author.Rules.{rules}
+use Rattle.netlist.specs.StoredBlock.{never_at}
+use Rattle.lanes_settings.proofs.nevers.line_lanes.Goals as goal
+
+pub returns : goal.returns
+unfolding never_at
+returns c = rw (← c.word_at.ensures, ← c.word_at-2.ensures) c.agreeing_lanes.ensures
