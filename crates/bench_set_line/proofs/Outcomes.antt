@@ -130,11 +130,11 @@ module _ (ws : List ℕ) (ps : List Pair) (values : List ℕ) where
 
   then-failed : (t : Test) → IsFailed t → t ≡ then_test t unknown
   unfolding then_test
-  then-failed Passed k = absurd (miss (1 ∷ []) 0 tt k)
+  then-failed Passed k = absurd (k refl)
   then-failed (Failed why) k = refl
 
   failed-not-passed : (t : Test) → IsFailed t → t ≡ Passed → ⊥
-  failed-not-passed t k e = miss (1 ∷ []) 0 tt (rw e at k)
+  failed-not-passed t k e = k e
 
   pub repeat_read : {t : Test} → t ≡ repeated → IsFailed t → LineRead ws ps t values
   unfolding pairs_test

@@ -1,6 +1,7 @@
 // The operations as C functions (SPECIFICATION 7), for programs in other languages: include/unloop.h declares them.
 // Each has its operation's promise and no condition. A slice is a pointer and a length.
 #![tactic(auto)]
+
 ghost use Rattle.std.specs.Prelude.{◌≡◌, ◌≤◌, length};
 ghost use Rattle.netlist.specs.Answers.{answer_of, Shows};
 ghost use Rattle.netlist.specs.Operations.{read, write, settle, verdict, cover_of, groups_of};
@@ -72,8 +73,7 @@ pub extern "C" fn unloop_pass(block: &[u16], setting: &[u8], values: &mut [u8]) 
 }
 
 // Sheet: each record's answer from its two masks of inputs; count: the records. Two turns for each record: it is read,
-// and once its batch is settled it is answered. A function on a slice of structs is proved step by step by hand: hence
-// one loop and no branch.
+// and once its batch is settled it is answered.
 #[unsafe(no_mangle)]
 pub extern "C" fn unloop_sheet(block: &[u16], records: &mut [Record]) -> Reply
     ensures answers { Shows (answer_of (sheet block.now (length records.old))) result }

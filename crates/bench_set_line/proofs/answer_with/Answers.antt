@@ -20,7 +20,7 @@ form-told : (c : After-test_set_line-tested) → let a = c.args in
 form-told c = rw c.inputs_of.ensures at c.test_set_line-tested.ensures
 
 -- the pairs of a line that has passed, and what is left of the chain of conditions
-found : (c : In-Passed) → let a = c.args in Found a.words.now a.line.now
+abbrev found : (c : In-Passed) → let a = c.args in Found a.words.now a.line.now
 found c =
     let s = c in
     in-form s.args.words.now s.args.line.now s.requires.0.whole

@@ -18,18 +18,20 @@ use borrow.Author.Rules.{rules}
 use Rattle.bench_set_line.proofs.read_tables.Goals.{After-test_outside-tested, After-test_repeat-tested}
 use Rattle.bench_set_line.proofs.read_tables.Goals as goal
 
-abbrev For : After-test_repeat-tested → List Pair → Type 0
+abbrev For : (c : After-test_repeat-tested) → List Pair → Type 0
 For c ps =
     let a = c.args in
     TablesFor a.words.now ps a.names.now a.places.now a.codes.now a.count a.inputs.now
 
-repeat-told : (c : After-test_repeat-tested) (ps : List Pair) → For c ps
+repeat-told : (c : After-test_repeat-tested) (ps : List Pair) → (let For_here : (List Pair → Type 0) = λ ps. let a = c.args in
+    TablesFor a.words.now ps a.names.now a.places.now a.codes.now a.count a.inputs.now in For_here) ps
     → c.test_repeat-tested.result ≡ test_at (first_repeat [] (given_names ps)) DuplicateDeclaration
 unfolding given_names
 repeat-told c ps f =
     c.test_repeat-tested.ensures ps pairs_at f.legal f.tabled.counted f.tabled.names_are f.tabled.places_are
 
-outside_told : (c : After-test_outside-tested) (ps : List Pair) → For c ps
+outside_told : (c : After-test_outside-tested) (ps : List Pair) → (let For_here : (List Pair → Type 0) = λ ps. let a = c.args in
+    TablesFor a.words.now ps a.names.now a.places.now a.codes.now a.count a.inputs.now in For_here) ps
     → c.test_outside-tested.result ≡ test_at (first_outside (decode c.args.words.now).inputs
     (given_names ps)) UndeclaredName
 unfolding given_names
@@ -45,7 +47,7 @@ test_repeat-tested-requires c =
 
 pub returns-in_default : goal.returns-in_default
 returns-in_default c =
-    λ ps f. let t = c in repeat_read _ ps _ (repeat-told t ps f) c.in_default.not-Passed
+    λ ps f. let t = c in repeat_read _ ps _ (repeat-told (goal.at.returns-in_default c).After-test_repeat-tested ps f) c.in_default.not-Passed
 
 pub test_outside-tested-requires : goal.test_outside-tested-requires
 test_outside-tested-requires c =
@@ -56,7 +58,7 @@ test_outside-tested-requires c =
 pub returns-in_default-tested : goal.returns-in_default-tested
 returns-in_default-tested c =
     λ ps f. let t = c in
-    outside-read _ ps _ (repeat-told t ps f) t.in-Passed.is (outside_told t ps f)
+    outside-read _ ps _ (repeat-told (goal.at.returns-in_default-tested c).After-test_repeat-tested ps f) t.in-Passed.is (outside_told (goal.at.returns-in_default-tested c).After-test_outside-tested ps f)
     c.in_default-tested.not-Passed
 
 pub fill_setting-requires : goal.fill_setting-requires
@@ -91,6 +93,6 @@ returns c =
     let told = y in
     let t = told in
     let given = line-setting f _ t.inputs_of-n.ensures y.fill_setting.ensures in
-    both_read _ ps _ (repeat-told t ps f) t.in-Passed.is (outside_told t ps f)
+    both_read _ ps _ (repeat-told (goal.at.returns c).After-test_repeat-tested ps f) t.in-Passed.is (outside_told (goal.at.returns c).After-test_outside-tested ps f)
     told.in-Passed-tested.is
     (rw given at c.put_setting.ensures)

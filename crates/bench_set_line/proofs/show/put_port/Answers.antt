@@ -43,25 +43,15 @@ unfolding port_piece pair_text
 put_all-opened-requires c =
     short-first {xs = ascii " ("} _ c.requires.short
 
-pub put_name-named-requires-clause-from_le_written_room : goal.put_name-named-requires-clause-from_le_written_room
+pub put_name-named-requires : goal.put_name-named-requires
 unfolding port_piece pair_text
-put_name-named-requires-clause-from_le_written_room c =
+put_name-named-requires c =
     let o = c in
-    let s = o in (
-      omega (arith, s.requires.port_of.below, ports-near s.args.words.now s.requires.port_of.whole s.requires.port_of.start),
-      short-first _
-          (short-rest {xs = ascii " ("} _ s.requires.short o.put_all-opened.ensures),
-    )
-
-pub put_name-named-requires-clause-short : goal.put_name-named-requires-clause-short
-unfolding port_piece pair_text
-put_name-named-requires-clause-short c =
-    let o = c in
-    let s = o in (
-      omega (arith, s.requires.port_of.below, ports-near s.args.words.now s.requires.port_of.whole s.requires.port_of.start),
-      short-first _
-          (short-rest {xs = ascii " ("} _ s.requires.short o.put_all-opened.ensures),
-    )
+    let s = o in record {
+      from_le_written_room = omega (arith, s.requires.port_of.below, ports-near s.args.words.now s.requires.port_of.whole s.requires.port_of.start);
+      short = short-first _
+          (short-rest {xs = ascii " ("} _ s.requires.short o.put_all-opened.ensures);
+    }
 
 pub put-spaced-requires : goal.put-spaced-requires
 unfolding port_piece pair_text

@@ -39,23 +39,14 @@ whole c =
     let a = start.args in
     show-of a.words.now a.values.now c.outputs_of-k.ensures c.outputs_at-from.ensures in parts_here)) at (show-short s.args.words.now s.args.values.now s.requires)
 
-pub put_ports-filled-requires-clause-ports_of : goal.put_ports-filled-requires-clause-ports_of
-put_ports-filled-requires-clause-ports_of c =
+pub put_ports-filled-requires : goal.put_ports-filled-requires
+put_ports-filled-requires c =
     let o = c in
     let h = o in
-    let s = c in (
-      record { whole = s.requires; start = h.outputs_at-from.ensures; many = h.outputs_of-k.ensures },
-      short-first _ (short-rest {xs = ascii "(show"} _ (whole (goal.at.put_ports-filled-requires-clause-ports_of c).After-outputs_of-k) o.put_all-opened.ensures),
-    )
-
-pub put_ports-filled-requires-clause-short : goal.put_ports-filled-requires-clause-short
-put_ports-filled-requires-clause-short c =
-    let o = c in
-    let h = o in
-    let s = c in (
-      record { whole = s.requires; start = h.outputs_at-from.ensures; many = h.outputs_of-k.ensures },
-      short-first _ (short-rest {xs = ascii "(show"} _ (whole (goal.at.put_ports-filled-requires-clause-short c).After-outputs_of-k) o.put_all-opened.ensures),
-    )
+    let s = c in record {
+      ports_of = record { whole = s.requires; start = h.outputs_at-from.ensures; many = h.outputs_of-k.ensures };
+      short = short-first _ (short-rest {xs = ascii "(show"} _ (whole (goal.at.put_ports-filled-requires c).After-outputs_of-k) o.put_all-opened.ensures);
+    }
 
 pub put_all-requires : goal.put_all-requires
 put_all-requires c =

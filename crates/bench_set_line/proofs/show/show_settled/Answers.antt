@@ -15,10 +15,10 @@ use Rattle.bench_set_line.proofs.Outcomes.{show-room}
 use Rattle.bench_set_line.proofs.show.show_settled.Goals.{After-test_room-tested}
 use Rattle.bench_set_line.proofs.show.show_settled.Goals as goal
 
-abbrev line : After-test_room-tested → List ℕ
+abbrev line : (c : After-test_room-tested) → List ℕ
 line c = let a = c.args in show_text a.words.now a.values.now
 
-measured : (c : After-test_room-tested) → c.put_show-count.result ≡ length (line c)
+measured : (c : After-test_room-tested) → c.put_show-count.result ≡ length ((let line_here : (List ℕ) = let a = c.args in show_text a.words.now a.values.now in line_here))
 measured c = omega (arith, c.put_show-count.ensures.end_is)
 
 pub put_show-count-requires : goal.put_show-count-requires
@@ -27,7 +27,7 @@ put_show-count-requires c = c.requires
 pub returns-in_default : goal.returns-in_default
 returns-in_default c =
     let t = c in
-    failed bare keeps-bare _ _ NoRoom (show-room (line t) _) (rw (measured (goal.at.returns-in_default c).After-test_room-tested) at t.test_room-tested.ensures)
+    failed bare keeps-bare _ _ NoRoom (show-room (line (goal.at.returns-in_default c).After-test_room-tested) _) (rw (measured (goal.at.returns-in_default c).After-test_room-tested) at t.test_room-tested.ensures)
     t.args.out.now
     c.in_default.not-Passed c.refusal.ensures
 
@@ -39,7 +39,7 @@ returns c =
     let told = c in
     let t = told in
     let answer = rw (measured (goal.at.returns c).After-test_room-tested) at t.test_room-tested.ensures in
-    let fits : length (line t) ≤ length t.args.out.now =
+    let fits : length (line (goal.at.returns c).After-test_room-tested) ≤ length t.args.out.now =
     ltb-false _ _ (passed-false _ NoRoom answer told.in-Passed.is) in
-    finished (passed bare keeps-bare _ _ NoRoom (show-room (line t) _) answer told.in-Passed.is) (measured (goal.at.returns c).After-test_room-tested)
-    (c.put_show.ensures.text_is ∙ sets-placed (line t) t.args.out.now fits)
+    finished (passed bare keeps-bare _ _ NoRoom (show-room (line (goal.at.returns c).After-test_room-tested) _) answer told.in-Passed.is) (measured (goal.at.returns c).After-test_room-tested)
+    (c.put_show.ensures.text_is ∙ sets-placed (line (goal.at.returns c).After-test_room-tested) t.args.out.now fits)

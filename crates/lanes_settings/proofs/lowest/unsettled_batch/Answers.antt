@@ -160,4 +160,4 @@ pub setting_count-count-requires : goal.setting_count-count-requires
 setting_count-count-requires c = rw c.inputs_of-n.ensures (few (goal.at.setting_count-count-requires c).Start)
 
 pub loop-o-init : goal.loop-o-init
-loop-o-init c. (omega arith, λ k l = absurd (omega arith))
+loop-o-init c = (omega arith, λ k l. absurd (omega arith))

@@ -23,9 +23,9 @@ use Rattle.lanes_settings.proofs.lowest.unsettled_batch.Given as goal
 
 -- no setting before `base` may come and is not settled
 pub record Passed (words lanes : List ℕ) (base : ℕ) : Type 0 where
-  place : Place (get_or words 0 0) base
-  sound : (i : ℕ) → i < base → is_sound_at (decode words) i ≡ true
-  long : length lanes ≡ lane_size
+  pub place : Place (get_or words 0 0) base
+  pub sound : (i : ℕ) → i < base → is_sound_at (decode words) i ≡ true
+  pub long : length lanes ≡ lane_size
 
 abbrev pub invariant-loop-o : goal.invariant-loop-o
 invariant-loop-o l =

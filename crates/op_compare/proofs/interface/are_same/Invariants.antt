@@ -1,0 +1,18 @@
+-- `op_compare::interface::are_same` meets its contract: the names passed are the same.
+use mathlib.Core.Path.{◌≡◌, refl}
+use mathlib.Core.Bool.{Bool, true}
+use Prim.Native.Nat.{ℕ, ◌≤◌, ◌+◌, ◌-◌, ◌*◌}
+use native.Mathlib.Omega.{arith}
+use borrow.Author.Rules.{rules}
+use Rattle.prelude.specs.Lists.{all, up_to}
+use Rattle.prelude.proofs.Tested.{passes, fails, passed}
+use Rattle.words_block.proofs.NameLaws.{place-le}
+use Rattle.op_compare.specs.Interface.{same_name_at}
+use Rattle.op_compare.proofs.interface.are_same.Given as goal
+
+abbrev pub invariant-loop-i : goal.invariant-loop-i
+invariant-loop-i l =
+    (l.i ≤ l.count) × (all (same_name_at l.ours l.at l.theirs l.other l.size) (up_to l.i) ≡ true)
+
+abbrev pub decreases-loop-i : goal.decreases-loop-i
+decreases-loop-i l = l.count - l.i

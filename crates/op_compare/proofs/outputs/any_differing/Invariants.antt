@@ -1,0 +1,16 @@
+-- `op_compare::outputs::any_differing` meets its contract: the word so far has the lanes of the outputs passed.
+use mathlib.Core.Path.{◌≡◌, refl, ap, ◌∙◌}
+use Prim.Native.Nat.{◌-◌, ◌≤◌}
+use native.Mathlib.Numerals.{add-one}
+use native.Mathlib.Omega.{arith}
+use borrow.Author.Rules.{rules}
+use lib.ListN.{get_or}
+use Rattle.op_compare.specs.Words.{differing_words}
+use Rattle.op_compare.proofs.outputs.any_differing.Given as goal
+
+abbrev pub invariant-loop-o : goal.invariant-loop-o
+invariant-loop-o l =
+    (l.o ≤ l.count) × (l.word ≡ differing_words l.ours l.theirs l.n l.lanes l.others l.o)
+
+abbrev pub decreases-loop-o : goal.decreases-loop-o
+decreases-loop-o l = l.count - l.o

@@ -1,0 +1,20 @@
+-- `entries::list_entries` meets its contract: each turn lists a row; where all entries are counted, their words are
+-- there.
+use Prim.Native.Nat.{◌-◌, ◌*◌, ◌^◌, ◌≤◌, ◌<◌}
+use mathlib.Core.Path.{ap, ◌∙◌}
+use native.Mathlib.Omega.{arith}
+use mathlib.Core.List.{List}
+use Rattle.prelude.specs.Lists.{placed}
+use Rattle.netlist.specs.Assignments.{Assignment}
+use Rattle.theory_cover.specs.Over.{assignment_words}
+use Rattle.theory_cover.specs.Entries.{EntriesReached, Words}
+use Rattle.op_cover.proofs.Bounds.{two_fits}
+use Rattle.op_cover.proofs.Listing.{reached-first, words-first, all-reached, row-left}
+use Rattle.op_cover.proofs.entries.list_entries.Given as goal
+
+abbrev pub invariant-loop-count : goal.invariant-loop-count
+invariant-loop-count l =
+    (l.fixed ≤ 2 ^ l.n) × EntriesReached l.marks l.n (l.fixed * 2 ^ l.n) l.count × Words l.marks l.initial.out l.out l.n (l.fixed * 2 ^ l.n)
+
+abbrev pub decreases-loop-count : goal.decreases-loop-count
+decreases-loop-count l = 2 ^ l.n - l.fixed

@@ -1,0 +1,134 @@
+-- `entries::list_row` meets its contract: the words of the entries among the pairs passed stand in front (`Words`), and
+-- there is room for the next, since there is room for all.
+use Prim.Native.Nat.{ℕ, ◌+◌, ◌-◌, ◌*◌, ◌^◌, ◌≤◌, ◌<◌}
+use mathlib.Core.Path.{◌≡◌, refl, sym, ◌∙◌}
+use mathlib.Core.List.{List}
+use mathlib.Core.Logic.{⊎_elim}
+use native.Mathlib.Nat.{add-zero}
+use native.Mathlib.Omega.{arith}
+use lib.Arith.{digits_div, digits_mod}
+use lib.ListN.{length, length-set}
+use Rattle.netlist.specs.Limits.{max_inputs}
+use Rattle.theory_cover.specs.Entries.{EntriesReached, Words}
+use Rattle.op_cover.proofs.Bounds.{two_fits, shifted}
+use Rattle.op_cover.proofs.Rows.{row_below, row-end}
+use Rattle.op_cover.proofs.Listing.{reached-skip, reached-add, one_more, words-skip, words-add}
+use borrow.Author.Rules.{rules}
+use Rattle.op_cover.proofs.entries.list_row.Goals.{Then-is_left}
+use Rattle.op_cover.proofs.entries.list_row.Goals as goal
+
+below : (c : Then-is_left) → c.loop-ones.ones < 2 ^ c.args.n
+below c = omega (arith, c.loop-ones.invariant.ends, c.loop-ones-test.true)
+
+room : (c : Then-is_left)
+    → 2 * c.loop-ones.count + 2 ≤ length c.args.out.now
+room c =
+    let inv = c.loop-ones.invariant.reached in
+    let p = row_below inv c.requires.row.0.legal ((let below_here : (c.loop-ones.ones < 2 ^ c.args.n) = omega (arith, c.loop-ones.invariant.ends, c.loop-ones-test.true) in below_here)) in
+    omega (arith, one_more inv p.below (sym c.is_left.ensures ∙ c.if-is_left.true), c.requires.n_in_bounds)
+
+small : (c : Then-is_left) → 2 ^ c.args.n ≤ 2 ^ max_inputs
+small c = two_fits {i = c.args.n} {n = c.args.n} (omega arith) c.requires.row.0.weighed.few
+
+pub loop-ones-init : goal.loop-ones-init
+loop-ones-init c =
+    let start = c in
+    let z = add-zero (start.args.first.fixed * 2 ^ start.args.n) in
+    record {
+      within = omega arith;
+      ends = shifted start.requires.row.0.weighed.few;
+      reached = rw z start.requires.row.1;
+      shape_of-out = refl;
+      words = λ first v. rw z v;
+    }
+
+pub is_left-requires : goal.is_left-requires
+is_left-requires c =
+    let start = c in
+    let l : c.loop-ones.ones < 2 ^ start.args.n = omega (arith, c.loop-ones.invariant.ends) in
+    (start.requires.row.0, l, row_below c.loop-ones.invariant.reached start.requires.row.0.legal l)
+
+pub bounds-out-count : goal.bounds-out-count
+bounds-out-count c = omega (arith, room (goal.at.bounds-out-count c).Then-is_left, c.loop-ones.invariant.same_length)
+
+pub bounds-out-count-then-is_left : goal.bounds-out-count-then-is_left
+bounds-out-count-then-is_left c = simp length-set (omega (arith, room (goal.at.bounds-out-count-then-is_left c).Then-is_left, c.loop-ones.invariant.same_length))
+
+pub next_ones-ones-requires : goal.next_ones-ones-requires
+next_ones-ones-requires c =
+    let start = c in
+    let loop = c.loop-ones in
+    let l : loop.ones < 2 ^ start.args.n = omega (arith, loop.invariant.ends) in
+    let row = start.requires.row.0 in
+    (row.weighed.few, row.legal, l, row_below loop.invariant.reached row.legal l)
+
+pub loop-ones-preserved : goal.loop-ones-preserved
+loop-ones-preserved c =
+    let head = c in
+    let loop = head.loop-ones in
+    let start = c in
+    let entry = c.is_left.ensures in
+    let l : loop.ones < 2 ^ start.args.n =
+    omega (arith, loop.invariant.ends, c.loop-ones-test.true) in
+    let x = c.next_ones-ones.ensures.1 in
+    ⊎_elim
+    (λ t.
+    let e = sym entry ∙ t.0.taken in
+    rw (t.1, t.2) (record {
+      within = c.next_ones-ones.ensures.0;
+      ends = loop.invariant.ends;
+      reached = reached-add loop.invariant.reached x e;
+      shape_of-out = simp length-set loop.invariant.same_length;
+      words = λ first v.
+          words-add loop.invariant.reached x e (sym (digits_div start.args.first.fixed l))
+          (sym (digits_mod start.args.first.fixed l))
+          (omega (arith, loop.invariant.same_length, start.requires.n_in_bounds)) (loop.invariant.words first v);
+    }))
+    (λ t.
+    let e = sym entry ∙ t.0.left in
+    rw (t.1, t.2) (record {
+      within = c.next_ones-ones.ensures.0;
+      ends = loop.invariant.ends;
+      reached = reached-skip loop.invariant.reached x e;
+      shape_of-out = loop.invariant.same_length;
+      words = λ first v. words-skip loop.invariant.reached x e (loop.invariant.words first v);
+    }))
+    c.if-is_left.branch
+
+pub shape_of-out : goal.shape_of-out
+shape_of-out c = c.loop-ones.invariant.same_length
+
+pub returns : goal.returns
+returns c =
+    let entry = c in
+    let args = entry.args in
+    let e : c.loop-ones.ones ≡ 2 ^ args.n = omega (arith, c.loop-ones.invariant.ends) in
+    let f = row-end args.n args.first.fixed in
+    record {
+      reached = rw (e, f) at c.loop-ones.invariant.reached;
+      row = λ first v. rw (e, f) at (c.loop-ones.invariant.words first v);
+    }
+
+pub overflow_cast-out : goal.overflow_cast-out
+overflow_cast-out c = omega (arith, small (goal.at.overflow_cast-out c).Then-is_left, c.requires.row.0.legal)
+
+pub overflow_mul-out : goal.overflow_mul-out
+overflow_mul-out c = omega (arith, room (goal.at.overflow_mul-out c).Then-is_left, c.well_formed)
+
+pub offset_bounds-out-count : goal.offset_bounds-out-count
+offset_bounds-out-count c = omega (arith, room (goal.at.offset_bounds-out-count c).Then-is_left, c.well_formed)
+
+pub overflow_cast-out-then-is_left : goal.overflow_cast-out-then-is_left
+overflow_cast-out-then-is_left c = omega (arith, small (goal.at.overflow_cast-out-then-is_left c).Then-is_left, below (goal.at.overflow_cast-out-then-is_left c).Then-is_left)
+
+pub overflow_mul-out-then-is_left : goal.overflow_mul-out-then-is_left
+overflow_mul-out-then-is_left c = omega (arith, room (goal.at.overflow_mul-out-then-is_left c).Then-is_left, c.well_formed)
+
+pub overflow_add-out : goal.overflow_add-out
+overflow_add-out c = omega (arith, room (goal.at.overflow_add-out c).Then-is_left, c.well_formed)
+
+pub offset_bounds-out-count-then-is_left : goal.offset_bounds-out-count-then-is_left
+offset_bounds-out-count-then-is_left c = omega (arith, room (goal.at.offset_bounds-out-count-then-is_left c).Then-is_left, c.well_formed)
+
+pub overflow_add-count : goal.overflow_add-count
+overflow_add-count c = omega (arith, room (goal.at.overflow_add-count c).Then-is_left, c.well_formed)

@@ -1,0 +1,58 @@
+-- `minimal::is_minimal` meets its contract: each input passed is free or needed (`Scanned`); one that can be dropped
+-- decides at once.
+use Prim.Native.Nat.{◌+◌, ◌-◌, ◌*◌, ◌%◌, ◌^◌, ◌≤◌, ◌<◌}
+use mathlib.Core.Logic.{⊎_elim}
+use native.Mathlib.Omega.{arith}
+use lib.ListN.{length}
+use borrow.Author.Rules.{rules}
+use Rattle.netlist.specs.Limits.{max_inputs}
+use Rattle.op_cover.proofs.Bounds.{three-fits}
+use Rattle.op_cover.proofs.Dropping.{Scanned, scan-start, freed-lt, scan-next, needed-free, needed-fixed}
+use Rattle.op_cover.proofs.Dropping.{not-minimal, scan-all}
+use Rattle.op_cover.proofs.minimal.is_minimal.Goals.{Then-digit-ne2}
+use Rattle.op_cover.proofs.minimal.is_minimal.Goals as goal
+
+-- with the input of this turn free, the number is one of the table
+in_table : (c : Then-digit-ne2)
+    → (c.args.k + (2 - c.loop-i.rest % 3) * c.loop-i.power
+    < 3 ^ c.args.n)
+    × (3 ^ c.args.n ≤ 3 ^ max_inputs)
+    × (3 ^ c.args.n ≤ length c.args.sound.now)
+in_table c =
+    let start = c in (
+      freed-lt c.loop-i.invariant c.loop-i-test.true start.requires.1,
+      three-fits {i = start.args.n} {n = start.args.n} (omega arith) start.requires.0,
+      start.requires.2,
+    )
+
+pub overflow_mul-power : goal.overflow_mul-power
+overflow_mul-power c =
+    let start = c in
+    let f : 3 ^ c.loop-i.i ≤ 3 ^ max_inputs =
+    three-fits c.loop-i.invariant.within start.requires.0 in
+    omega arith
+
+pub loop-i-preserved : goal.loop-i-preserved
+loop-i-preserved c =
+    let s = c.loop-i.invariant in
+    let l = c.loop-i-test.true in
+    scan-next s l (⊎_elim (λ w. needed-fixed s l w.0.taken w.2.left) (λ w. needed-free s l w.left)
+    c.if-digit-ne2.branch)
+
+pub loop-i-init : goal.loop-i-init
+loop-i-init c = search scan-start
+
+pub overflow_mul-digit : goal.overflow_mul-digit
+overflow_mul-digit c = omega (arith, in_table (goal.at.overflow_mul-digit c).Then-digit-ne2)
+
+pub overflow_add-k : goal.overflow_add-k
+overflow_add-k c = omega (arith, in_table (goal.at.overflow_add-k c).Then-digit-ne2)
+
+pub bounds-sound-k : goal.bounds-sound-k
+bounds-sound-k c = omega (arith, in_table (goal.at.bounds-sound-k c).Then-digit-ne2)
+
+pub returns-then-sound-k-eq1 : goal.returns-then-sound-k-eq1
+returns-then-sound-k-eq1 c = search not-minimal
+
+pub returns : goal.returns
+returns c = search scan-all

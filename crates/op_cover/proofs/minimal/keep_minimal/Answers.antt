@@ -1,0 +1,49 @@
+-- `minimal::keep_minimal` meets its contract: the bytes passed are cleared or right, the others as they were
+-- (`OnlyMinimal`).
+use Prim.Native.Nat.{◌-◌, ◌^◌, ◌≤◌, ◌<◌}
+use mathlib.Core.Path.{◌≡◌, refl, sym, ◌∙◌}
+use mathlib.Core.Logic.{⊎_elim}
+use native.Mathlib.Omega.{arith}
+use lib.ListN.{length, length-set}
+use borrow.Author.Rules.{rules}
+use Rattle.theory_cover.specs.Entries.{OnlyMinimal}
+use Rattle.op_cover.proofs.Dropping.{minimal-none, minimal-unsound, minimal-stays, minimal-cleared}
+use Rattle.op_cover.proofs.minimal.keep_minimal.Goals as goal
+
+pub loop-k-init : goal.loop-k-init
+loop-k-init c = record { within = omega arith; fewer = omega arith; same_length = refl; minimal = minimal-none _ _ }
+
+pub loop-k-preserved : goal.loop-k-preserved
+loop-k-preserved c =
+    let loop = c.loop-k in
+    let start = c in
+    let l : loop.k < length loop.sound = omega (arith, loop.invariant.same_length, start.requires.1, start.requires.2) in
+    let m : loop.k < start.args.size = c.loop-k-test.true in
+    ⊎_elim
+    (λ w.
+    rw (w.4, w.5) (record {
+      within = omega arith;
+      fewer = omega (arith, loop.invariant.fewer);
+      same_length = loop.invariant.same_length;
+      minimal = minimal-stays loop.invariant.minimal w.0.taken (sym w.2.ensures ∙ w.3.taken);
+    }))
+    (⊎_elim
+    (λ w.
+    rw (w.4, w.5) (record {
+      within = omega arith;
+      fewer = omega (arith, loop.invariant.fewer);
+      same_length = simp length-set loop.invariant.same_length;
+      minimal = minimal-cleared loop.invariant.minimal l (sym w.2.ensures ∙ w.3.left);
+    }))
+    (λ w. rw (w.1, w.2) (record {
+      within = omega arith;
+      fewer = omega (arith, loop.invariant.fewer);
+      same_length = loop.invariant.same_length;
+      minimal = minimal-unsound loop.invariant.minimal w.0.left;
+    })))
+    c.if-sound-k-eq1.branch
+
+pub returns : goal.returns
+returns c =
+    let e : c.loop-k.k ≡ 3 ^ c.args.n = omega arith in
+    rw e at c.loop-k.invariant.minimal

@@ -1,0 +1,19 @@
+-- `op_sheet::inputs::zero_bit` meets its contract.
+use mathlib.Core.Path.{refl}
+use native.Mathlib.Omega.{arith}
+use borrow.Author.Rules.{rules}
+use borrow.Author.Tests.{eq-eqb, ne_eqb}
+use Rattle.netlist.specs.Values.{value_of}
+use Rattle.netlist.specs.Assignments.{bit}
+use Rattle.op_sheet.specs.Records.{is_zero}
+use Rattle.netlist.specs.Sheet.{input_byte}
+use Rattle.op_sheet.proofs.SideLaws.{zero_of}
+use Rattle.op_sheet.proofs.inputs.zero_bit.Goals as goal
+
+pub returns-then-fixed-i-eq1 : goal.returns-then-fixed-i-eq1
+unfolding input_byte bit
+returns-then-fixed-i-eq1 c = rw (eq-eqb _ 1 c.if-fixed-i-eq1.true) (zero_of _ (omega arith))
+
+pub returns-else-fixed-i-eq1 : goal.returns-else-fixed-i-eq1
+unfolding input_byte bit is_zero value_of
+returns-else-fixed-i-eq1 c = rw (ne_eqb _ 1 c.if-fixed-i-eq1.false) refl

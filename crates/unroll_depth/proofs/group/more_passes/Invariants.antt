@@ -1,0 +1,16 @@
+-- `unroll_depth::group::more_passes` meets its contract: each turn makes a pass that some setting needs.
+use mathlib.Core.Path.{refl}
+use Prim.Native.Nat.{◌+◌, ◌-◌, ◌≤◌}
+use native.Mathlib.Omega.{arith}
+use Rattle.netlist.specs.Limits.{max_copies}
+use Rattle.unroll_depth.proofs.GroupLaws.{group-there, group-nodes, group-few, passed-proper}
+use Rattle.unroll_depth.proofs.PassLaws.{batch-few, size-some, sofar-small, Passing, passing-first}
+use Rattle.unroll_depth.proofs.PassLaws.{passing-more, passing-done}
+use Rattle.unroll_depth.proofs.group.more_passes.Given as goal
+
+abbrev pub invariant-loop-total : goal.invariant-loop-total
+invariant-loop-total l =
+    Passing l.words l.members l.turn l.initial.passes l.initial.total l.initial.lanes l.lanes l.passes l.total
+
+abbrev pub decreases-loop-total : goal.decreases-loop-total
+decreases-loop-total l = max_copies + 1 - l.total

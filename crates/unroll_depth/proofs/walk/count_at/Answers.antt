@@ -1,0 +1,171 @@
+-- `unroll_depth::walk::count_at` meets its contract: as many passes as gates are enough, and a group that has fewer is
+-- counted.
+use mathlib.Core.Path.{refl, ◌∙◌}
+use Prim.Native.Nat.{◌+◌, ◌≤◌, ◌<◌}
+use native.Mathlib.Omega.{arith}
+use lib.ListN.{length, get_or}
+use Rattle.netlist.specs.Limits.{max_gates, max_copies}
+use Rattle.netlist.specs.StoredBlock.{decode}
+use Rattle.netlist.specs.Groups.{groups}
+use Rattle.theory_reach.proofs.Order.{groups-not-empty}
+use Rattle.theory_unrolling.specs.Copies.{group_at}
+use Rattle.unroll_depth.specs.declared.passes.Turn.{Turn}
+use Rattle.unroll_depth.specs.declared.passes.Counted.{Counted}
+use Rattle.unroll_depth.specs.Passes.{GroupCounted, GroupReady}
+use Rattle.unroll_depth.proofs.PassLaws.{sofar-small, size-some}
+use Rattle.unroll_depth.proofs.CountLaws.{group-size, starts-few, turn-group, group-ready, counting-known}
+use Rattle.unroll_depth.proofs.CountLaws.{counting-next, rest-none, rest-one}
+use Rattle.unroll_depth.proofs.walk.count_at.Goals.{After-count_group-counted, Start}
+use Rattle.unroll_depth.proofs.walk.count_at.Goals as goal
+
+abbrev turn : (s : Start) → Turn
+turn s =
+    let starts = s.args.starts.now in
+    record {
+      from = get_or starts s.args.at.group 0;
+      end = get_or starts (s.args.at.group + 1) 0;
+      base = s.args.at.base;
+    }
+
+abbrev so_far : (s : Start) → Counted
+so_far s = record { passes = get_or s.args.passes.now s.args.at.group 0; total = s.args.at.total }
+
+-- the group can be counted, and its numbers fit
+ready : (s : Start)
+    → GroupReady s.args.words.now s.args.graph.now s.args.members.now ((let turn_here : (Turn) = let starts = s.args.starts.now in
+    record {
+      from = get_or starts s.args.at.group 0;
+      end = get_or starts (s.args.at.group + 1) 0;
+      base = s.args.at.base;
+    } in turn_here)) ((let so_far_here : (Counted) = record { passes = get_or s.args.passes.now s.args.at.group 0; total = s.args.at.total } in so_far_here))
+    s.args.lanes.now s.args.kept.now
+ready s =
+    let p = s.requires in
+    group-ready p.held p.listing s.args.at.group p.there ((let turn_here : (Turn) = let starts = s.args.starts.now in
+    record {
+      from = get_or starts s.args.at.group 0;
+      end = get_or starts (s.args.at.group + 1) 0;
+      base = s.args.at.base;
+    } in turn_here)) refl refl refl p.counting refl
+    p.fits p.room
+
+number : (s : Start) → s.args.at.group < max_gates
+number s = omega (arith, s.requires.there, s.requires.listing.few_groups)
+
+few : (s : Start)
+    → (get_or s.args.starts.now s.args.at.group 0 ≤ max_gates)
+    × (get_or s.args.starts.now (s.args.at.group + 1) 0 ≤ max_gates)
+few s = starts-few s.requires.listing s.args.at.group s.requires.there
+
+small : (s : Start) → get_or s.args.passes.now s.args.at.group 0 ≤ max_copies + max_copies
+small s = let r = (let ready_here : (GroupReady s.args.words.now s.args.graph.now s.args.members.now ((let turn_here : (Turn) = let starts = s.args.starts.now in
+    record {
+      from = get_or starts s.args.at.group 0;
+      end = get_or starts (s.args.at.group + 1) 0;
+      base = s.args.at.base;
+    } in turn_here)) ((let so_far_here : (Counted) = record { passes = get_or s.args.passes.now s.args.at.group 0; total = s.args.at.total } in so_far_here))
+    s.args.lanes.now s.args.kept.now) = let p = s.requires in
+    group-ready p.held p.listing s.args.at.group p.there ((let turn_here : (Turn) = let starts = s.args.starts.now in
+    record {
+      from = get_or starts s.args.at.group 0;
+      end = get_or starts (s.args.at.group + 1) 0;
+      base = s.args.at.base;
+    } in turn_here)) refl refl refl p.counting refl
+    p.fits p.room in ready_here) in sofar-small (size-some r.batch) r.so_far
+
+counted : (c : After-count_group-counted) → let s = c in let b = decode s.args.words.now in
+    GroupCounted b (get_or s.args.words.now 0 0) s.args.at.base (group_at b s.args.at.group) ((let so_far_here : (Counted) = record { passes = get_or c.args.passes.now c.args.at.group 0; total = c.args.at.total } in so_far_here))
+    c.count_group-counted.result
+counted c =
+    let s = c in
+    let p = s.requires in
+    let same = turn-group p.held p.listing s.args.at.group p.there ((let turn_here : (Turn) = let starts = c.args.starts.now in
+    record {
+      from = get_or starts c.args.at.group 0;
+      end = get_or starts (c.args.at.group + 1) 0;
+      base = c.args.at.base;
+    } in turn_here)) refl refl refl in
+    rw same at c.count_group-counted.ensures.counted
+
+pub returns-then-end-from : goal.returns-then-end-from
+returns-then-end-from c =
+    let s = c in
+    let a = s.args in
+    let b = decode a.words.now in
+    let size = group-size s.requires.listing a.at.group s.requires.there in
+    let all : length (group_at b a.at.group) ≤ get_or a.passes.now a.at.group 0 =
+    omega (arith, size, c.if-end-from.true) in
+    record {
+      counting = counting-known s.requires.counting s.requires.there all;
+      same = rest-none (length (groups b)) a.passes.now;
+      lanes = refl;
+      room = s.requires.room;
+    }
+
+pub overflow_cast-passes : goal.overflow_cast-passes
+overflow_cast-passes c =
+    let d = c in
+    let s = d in
+    omega (
+      arith,
+      sofar-small (groups-not-empty (decode s.args.words.now) s.args.at.group s.requires.there)
+          (counted (goal.at.overflow_cast-passes c).After-count_group-counted).so_far,
+    )
+
+pub returns : goal.returns
+returns c =
+    let d = c in
+    let s = d in
+    let p = s.requires in
+    let few : length (groups (decode s.args.words.now)) ≤ length s.args.passes.now =
+    omega (arith, p.long, p.listing.few_groups) in
+    record {
+      counting = counting-next p.counting p.there few p.fits (counted (goal.at.returns c).After-count_group-counted);
+      same =
+          rest-one (length (groups (decode s.args.words.now))) s.args.passes.now s.args.at.group _
+          p.there;
+      lanes = d.count_group-counted.ensures.kept.0;
+      room = d.count_group-counted.ensures.kept.1 ∙ p.room;
+    }
+
+pub offset_bounds-starts-g : goal.offset_bounds-starts-g
+offset_bounds-starts-g c = omega (arith, number (goal.at.offset_bounds-starts-g c).Start)
+
+pub bounds-starts-g : goal.bounds-starts-g
+bounds-starts-g c = omega (arith, number (goal.at.bounds-starts-g c).Start)
+
+pub overflow_cast-from : goal.overflow_cast-from
+overflow_cast-from c = omega (arith, few (goal.at.overflow_cast-from c).Start)
+
+pub overflow_add-end : goal.overflow_add-end
+overflow_add-end c = omega (arith, number (goal.at.overflow_add-end c).Start)
+
+pub offset_bounds-starts-g-2 : goal.offset_bounds-starts-g-2
+offset_bounds-starts-g-2 c = omega (arith, number (goal.at.offset_bounds-starts-g-2 c).Start)
+
+pub bounds-starts-g-2 : goal.bounds-starts-g-2
+bounds-starts-g-2 c = omega (arith, number (goal.at.bounds-starts-g-2 c).Start)
+
+pub overflow_cast-end : goal.overflow_cast-end
+overflow_cast-end c = omega (arith, few (goal.at.overflow_cast-end c).Start)
+
+pub offset_bounds-passes-g : goal.offset_bounds-passes-g
+offset_bounds-passes-g c = omega (arith, number (goal.at.offset_bounds-passes-g c).Start)
+
+pub bounds-passes-g : goal.bounds-passes-g
+bounds-passes-g c = omega (arith, number (goal.at.bounds-passes-g c).Start)
+
+pub overflow_cast-made : goal.overflow_cast-made
+overflow_cast-made c = omega (arith, small (goal.at.overflow_cast-made c).Start)
+
+pub overflow_add-from : goal.overflow_add-from
+overflow_add-from c = omega (arith, small (goal.at.overflow_add-from c).Start, few (goal.at.overflow_add-from c).Start)
+
+pub count_group-counted-requires : goal.count_group-counted-requires
+count_group-counted-requires c = ready (goal.at.count_group-counted-requires c).Start
+
+pub offset_bounds-passes-g-2 : goal.offset_bounds-passes-g-2
+offset_bounds-passes-g-2 c = omega (arith, number (goal.at.offset_bounds-passes-g-2 c).Start)
+
+pub bounds-passes-g-2 : goal.bounds-passes-g-2
+bounds-passes-g-2 c = omega (arith, number (goal.at.bounds-passes-g-2 c).Start)
