@@ -2,6 +2,7 @@
 // there is read and answered at once, so that it serves a terminal and a pipe. A proved loop has to end, and nothing
 // says that the input does: the loop over reads counts down from a number that no run uses up.
 #![tactic(auto)]
+
 ghost use Rattle.std.specs.Prelude.{◌≤◌, length};
 ghost use Rattle.bench_session.specs.Session.{Unprepared, SessionReady, SessionRoom};
 

@@ -1,6 +1,7 @@
 // The program `unloop` (SPECIFICATION 8): reads a text on standard input and writes the rendered text, or the refusal's
 // line, which `convert` makes. One byte more than the longest text is read, so that a longer one is refused.
 #![tactic(auto)]
+
 use words_layout::limits::{MAX_TEXT, WRITTEN_BYTES};
 
 mod convert;

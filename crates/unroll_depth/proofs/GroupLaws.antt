@@ -150,7 +150,7 @@ module _ {b : Block} {n : ℕ} where
         value s k = rw is (evaluated_pair-lane h.inputs_proper h.gates_proper s k (gate_of b j) legal)
 
     -- several gates
-    pub evaluated-stepped : {js w after : List ℕ} {changed : Bool} → ((j : ℕ) → member j js ≡ true → j < gate_count b)
+    pub evaluated-stepped : {w js after : List ℕ} {changed : Bool} → ((j : ℕ) → member j js ≡ true → j < gate_count b)
         → Held b n w
         → GatesEvaluated graph w js after changed → Stepped b n js w after
     evaluated-stepped there h no_gate = stepped-none h

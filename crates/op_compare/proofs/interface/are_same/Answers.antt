@@ -57,7 +57,7 @@ pub overflow_add-other : goal.overflow_add-other
 overflow_add-other c = omega (arith, near (goal.at.overflow_add-other c).In-loop-i)
 
 pub is_same-requires-clause-at_le_max_word : goal.is_same-requires-clause-at_le_max_word
-is_same-requires-clause-at_le_max_word c = near (goal.at.is_same-requires-clause-at_le_max_word c).In-loop-i
+is_same-requires-clause-at_le_max_word c = (near (goal.at.is_same-requires-clause-at_le_max_word c).In-loop-i).0
 
 pub is_same-requires-clause-other_le_max_word : goal.is_same-requires-clause-other_le_max_word
-is_same-requires-clause-other_le_max_word c = near (goal.at.is_same-requires-clause-other_le_max_word c).In-loop-i
+is_same-requires-clause-other_le_max_word c = (near (goal.at.is_same-requires-clause-other_le_max_word c).In-loop-i).1

@@ -15,6 +15,7 @@ use Rattle.op_cover.proofs.Rows.{row_below, row-end}
 use Rattle.op_cover.proofs.Listing.{reached-skip, reached-add, one_more, words-skip, words-add}
 use borrow.Author.Rules.{rules}
 use Rattle.op_cover.proofs.entries.list_row.Goals.{Then-is_left}
+use Rattle.op_cover.proofs.entries.list_row.Goals.{then-is_left, else-is_left}
 use Rattle.op_cover.proofs.entries.list_row.Goals as goal
 
 below : (c : Then-is_left) → c.loop-ones.ones < 2 ^ c.args.n
@@ -38,7 +39,7 @@ loop-ones-init c =
       within = omega arith;
       ends = shifted start.requires.row.0.weighed.few;
       reached = rw z start.requires.row.1;
-      shape_of-out = refl;
+      same_length = refl;
       words = λ first v. rw z v;
     }
 
@@ -71,29 +72,29 @@ loop-ones-preserved c =
     let l : loop.ones < 2 ^ start.args.n =
     omega (arith, loop.invariant.ends, c.loop-ones-test.true) in
     let x = c.next_ones-ones.ensures.1 in
-    ⊎_elim
-    (λ t.
-    let e = sym entry ∙ t.0.taken in
-    rw (t.1, t.2) (record {
+    elim c.if-is_left.branch [
+      | then-is_left t ↦
+    let e = sym entry ∙ t.if-is_left.true in
+    rw (t.out-is, t.count-is) (record {
       within = c.next_ones-ones.ensures.0;
       ends = loop.invariant.ends;
       reached = reached-add loop.invariant.reached x e;
-      shape_of-out = simp length-set loop.invariant.same_length;
+      same_length = simp length-set loop.invariant.same_length;
       words = λ first v.
           words-add loop.invariant.reached x e (sym (digits_div start.args.first.fixed l))
           (sym (digits_mod start.args.first.fixed l))
           (omega (arith, loop.invariant.same_length, start.requires.n_in_bounds)) (loop.invariant.words first v);
-    }))
-    (λ t.
-    let e = sym entry ∙ t.0.left in
-    rw (t.1, t.2) (record {
+    })
+      | else-is_left t ↦
+    let e = sym entry ∙ t.if-is_left.false in
+    rw (t.out-is, t.count-is) (record {
       within = c.next_ones-ones.ensures.0;
       ends = loop.invariant.ends;
       reached = reached-skip loop.invariant.reached x e;
-      shape_of-out = loop.invariant.same_length;
+      same_length = loop.invariant.same_length;
       words = λ first v. words-skip loop.invariant.reached x e (loop.invariant.words first v);
-    }))
-    c.if-is_left.branch
+    })
+    ]
 
 pub shape_of-out : goal.shape_of-out
 shape_of-out c = c.loop-ones.invariant.same_length

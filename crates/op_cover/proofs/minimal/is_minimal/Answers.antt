@@ -10,6 +10,7 @@ use Rattle.op_cover.proofs.Bounds.{three-fits}
 use Rattle.op_cover.proofs.Dropping.{Scanned, scan-start, freed-lt, scan-next, needed-free, needed-fixed}
 use Rattle.op_cover.proofs.Dropping.{not-minimal, scan-all}
 use Rattle.op_cover.proofs.minimal.is_minimal.Goals.{Then-digit-ne2}
+use Rattle.op_cover.proofs.minimal.is_minimal.Goals.{then-digit-ne2+else-sound-k-eq1, else-digit-ne2}
 use Rattle.op_cover.proofs.minimal.is_minimal.Goals as goal
 
 -- with the input of this turn free, the number is one of the table
@@ -36,8 +37,10 @@ pub loop-i-preserved : goal.loop-i-preserved
 loop-i-preserved c =
     let s = c.loop-i.invariant in
     let l = c.loop-i-test.true in
-    scan-next s l (⊎_elim (λ w. needed-fixed s l w.0.taken w.2.left) (λ w. needed-free s l w.left)
-    c.if-digit-ne2.branch)
+    scan-next s l (elim c.if-digit-ne2.branch [
+      | then-digit-ne2+else-sound-k-eq1 w ↦ needed-fixed s l w.if-digit-ne2.true w.if-sound-k-eq1.false
+      | else-digit-ne2 w ↦ needed-free s l w.if-digit-ne2.false
+    ])
 
 pub loop-i-init : goal.loop-i-init
 loop-i-init c = search scan-start

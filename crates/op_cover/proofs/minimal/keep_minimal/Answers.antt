@@ -8,6 +8,7 @@ use lib.ListN.{length, length-set}
 use borrow.Author.Rules.{rules}
 use Rattle.theory_cover.specs.Entries.{OnlyMinimal}
 use Rattle.op_cover.proofs.Dropping.{minimal-none, minimal-unsound, minimal-stays, minimal-cleared}
+use Rattle.op_cover.proofs.minimal.keep_minimal.Goals.{then-sound-k-eq1+then-is_minimal, then-sound-k-eq1+else-is_minimal, else-sound-k-eq1}
 use Rattle.op_cover.proofs.minimal.keep_minimal.Goals as goal
 
 pub loop-k-init : goal.loop-k-init
@@ -19,29 +20,27 @@ loop-k-preserved c =
     let start = c in
     let l : loop.k < length loop.sound = omega (arith, loop.invariant.same_length, start.requires.1, start.requires.2) in
     let m : loop.k < start.args.size = c.loop-k-test.true in
-    ⊎_elim
-    (λ w.
-    rw (w.4, w.5) (record {
+    elim c.if-sound-k-eq1.branch [
+      | then-sound-k-eq1+then-is_minimal w ↦ rw (w.sound-is, w.count-is) (record {
       within = omega arith;
       fewer = omega (arith, loop.invariant.fewer);
       same_length = loop.invariant.same_length;
-      minimal = minimal-stays loop.invariant.minimal w.0.taken (sym w.2.ensures ∙ w.3.taken);
-    }))
-    (⊎_elim
-    (λ w.
-    rw (w.4, w.5) (record {
+      minimal = minimal-stays loop.invariant.minimal w.if-sound-k-eq1.true
+          (sym w.is_minimal.ensures ∙ w.if-is_minimal.true);
+    })
+      | then-sound-k-eq1+else-is_minimal w ↦ rw (w.sound-is, w.count-is) (record {
       within = omega arith;
       fewer = omega (arith, loop.invariant.fewer);
       same_length = simp length-set loop.invariant.same_length;
-      minimal = minimal-cleared loop.invariant.minimal l (sym w.2.ensures ∙ w.3.left);
-    }))
-    (λ w. rw (w.1, w.2) (record {
+      minimal = minimal-cleared loop.invariant.minimal l (sym w.is_minimal.ensures ∙ w.if-is_minimal.false);
+    })
+      | else-sound-k-eq1 w ↦ rw (w.sound-is, w.count-is) (record {
       within = omega arith;
       fewer = omega (arith, loop.invariant.fewer);
       same_length = loop.invariant.same_length;
-      minimal = minimal-unsound loop.invariant.minimal w.0.left;
-    })))
-    c.if-sound-k-eq1.branch
+      minimal = minimal-unsound loop.invariant.minimal w.if-sound-k-eq1.false;
+    })
+    ]
 
 pub returns : goal.returns
 returns c =

@@ -11,7 +11,7 @@ use Rattle.op_cover.proofs.table.write_flags.Goals as goal
 
 pub loop-s-init : goal.loop-s-init
 unfolding flagged
-loop-s-init c = record { within = omega arith; flags_are = refl; shape_of-flags = refl }
+loop-s-init c = record { within = omega arith; flags_are = refl; same_length = refl }
 
 pub bounds-flags-base : goal.bounds-flags-base
 bounds-flags-base c = let s = c in omega (arith, s.requires.2, c.loop-s.invariant.same_length)
@@ -23,7 +23,7 @@ loop-s-preserved c =
     record {
       within = omega arith;
       flags_are = rw (add-one l.s, l.invariant.flags_are);
-      shape_of-flags = length-set l.flags (c.args.base + l.s) _ ∙ l.invariant.same_length;
+      same_length = length-set l.flags (c.args.base + l.s) _ ∙ l.invariant.same_length;
     }
 
 pub shape_of-flags : goal.shape_of-flags

@@ -10,6 +10,7 @@ use borrow.Author.Rules.{rules}
 use Rattle.op_cover.proofs.Bounds.{three-fits}
 use Rattle.op_cover.proofs.Joining.{byte_one, byte-none, Joining, setting-below, joining-start}
 use Rattle.op_cover.proofs.Joining.{joining-in, joining-room, joining-next, joining-end}
+use Rattle.op_cover.proofs.tables.add_setting.Goals.{then-settled-setting-eq1, else-settled-setting-eq1}
 use Rattle.op_cover.proofs.tables.add_setting.Goals as goal
 
 pub bounds-sound-k : goal.bounds-sound-k
@@ -31,9 +32,11 @@ loop-i-init c =
     let settled = start.args.settled.now in
     let s = start.args.setting in
     let v : c.if-settled-setting-eq1.sound ≡ byte_of (settled_by settled s) =
-    ⊎_elim (λ w. w.1 ∙ sym (byte_one settled s w.0.taken)) (λ w. w.1 ∙ sym (byte-none settled s w.0.left))
-    c.if-settled-setting-eq1.branch in
-    record { shape_of-sound = refl; joining = joining-start start.requires.0 start.requires.1 v }
+    elim c.if-settled-setting-eq1.branch [
+      | then-settled-setting-eq1 w ↦ w.sound-is ∙ sym (byte_one settled s w.if-settled-setting-eq1.true)
+      | else-settled-setting-eq1 w ↦ w.sound-is ∙ sym (byte-none settled s w.if-settled-setting-eq1.false)
+    ] in
+    record { same_length = refl; joining = joining-start start.requires.0 start.requires.1 v }
 
 pub join_halves-requires : goal.join_halves-requires
 join_halves-requires c =
@@ -71,7 +74,7 @@ loop-i-preserved c =
     let loop = head.loop-i in
     let joined = c.join_halves.ensures in
     record {
-      shape_of-sound = joined.same_length ∙ loop.invariant.same_length;
+      same_length = joined.same_length ∙ loop.invariant.same_length;
       joining = joining-next loop.invariant.joining turn.loop-i-test.true joined;
     }
 

@@ -38,7 +38,7 @@ loop-mask-init c =
       some = omega arith;
       within = omega (arith, pos);
       counts = shifted c.requires.0;
-      shape_of-weights = refl;
+      same_length = refl;
       right = λ m l. weights-first c.args.weights.now c.args.n m (omega (arith, pos, c.requires.1)) l;
     }
 
@@ -50,7 +50,7 @@ loop-mask-preserved c =
       some = omega arith;
       within = omega (arith, l, loop.invariant.counts);
       counts = loop.invariant.counts;
-      shape_of-weights = simp length-set (simp length-set at loop.invariant.same_length);
+      same_length = simp length-set (simp length-set at loop.invariant.same_length);
       right =
           weights-next loop.weights c.args.n loop.mask loop.invariant.right
           (omega (arith, loop.invariant.some)) (omega (arith, l, loop.invariant.counts)) (facts (goal.at.loop-mask-preserved c).In-loop-mask).0;

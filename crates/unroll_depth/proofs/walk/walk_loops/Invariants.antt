@@ -24,7 +24,7 @@ use Rattle.unroll_depth.proofs.walk.walk_loops.Given as goal
 
 -- the batches before `base` are walked
 pub record Walking (words : List ℕ) (count : ℕ) (passes₀ passes lanes kept : List ℕ) (found : Found)
-    pub (base : ℕ) : Type 0 where
+    (base : ℕ) : Type 0 where
   pub place : Place (get_or words 0 0) base
   pub walked : WalkedBatch (decode words) count base passes₀ passes found
   pub lanes_long : length lanes ≡ lane_size

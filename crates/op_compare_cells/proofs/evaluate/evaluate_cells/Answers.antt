@@ -1,0 +1,44 @@
+-- `op_compare_cells::evaluate::evaluate_cells` meets its contract: with the inputs' words in place, each cell reads
+-- only places that have theirs.
+use mathlib.Core.Path.{◌≡◌}
+use Prim.Native.Nat.{◌-◌, ◌≤◌}
+use native.Mathlib.Omega.{arith}
+use borrow.Author.Rules.{rules}
+use Rattle.op_compare_cells.specs.Table.{count_in, table_cells}
+use Rattle.op_compare_cells.specs.CellLanes.{Evaluated}
+use Rattle.op_compare_cells.proofs.Evaluating.{places-there, evaluated-more}
+use Rattle.op_compare_cells.proofs.evaluate.evaluate_cells.Goals as goal
+
+pub loop-j-init : goal.loop-j-init
+loop-j-init c = (omega arith, c.put_inputs.ensures.ready _)
+
+pub overflow_cast-count : goal.overflow_cast-count
+overflow_cast-count c = let s = c in omega (arith, s.requires.n_le_max_inputs.2.few)
+
+pub cell_word_at-requires : goal.cell_word_at-requires
+cell_word_at-requires c =
+    let turn = c in
+    let s = turn in
+    let few = s.requires.n_le_max_inputs.2.few in (
+      omega arith,
+      places-there s.args.n s.args.base s.args.table.now s.requires.n_le_max_inputs.2 turn.loop-j.j
+          c.loop-j-test.true,
+    )
+
+pub loop-j-preserved : goal.loop-j-preserved
+loop-j-preserved c =
+    let test = c in
+    let turn = test in
+    let s = turn in
+    let inputs = turn in (
+      omega arith,
+      evaluated-more s.args.n s.args.base s.args.table.now s.requires.n_le_max_inputs.2 turn.loop-j.j
+          test.loop-j-test.true
+          turn.loop-j.invariant.1 inputs.used_lanes-used.ensures c.cell_word_at.ensures,
+    )
+
+pub returns : goal.returns
+returns c =
+    let l = c in
+    let all : l.loop-j.j ≡ count_in l.args.table.now = omega arith in
+    rw all at l.loop-j.invariant.1

@@ -1,0 +1,42 @@
+-- `op_compare_cells::table::decode_cells` meets its contract: word after word is made.
+use mathlib.Core.Path.{◌≡◌, refl}
+use Prim.Native.Nat.{◌-◌, ◌≤◌}
+use native.Mathlib.Omega.{arith}
+use borrow.Author.Rules.{rules}
+use lib.ListN.{length}
+use Rattle.netlist.specs.Cells.{cell_count}
+use Rattle.op_compare_cells.specs.Table.{Tabled}
+use Rattle.op_compare_cells.proofs.Decoding.{LegalParts, legal-parts, tabled-none, tabled-more, tabled-count}
+use Rattle.op_compare_cells.proofs.table.decode_cells.Goals.{At-loop-p}
+use Rattle.op_compare_cells.proofs.table.decode_cells.Goals as goal
+
+legal : (c : At-loop-p) → let a = c.args in LegalParts a.n a.cells.now
+legal c = let s = c in legal-parts s.args.n s.args.cells.now s.requires.0
+
+pub loop-p-init : goal.loop-p-init
+loop-p-init c =
+    let s = c in
+    (omega arith, tabled-none (legal-parts s.args.n s.args.cells.now s.requires.0) s.requires.1)
+
+pub offset_bounds-table-p : goal.offset_bounds-table-p
+offset_bounds-table-p c = let few = legal (goal.at.offset_bounds-table-p c).At-loop-p in omega arith
+
+pub bounds-table-p : goal.bounds-table-p
+bounds-table-p c = let few = legal (goal.at.bounds-table-p c).At-loop-p in omega arith
+
+pub loop-p-preserved : goal.loop-p-preserved
+loop-p-preserved c =
+    let turn = c in
+    (omega arith, tabled-more (legal (goal.at.loop-p-preserved c).At-loop-p) turn.loop-p.invariant.1 c.loop-p-test.true c.table_word.ensures)
+
+pub overflow_cast-table : goal.overflow_cast-table
+overflow_cast-table c = let few = legal (goal.at.overflow_cast-table c).At-loop-p in omega arith
+
+pub returns : goal.returns
+unfolding cell_count
+returns c =
+    let l = c in
+    let cells = l.args.cells.now in
+    let all : l.loop-p.p ≡ length cells = omega arith in
+    tabled-count (legal (goal.at.returns c).At-loop-p) (rw all at l.loop-p.invariant.1) refl
+    (λ i. omega (arith, l.shared_slice_known-1.given i))
