@@ -1,8 +1,7 @@
 -- A turn takes one record, calls `advance` and `answer` with it, and puts what they leave in its place: what the turns
 -- come to is in crates/op_sheet/proofs/Walked.antt.
-use Rattle.std.proofs.Common.{ℕ, ◌≡◌, ◌+◌, ◌<◌, ◌≤◌, List, length, refl, sym, arith, add-one, ◌*◌}
-use Rattle.netlist.specs.declared.Record.{Record}
-use Rattle.op_sheet.proofs.Walked.{before, before-none, batch-first, turn-whole, turns_fit, turn-place, turn-record}
+use Rattle.std.proofs.Common.{◌≡◌, ◌<◌, length, sym, arith, add-one, ◌*◌}
+use Rattle.op_sheet.proofs.Walked.{before-none, batch-first, turn-whole, turns_fit, turn-place, turn-record}
 use Rattle.op_sheet.proofs.Walked.{turn-answers, turn-batch, turns-all}
 use Rattle.exports.proofs.unloop_sheet.Invariants.{zeros}
 use Rattle.exports.proofs.unloop_sheet.Goals as goal

@@ -1,7 +1,6 @@
 -- Before turn t the records are those of `before` (crates/op_sheet/proofs/Walked.antt), and the batch has what was read.
-use Rattle.std.proofs.Common.{ℕ, ◌≡◌, ◌≤◌, ◌-◌}
+use Rattle.std.proofs.Common.{◌≡◌, ◌≤◌, ◌-◌}
 use Rattle.netlist.specs.declared.Record.{Record}
-use Rattle.op_sheet.specs.declared.turns.Batch.{Batch}
 use Rattle.op_sheet.proofs.Walked.{before, BatchAt}
 use Rattle.exports.proofs.unloop_sheet.Given as goal
 

@@ -5,13 +5,11 @@ use Rattle.bench_session.proofs.line_part.answer.Goals as goal
 
 pub returns-in-Refused : goal.returns-in-Refused
 returns-in-Refused c =
-    let after-why = c in
     let a = c in
     let start = c in
     let x = start.args in
-    let found = after-why.why-1.given in
     line_refused x.words.now x.line.now start.requires.0 x.out.now _ start.requires.2 _
-    a.answer_line.ensures found.0.0 _ _ found.1
+    a.answer_line.ensures c.in-Refused.why _ _ c.in-Refused.is
     c.tell.ensures
 
 pub returns-in-Done : goal.returns-in-Done
@@ -19,6 +17,5 @@ returns-in-Done c =
     let a = c in
     let start = c in
     let x = start.args in
-    let found = c.count-1.given in
     line-done x.words.now x.line.now start.requires.0 x.out.now _ start.requires.2 _ a.answer_line.ensures
-    found.0.0 found.0.1.0 found.1
+    c.in-Done.count _ c.in-Done.is

@@ -1,5 +1,5 @@
 -- `bench_session::line_part::end_line` meets its contract: a line that is not empty is answered. Assumes nothing.
-use Rattle.bench_session.proofs.LineSteps.{no-last-line, last_line, nonzero}
+use Rattle.bench_session.proofs.LineSteps.{no-last-line, last-line, nonzero}
 use native.Mathlib.Omega.{arith}
 use lib.ListN.{take}
 use lib.Seq.{length-take-le}
@@ -28,4 +28,4 @@ returns c =
     let some = nonzero start.args.held past-if1.if-held-eq0.false in
     let kept = length-take-le start.args.held start.args.line.now
     (omega (arith, start.requires.few, start.requires.line_room)) in
-    last_line _ _ _ _ (omega (arith, kept, some)) c.answer.ensures
+    last-line _ _ _ _ (omega (arith, kept, some)) c.answer.ensures

@@ -10,4 +10,4 @@ pub returns : goal.returns
 returns c =
     let o = c in
     let start = c in
-    rw (← opened-ends (read_text (take start.args.held start.args.text.now))) (o.«open».ensures []).output
+    rw (← opened-ends (read_text (take start.args.held start.args.text.now))) (o.open-fed.ensures []).output
