@@ -1,66 +1,47 @@
 # Sourced by building.sh: runs rt and tells on standard error how far it is, on a terminal by one line that is rewritten each second,
-# elsewhere by a line for each quarter of the crates. Goes by the lines `rt: NAME proved ..` that rt writes; all it writes is kept in logs.
+# elsewhere by a line for each quarter of the crates. Goes by the lines `rt: chose --jobs N for NAME` with which rt begins a crate; all it writes
+# is kept in a log.
 source "$root/bin/machine.sh"
-source "$root/bin/proving.sh"
 
-# The crates that rt proves for these names, in its order: level by level, a crate above all that it is built on (crates.txt).
+# The crates that rt proves for these names, in its order: a crate behind all that it is built on (crates.txt).
 planned() {
   awk -v wanted="$*" '
-    function level(name,    parts, count, part, most, other) {
-      if (name in found) return found[name]
+    function take(name,    parts, count, part) {
+      if (name in taken) return
+      taken[name] = 1
       count = split(needs[name], parts, " ")
-      most = 0
-      for (part = 1; part <= count; part++) if (parts[part] in needs) {
-        other = level(parts[part])
-        if (other >= most) most = other + 1
-      }
-      if (most > top) top = most
-      order[++visited] = name
-      return found[name] = most
+      for (part = 1; part <= count; part++) if (parts[part] in needs) take(parts[part])
+      print name
     }
     { sub(/#.*/, "") }
-    split($0, line, ":") == 2 { needs[line[1]] = line[2] }
+    split($0, line, ":") == 2 { split(line[1], words, " "); needs[words[1]] = line[2] }
     END {
       count = split(wanted, names, " ")
-      for (one = 1; one <= count; one++) level(names[one])
-      for (at = 0; at <= top; at++) for (one = 1; one <= visited; one++) if (found[order[one]] == at) print order[one]
+      for (one = 1; one <= count; one++) take(names[one])
     }' "$root/crates.txt"
 }
 
-# How far it is, of run_rt's variables: the crate at work, or each quarter once.
+# How far it is, of run_rt's variables: the crate at work, or each quarter once. What rt finds proved it does not name.
 tell_progress() {
-  local told time at
-  told=$(cat "$log" "$log".* 2>/dev/null | grep -oE '^rt: [A-Za-z0-9_]+ (proved \(|NOT PROVED)' | sort -u | wc -l) || true
+  local begun at told=0 time
+  begun=$(sed -n 's/^rt: chose --jobs [0-9]* for //p' "$log" 2>/dev/null | tail -n 1)
+  for at in "${!crates[@]}"; do if [[ ${crates[at]} == "$begun" ]]; then told=$at; fi; done
   time=$(as_time $((SECONDS - began)))
   if [[ -t 2 ]]; then
-    at=$((told < total ? told : total - 1))
-    printf '\r%-78s' "$command: crate $((at + 1)) of $total, ${crates[at]} ($time)" >&2
-  elif ((told < total && 4 * told / total > quarter)); then
+    printf '\r%-78s' "$command: crate $((told + 1)) of $total, ${crates[told]} ($time)" >&2
+  elif ((4 * told / total > quarter)); then
     quarter=$((4 * told / total))
     printf '%s: %d of %d crates (%s)\n' "$command" "$told" "$total" "$time" >&2
   fi
 }
 
-# What a crate is built on, by crates.txt.
-needs_of() {
-  sed -n "s/#.*//; s/^$1://p" "$root/crates.txt"
-}
-
-# Runs `rt check NAME`, or `rt staticlib NAME`: what NAME is built on is proved before it, side by side, and NAME itself once.
-call_rt() {
-  # shellcheck disable=SC2046 # one word for each crate
-  prove_each $(needs_of "$3")
-  "$@"
-}
-
-# Runs `rt WORD NAME` in the root, with no input and all output in a log, and ends with its status: LOG rt WORD NAME. It stands in the
+# Runs rt in the folder of a crate, with no input and all output in a log, and ends with its status: LOG FOLDER rt WORD. It stands in the
 # foreground, so that an interrupt ends it too; what tells of it beside ends with the pipe that is held open meanwhile.
 run_rt() {
-  local log=$1 crates total status=0 quarter=0 began=$SECONDS held teller
-  shift
-  mapfile -t crates < <(planned "${@:3}")
+  local log=$1 folder=$2 crates total status=0 quarter=0 began=$SECONDS held teller
+  shift 2
+  mapfile -t crates < <(planned "${folder##*/}")
   total=${#crates[@]}
-  rm -f "$log".*
   : >"$log"
   exec {held}> >(
     exec 9>&-
@@ -68,9 +49,7 @@ run_rt() {
     while read -r -t 1; (($? > 128)); do tell_progress; done
   )
   teller=$!
-  fit_to_machine
-  (cd "$root" && call_rt "$@") </dev/null >"$log" 2>&1 9>&- {held}>&- || status=$?
-  leave_memory
+  (cd "$root/$folder" && "$@") </dev/null >"$log" 2>&1 9>&- {held}>&- || status=$?
   exec {held}>&-
   wait "$teller" || true
   if [[ -t 2 ]]; then printf '\r%-78s\r' '' >&2; fi
@@ -78,11 +57,10 @@ run_rt() {
   return "$status"
 }
 
-# What a log has of crates that are not proved, and what stands behind the last crate.
+# What a log has of the crate that was begun last, which is the one that is not proved; of a log that names none, all of it.
 print_failure() {
   awk '
+    /^rt: chose --jobs / { held = "" }
     { held = held $0 "\n" }
-    /^rt: [A-Za-z0-9_]+ NOT PROVED/ { printf "%s", held }
-    /^rt: [A-Za-z0-9_]+ (proved \(|NOT PROVED)/ { held = "" }
     END { printf "%s", held }' "$1" >&2
 }

@@ -1,8 +1,8 @@
-//! The whole program, on the wall and in processor time: typical entries through `bin/unloop --into`, and target/bin/unloop alone on each of the hardest texts.
+//! The whole program, on the wall and in processor time: typical entries through `bin/unloop --into`, and the proved program alone on each of the hardest texts.
 
 use crate::clock;
 use crate::inputs::{typical_blocks, written};
-use simulator::executed::{ended, root, Scratch};
+use simulator::executed::{self, ended, root, Scratch};
 use simulator::generate::{large, long_texts};
 use simulator::limits::TEXT_BYTES;
 use std::fs;
@@ -91,7 +91,7 @@ fn hardest() -> Vec<(&'static str, Vec<u8>)> {
 
 /// The proved program alone on a text: a row, and the times.
 fn alone((name, text): &(&str, Vec<u8>)) -> (String, [f64; 2]) {
-    let program = root().join("target/bin/unloop");
+    let program = executed::program("unloop");
     let mut answer = Vec::new();
     let seconds = best(|_| answer = ended(&mut Command::new(&program), text).stdout);
     let answer = match answer.strip_prefix(b"(refused ") {

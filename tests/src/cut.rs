@@ -1,6 +1,6 @@
 //! The programs over calls of C's `read` and `write` that are cut short, by what is loaded before the C library (tests/c/cut.c).
 
-use crate::executed::{ended, root, Scratch};
+use crate::executed::{ended, program, root, Scratch};
 use std::process::Command;
 use std::sync::OnceLock;
 
@@ -23,7 +23,7 @@ fn cutter() -> &'static Scratch {
 /// What a program writes where its calls go by these words, each a variable and a number: the most bytes of a call (0 stands for another size
 /// at each), or the call that fails.
 pub fn written(name: &str, input: &[u8], words: &[(&str, usize)]) -> Vec<u8> {
-    let mut command = Command::new(root().join("target/bin").join(name));
+    let mut command = Command::new(program(name));
     // A path without the spaces of a test's folder, which would divide it.
     command
         .current_dir(cutter().path(""))

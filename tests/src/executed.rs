@@ -13,6 +13,16 @@ pub fn root() -> PathBuf {
     tests.parent().expect("tests/ stands in it").to_path_buf()
 }
 
+/// The proved program of this name, as `rt run` in its crate's folder, or `rt ci`, made it.
+pub fn program(name: &str) -> PathBuf {
+    root().join(format!("crates/{name}/out/{name}"))
+}
+
+/// The folder of the proved library that ships, as `rt lib` in its crate's folder made it.
+pub fn library_folder() -> PathBuf {
+    root().join("crates/exports/out")
+}
+
 /// The version of all that is here, which rust/Cargo.toml has.
 pub fn version() -> String {
     let manifest = fs::read_to_string(root().join("rust/Cargo.toml")).expect("a manifest");
@@ -32,9 +42,9 @@ pub fn netlists() -> Vec<PathBuf> {
     found
 }
 
-/// What target/bin/unloop writes to standard output for a text.
+/// What the proved program `unloop` writes to standard output for a text.
 pub fn written_by_the_program(text: &[u8]) -> Vec<u8> {
-    let ended = ended(&mut Command::new(root().join("target/bin/unloop")), text);
+    let ended = ended(&mut Command::new(program("unloop")), text);
     assert!(ended.status.success(), "{ended:?}");
     assert!(ended.stderr.is_empty(), "{ended:?}");
     ended.stdout

@@ -13,7 +13,7 @@ fn text(path: &str) -> String {
 fn listed() -> BTreeSet<String> {
     let text = text("crates.txt");
     let rows = text.lines().filter(|line| !line.starts_with('#'));
-    let names = rows.filter_map(|line| line.split_once(':'));
+    let names = rows.filter_map(|line| line.split_once([' ', ':']));
     names.map(|(name, _)| name.to_string()).collect()
 }
 
@@ -60,11 +60,9 @@ fn every_crate_has_a_row_and_a_folder() {
 fn the_edits_are_listed() {
     let list = made("docs/edits", "docs/MUST_FAIL.md");
     let crates = root().join("crates");
-    let folders =
-        |name: &String| ["must-fail", "must-fail/quick"].map(|at| crates.join(name).join(at));
     let edits: usize = listed()
         .iter()
-        .flat_map(folders)
+        .map(|name| crates.join(name).join("must-fail"))
         .filter_map(|folder| fs::read_dir(folder).ok())
         .flatten()
         .filter(|entry| entry.as_ref().is_ok_and(|entry| entry.path().is_file()))

@@ -1,4 +1,4 @@
-//! The program `bench`: the simulator against worked examples, and target/bin/bench against the simulator, its input cut
+//! The program `bench`: the simulator against worked examples, and the proved program against the simulator, its input cut
 //! into pieces. Its `main` can have no contract, so that it moves all bytes, and each answer at once, is held by this.
 
 use simulator::bench::{first_error, parted};

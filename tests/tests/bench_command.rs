@@ -2,7 +2,7 @@
 //! prompt on a terminal and the word of each refusal.
 
 use simulator::bench::parted;
-use simulator::executed::{ended, root, Scratch};
+use simulator::executed::{ended, program, root, Scratch};
 use simulator::generate::{bench_input, odd_bench_input, Random, Report, Size};
 use std::io::{BufRead, BufReader, Write};
 use std::path::Path;
@@ -19,7 +19,7 @@ fn bench(netlist: &Path) -> Command {
 
 /// What the proved program writes for all of an input.
 fn proved(input: &[u8]) -> String {
-    let mut program = Command::new(root().join("target/bin/bench"));
+    let mut program = Command::new(program("bench"));
     String::from_utf8(ended(&mut program, input).stdout).unwrap()
 }
 

@@ -25,7 +25,7 @@ fn copied(scratch: &Scratch) {
     fs::set_permissions(scratch.path("."), Permissions::from_mode(0o755)).unwrap();
     for (file, name) in [
         ("target/driver/release/unloop-files", "run/unloop-files"),
-        ("target/bin/unloop", "run/unloop"),
+        ("crates/unloop/out/unloop", "run/unloop"),
     ] {
         let mut install = Command::new("install");
         let install = install.args(["-D", "-m", "755"]).arg(root().join(file));

@@ -7,24 +7,19 @@ use stand_in::repository;
 use std::process::{Command, Output};
 use std::time::{Duration, Instant};
 
-/// Notes its calls, and as `ci` says what rt says, at the pace of the file `pace`: seconds for proofs and for edits. A line of the file
+/// Notes its calls, and as `ci` says what rt says, after the seconds of the file `pace`; its line `rt: ok` is of the file `edits`. A line of the file
 /// `fails` makes the call of that name fail.
 const RT: &str = r#"#!/usr/bin/env bash
 echo "rt $*" >> calls
 if grep -qx "rt $1" fails; then echo "1 passed, 1 failed"; exit 1; fi
 [ "$1" = ci ] || exit 0
-mkdir -p target/stamp target/bin
-[ -z "$TMPDIR" ] || [ -d "$TMPDIR" ] || exit 9
-echo "$TMPDIR" > room
-echo 'rt: laws proved (1 s)'
-read -r proofs edits < pace
-sleep "$proofs"
-echo 'rt: netlist proved (2 s)'
-touch target/stamp/exports target/bin/{unloop,bench}
-sleep "$edits"
-echo 'rt: must-fail laws/other: refused, as it must be (first at src/lib.rt:1:1; 2 s)'
-echo 'rt: unloop ran, and wrote what its file stdout has (0 s)'
-echo 'rt: ok, 3 crates proved, 1 must-fail edits refused'
+[ -e crates/laws/out/kept ] || exit 9
+sleep "$(cat pace)"
+echo 'rt: laws proved'
+echo 'rt: netlist proved'
+echo "rt: must-fail laws/other.edit: refused, as it must be$(cat why)"
+echo 'rt: unloop ran, and wrote what its file stdout has'
+echo "rt: ok; handles allowed: none; $(cat edits); every proof and must-fail edit was done in this run"
 cat verdict
 "#;
 
@@ -45,12 +40,18 @@ const LEVELS: &str = "status=$?\n[ \"$1\" != --others ] || echo --test=other\nex
 fn gate() -> Scratch {
     let scratch = repository();
     scratch.put_script("tools/rt", RT);
-    for tool in ["tools/cargo", "tests/edits", "tests/probes", "tests/c/run"] {
+    for tool in ["tools/cargo", "tests/probes", "tests/c/run"] {
         scratch.put_script(tool, OTHER);
     }
     scratch.put_script("tests/levels", &format!("{OTHER}{LEVELS}"));
     scratch.put("fails", "");
-    scratch.put("pace", "0 0\n");
+    scratch.put("pace", "0\n");
+    scratch.put("edits", "must-fail edits: 2 refused\n");
+    scratch.put("why", ": src/lib.rt:1:1: error\n");
+    for edit in ["laws/must-fail/one", "laws/must-fail/other"] {
+        scratch.put(&format!("crates/{edit}.edit"), "");
+    }
+    scratch.put("crates/laws/out/kept", "");
     scratch.put("verdict", "4 passed, 0 failed\n");
     scratch
 }
@@ -61,14 +62,12 @@ fn run(scratch: &Scratch) -> Output {
     ended(command.current_dir("/"), b"")
 }
 
-/// What is called before the proofs, and behind them before the tests, which run beside each other.
-const BEFORE: [&str; 4] = [
-    "rt fmt --check",
+/// What is called before the tests, which run beside each other.
+const BEFORE: [&str; 10] = [
     "cargo fmt rust",
     "cargo fmt tests",
     "cargo fmt perf",
-];
-const BEHIND: [&str; 6] = [
+    "rt ci",
     "levels --library",
     "probes",
     "cargo clippy rust",
@@ -81,14 +80,13 @@ const BEHIND: [&str; 6] = [
 #[test]
 fn phases_and_the_last_line() {
     let scratch = gate();
-    scratch.put("pace", "1.1 2.1\n");
+    scratch.put("pace", "2.1\n");
     let ended = run(&scratch);
     assert!(ended.status.success(), "{ended:?}");
     let said = String::from_utf8(ended.stdout).unwrap();
     let mut lines = said.lines().rev();
     assert_eq!(lines.next(), Some("4 passed, 0 failed"));
     let phases = lines.next().unwrap().strip_prefix("gate: ").unwrap();
-    let phases = phases.replace("beside them ", "");
     let phases: Vec<(&str, usize)> = phases
         .split(", ")
         .map(|phase| {
@@ -98,48 +96,26 @@ fn phases_and_the_last_line() {
         })
         .collect();
     let names: Vec<&str> = phases.iter().map(|(name, _)| *name).collect();
-    assert_eq!(
-        names,
-        [
-            "layout",
-            "proofs",
-            "edits",
-            "programs",
-            "quick edits",
-            "library",
-            "lints",
-            "tests"
-        ]
-    );
-    assert!(phases[1].1 >= 1 && phases[2].1 >= 2, "{phases:?}");
+    assert_eq!(names, ["layout", "rt ci", "library", "lints", "tests"]);
+    assert!(phases[1].1 >= 2, "{phases:?}");
     let calls = scratch.get("calls");
     let mut calls: Vec<&str> = calls.lines().collect();
-    assert_eq!(calls.drain(..4).collect::<Vec<&str>>(), BEFORE);
-    for beside in [
-        "rt ci",
-        "edits --as-proved",
-        "cargo test tests --test=other",
-    ] {
-        let at = calls.iter().position(|&call| call == beside);
-        calls.remove(at.unwrap_or_else(|| panic!("{beside}: {calls:?}")));
-    }
-    assert_eq!(calls[..6], BEHIND);
+    let beside = "cargo test tests --test=other";
+    let at = calls.iter().position(|&call| call == beside);
+    calls.remove(at.unwrap_or_else(|| panic!("{calls:?}")));
+    assert_eq!(calls[..10], BEFORE);
     assert_eq!(
-        calls[6..],
+        calls[10..],
         ["cargo test perf", "cargo test rust", "run", "levels --test"]
     );
-    let folder = scratch.get("room");
-    assert!(folder == "\n" || !std::path::Path::new(folder.trim_end()).exists());
 }
 
 /// Whatever fails, the gate fails, and its last line says so.
 #[test]
 fn failures() {
     for fails in [
-        "rt fmt",
         "cargo fmt tests",
         "rt ci",
-        "edits --as-proved",
         "levels --library",
         "probes",
         "cargo clippy rust",
@@ -158,15 +134,51 @@ fn failures() {
         let said = String::from_utf8(ended.stdout).unwrap();
         assert_eq!(said.lines().last(), Some("gate: failed"), "{fails}");
     }
-    // What waits for proofs that do not come is ended with the gate.
+    // What runs beside what fails is ended with the gate.
     let began = Instant::now();
     let scratch = gate();
-    scratch.put("fails", "edits --as-proved\n");
-    scratch.put("pace", "600 0\n");
+    scratch.put_script("tests/c/run", "#!/usr/bin/env bash\nsleep 600\n");
+    scratch.put("fails", "cargo test tests --test=other\n");
     assert!(!run(&scratch).status.success());
     assert!(began.elapsed() < Duration::from_secs(60));
+}
+
+/// rt's verdict counts as it is told: nothing failed, and each edit that is there is refused, none of them bad.
+#[test]
+fn verdicts() {
+    let (passed, refused) = ("4 passed, 0 failed", "must-fail edits: 2 refused");
+    for (verdict, edits, is_passed) in [
+        (passed, refused, true),
+        (
+            passed,
+            "must-fail edits: 2 refused, 1 of them only by a limit",
+            true,
+        ),
+        ("4 passed, 1 failed", refused, false),
+        (
+            "4 passed, 0 failed (laws and the crates below alone: not the gate)",
+            refused,
+            false,
+        ),
+        (passed, "must-fail edits: 2 refused, 1 bad", false),
+        (passed, "must-fail edits: 1 refused, 1 bad", false),
+        (passed, "must-fail edits: 1 refused", false),
+        (passed, "nothing of edits", false),
+    ] {
+        let scratch = gate();
+        scratch.put("verdict", format!("{verdict}\n"));
+        scratch.put("edits", format!("{edits}\n"));
+        let ended = run(&scratch);
+        assert_eq!(ended.status.success(), is_passed, "{verdict}; {edits}");
+        let said = String::from_utf8(ended.stdout).unwrap();
+        let last = if is_passed { passed } else { "gate: failed" };
+        assert_eq!(said.lines().last(), Some(last));
+    }
     let scratch = gate();
-    scratch.put("verdict", "4 passed, 1 failed\n");
+    scratch.put(
+        "why",
+        " (only because a proof file names what the edit took away)\n",
+    );
     assert!(!run(&scratch).status.success());
 }
 

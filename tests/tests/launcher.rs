@@ -5,18 +5,17 @@ mod stand_in;
 
 use simulator::executed::{ended, sought_loudly, Scratch};
 use stand_in::{found, repository, set_age};
-use std::path::Path;
 use std::process::{Command, Output};
 use std::{fs, thread};
 
 const RESULTS: [&str; 3] = [
-    "target/bin/unloop",
-    "target/staticlib/libexports.a",
+    "crates/unloop/out/unloop",
+    "crates/exports/out/libexports.a",
     "target/driver/release/unloop-files",
 ];
 
-/// What these are built on is proved crate by crate before; that is noted elsewhere.
-const ALL_BUILT: &str = "rt check unloop\nrt staticlib exports\ncargo build\n";
+/// Each of rt's calls is in the folder of its crate, and proves what the crate is built on before it.
+const ALL_BUILT: &str = "rt run unloop\nrt lib exports\ncargo build\n";
 
 /// Words that need all.
 const ALL: &[&str] = &["--json"];
@@ -59,11 +58,12 @@ fn told(scratch: &Scratch, ended: &Output, status: i32, errors: &str, calls: &st
 
 /// Why there is something to wait for.
 const WHY: &str = "unloop: what runs here is proved first, on this machine, from the sources in crates/\n\
-    unloop: the first time this takes minutes; what is proved stays in target/, and later runs start at once\n";
+    unloop: the first time this takes minutes; what is proved stays in crates/*/out/, and later runs start at once\n";
 
-const PROGRAM: &str = "unloop: building target/bin/unloop\nunloop: 4 crates are proved (N s)\n";
+const PROGRAM: &str =
+    "unloop: building crates/unloop/out/unloop\nunloop: 4 crates are proved (N s)\n";
 const LIBRARY: &str =
-    "unloop: building target/staticlib/libexports.a\nunloop: 3 crates are proved (N s)\n";
+    "unloop: building crates/exports/out/libexports.a\nunloop: 3 crates are proved (N s)\n";
 const RENDERED: &str =
     "unloop: that is the rendering; what reports and options need is built now too, for later runs\n\
     unloop: it may be interrupted, and then goes on with the next run\n";
@@ -73,7 +73,7 @@ const DRIVER: &str = "unloop: building target/driver/release/unloop-files\n";
 #[test]
 fn builds_what_is_missing_once() {
     let scratch = repository();
-    let program = scratch.path("target/bin/unloop");
+    let program = scratch.path("crates/unloop/out/unloop");
     let words = ["--json", "--into", "a b", "-"];
     let output = format!("{}\n{}\nthe input\n", program.display(), words.join("\n"));
     let ended = run(&scratch, &words);
@@ -100,45 +100,21 @@ fn folders_and_names() {
     }
 }
 
-/// What the program is built on is proved before it, a crate behind all that it is built on, and what needs nothing of each other side by side;
-/// then what the library is built on.
-#[test]
-fn each_crate_as_soon_as_it_can_be() {
-    let scratch = repository();
-    let crates = "ground:\nleft: ground\nright: ground # beside left\nroof: left\nunloop: roof right io\nexports: ground\n";
-    scratch.put("crates.txt", crates);
-    let ended = run(&scratch, ALL);
-    assert_eq!(ended.status.code(), Some(7), "{ended:?}");
-    assert_eq!(scratch.get("calls"), ALL_BUILT);
-    let noted = scratch.get("alone");
-    let (program, library) = noted
-        .split_once("end roof\n")
-        .expect("the last one of the program");
-    assert_eq!(library, "begin ground\nend ground\n");
-    let at = |line: &str| {
-        program
-            .find(line)
-            .unwrap_or_else(|| panic!("{line}: {program}"))
-    };
-    assert!(program.starts_with("begin ground\nend ground\nbegin "));
-    assert!(at("begin left") < at("end right") && at("begin right") < at("end left"));
-    assert!(at("end left") < at("begin roof"));
-    assert!(
-        !program.contains("unloop"),
-        "it is proved once, by its own call"
-    );
-}
-
-/// A crate that is not proved, and what stands on it, is left to the call that tells why.
+/// A crate below that is not proved is told by rt's own call, and nothing is begun behind it.
 #[test]
 fn what_stands_on_a_crate_that_fails_is_not_begun() {
     let scratch = repository();
-    let rt = "#!/usr/bin/env bash\n[ $1 != version ] || exit 0\n[ -e calls ] || exec >> \"$(dirname \"$0\")/../alone\"\necho $2\n[ $2 = prelude ]\n";
+    let rt = "#!/usr/bin/env bash\n[ $1 != version ] || exit 0\necho \"rt $* ${PWD##*/}\" >> ../../calls\n\
+        echo 'rt: chose --jobs 2 for prelude'\necho proved\necho 'rt: chose --jobs 2 for netlist'\necho wrong\nexit 1\n";
     scratch.put_script("tools/rt", rt);
-    let last = failure(&scratch);
-    assert!(last.starts_with("unloop: 'rt check unloop' failed with status 1: see "));
-    assert_eq!(scratch.get("alone"), "prelude\nnetlist\n");
-    assert_eq!(scratch.get("target/built/unloop.log"), "unloop\n");
+    let ended = run(&scratch, ALL);
+    let said = String::from_utf8_lossy(&ended.stderr);
+    let told = "rt: chose --jobs 2 for netlist\nwrong\nunloop: 'rt run' in crates/unloop failed with status 1: see ";
+    assert!(
+        said.contains(told) && !said.contains("\nproved\n"),
+        "{said}"
+    );
+    assert_eq!(scratch.get("calls"), "rt run unloop\n");
 }
 
 /// A repository where all is built, an hour ago, of sources of two hours ago; no stamp tells of a later build.
@@ -159,10 +135,19 @@ fn builds_again_where_a_crate_is_newer_and_then_no_more() {
         let scratch = built_an_hour_ago();
         age(&scratch, source, 1_800);
         let building = [WHY, PROGRAM, LIBRARY].concat();
-        let calls = "rt check unloop\nrt staticlib exports\n";
+        let calls = "rt run unloop\nrt lib exports\n";
         told(&scratch, &run(&scratch, ALL), 7, &building, calls);
         told(&scratch, &run(&scratch, ALL), 7, "", "");
     }
+}
+
+/// What rt keeps in a crate's folder, and wrong programs, are nothing that the program is made of.
+#[test]
+fn builds_nothing_again_for_what_no_proof_reads() {
+    let scratch = built_an_hour_ago();
+    scratch.put("crates/a/out/rlib/stamp", "");
+    scratch.put("crates/a/must-fail/wrong.edit", "");
+    told(&scratch, &run(&scratch, ALL), 7, "", "");
 }
 
 /// The driver is made of its own sources and the library.
@@ -182,14 +167,14 @@ fn builds_a_program_that_was_removed() {
     let scratch = repository();
     run(&scratch, ALL);
     scratch.put("calls", "");
-    fs::remove_file(scratch.path("target/bin/unloop")).unwrap();
+    fs::remove_file(scratch.path("crates/unloop/out/unloop")).unwrap();
     let building = [WHY, PROGRAM].concat();
     told(
         &scratch,
         &run(&scratch, ALL),
         7,
         &building,
-        "rt check unloop\n",
+        "rt run unloop\n",
     );
     told(&scratch, &run(&scratch, ALL), 7, "", "");
 }
@@ -197,11 +182,11 @@ fn builds_a_program_that_was_removed() {
 #[test]
 fn tools_that_are_missing() {
     for (tool, result, before) in [
-        ("rt", "target/bin/unloop", ""),
+        ("rt", "crates/unloop/out/unloop", ""),
         (
             "cargo",
             "target/driver/release/unloop-files",
-            "rt check unloop\nrt staticlib exports\n",
+            "rt run unloop\nrt lib exports\n",
         ),
     ] {
         let scratch = repository();
@@ -230,11 +215,11 @@ fn builds_that_fail() {
     let scratch = repository();
     scratch.put_script(
         "tools/rt",
-        "#!/usr/bin/env bash\n[ $1 != version ] || exit 0\n[ -e calls ] || exit 1\necho refused\necho why >&2\nexit 1\n",
+        "#!/usr/bin/env bash\n[ $1 != version ] || exit 0\necho refused\necho why >&2\nexit 1\n",
     );
     let log = scratch.path("target/built/unloop.log");
     let line = format!(
-        "unloop: 'rt check unloop' failed with status 1: see {}",
+        "unloop: 'rt run' in crates/unloop failed with status 1: see {}",
         log.display()
     );
     assert_eq!(failure(&scratch), line);
@@ -243,67 +228,66 @@ fn builds_that_fail() {
     assert_eq!(failure(&scratch), line);
 
     // What was built before is not run once its sources are newer.
-    scratch.put("target/bin/unloop", "");
-    age(&scratch, "target/bin/unloop", 10_000);
+    scratch.put("crates/unloop/out/unloop", "");
+    age(&scratch, "crates/unloop/out/unloop", 10_000);
     assert_eq!(failure(&scratch), line);
 
-    fs::remove_file(scratch.path("target/bin/unloop")).unwrap();
+    fs::remove_file(scratch.path("crates/unloop/out/unloop")).unwrap();
     scratch.put_script("tools/rt", "#!/usr/bin/env bash\n");
-    let result = scratch.path("target/bin/unloop");
+    let result = scratch.path("crates/unloop/out/unloop");
     let line = format!(
-        "unloop: 'rt check unloop' made no {}: see {}",
+        "unloop: 'rt run' in crates/unloop made no {}: see {}",
         result.display(),
         log.display()
     );
     assert_eq!(failure(&scratch), line);
 }
 
-/// Proves one crate, takes so long that the script looks, and then ends as it is told to.
+/// Proves two crates, takes so long that the script looks, and then ends as it is told to.
 fn slow_rt(then: &str) -> String {
-    let first = "rt: prelude proved (1 s)\nlogic=proved\nrt: netlist proved (unchanged since it was last proved)";
-    format!("#!/usr/bin/env bash\n[ $1 != version ] || exit 0\n[ -e calls ] || exit 1\ncat <<'SAID'\nlogic=proved\n{first}\nSAID\nsleep 2.5\n{then}")
+    let first = "rt: chose --jobs 2 for prelude\nlogic=proved\nrt: chose --jobs 2 for netlist\nlogic=proved\nrt: chose --jobs 2 for words";
+    format!("#!/usr/bin/env bash\n[ $1 != version ] || exit 0\ncat <<'SAID'\n{first}\nSAID\nsleep 2.5\n{then}")
 }
 
 /// Elsewhere than on a terminal there is a line for each quarter, and none twice.
 #[test]
 fn tells_how_far_it_is() {
     let scratch = repository();
-    let made = "mkdir -p target/bin; touch target/bin/unloop; sleep 1.5; exit 3\n";
-    let lines = "echo 'rt: words proved (2 s)'; sleep 1.5\n";
+    let made = "mkdir -p out; touch out/unloop; sleep 1.5; exit 3\n";
+    let lines = "echo 'rt: chose --jobs 2 for unloop'; sleep 1.5\n";
     scratch.put_script("tools/rt", &slow_rt(&format!("{lines}{made}")));
     let ended = run(&scratch, ALL);
-    let building = "unloop: building target/bin/unloop\n";
+    let building = "unloop: building crates/unloop/out/unloop\n";
     let quarters = "unloop: 2 of 4 crates (N s)\nunloop: 3 of 4 crates (N s)\n";
-    let begun = [WHY, building, quarters].concat();
+    let begun = [WHY, building, quarters, "rt: chose --jobs 2 for unloop\n"].concat();
     let said = untimed(&ended.stderr);
     let rest = said
         .strip_prefix(&begun)
         .unwrap_or_else(|| panic!("{said}"));
-    assert!(rest.starts_with("unloop: 'rt check unloop' failed with status 3: see "));
+    assert!(rest.starts_with("unloop: 'rt run' in crates/unloop failed with status 3: see "));
     assert_eq!(rest.lines().count(), 1, "what is proved is not told again");
     assert_eq!(ended.status.code(), Some(2));
 }
 
-/// What rt said of the crates that are not proved is shown; all that it said is kept.
+/// What rt said of the crate that is not proved is shown; all that it said is kept.
 #[test]
 fn tells_why_it_failed() {
     let scratch = repository();
-    let failing = "echo wrong >&2\necho 'rt: words NOT PROVED (exit 1, 2 s)'\necho logic=proved\n\
-        echo 'rt: exports proved (1 s)'\necho 'rt: FAILED: words'\nexit 1\n";
+    let failing = "echo wrong >&2\necho 'rt: the library words did not build' >&2\nexit 1\n";
     scratch.put_script("tools/rt", &slow_rt(failing));
     let ended = run(&scratch, ALL);
     let log = scratch.path("target/built/unloop.log");
     let expected = [
         WHY,
-        "unloop: building target/bin/unloop\nunloop: 2 of 4 crates (N s)\n",
-        "wrong\nrt: words NOT PROVED (exit 1, N s)\nrt: FAILED: words\n",
-        "unloop: 'rt check unloop' failed with status 1: see ",
+        "unloop: building crates/unloop/out/unloop\nunloop: 2 of 4 crates (N s)\n",
+        "rt: chose --jobs 2 for words\nwrong\nrt: the library words did not build\n",
+        "unloop: 'rt run' in crates/unloop failed with status 1: see ",
         &format!("{}\n", log.display()),
     ];
     told(&scratch, &ended, 2, &expected.concat(), "");
     assert!(scratch
         .get("target/built/unloop.log")
-        .starts_with("logic=proved\nrt: prelude proved (1 s)\n"));
+        .starts_with("rt: chose --jobs 2 for prelude\nlogic=proved\n"));
 }
 
 /// On a terminal: one line, rewritten, with the crate that is at work.
@@ -338,7 +322,7 @@ fn target_that_cannot_be_written() {
     scratch.put("target", "");
     let built = scratch.path("target/built");
     let line = format!(
-        "unloop: target/bin/unloop has to be built, and {} can't be written",
+        "unloop: crates/unloop/out/unloop has to be built, and {} can't be written",
         built.display()
     );
     assert_eq!(failure(&scratch), line);
@@ -454,7 +438,7 @@ fn a_library_that_fails_behind_a_rendering() {
     let lacking =
         "unloop: 'cargo', which builds target/driver/release/unloop-files, is not on the PATH\n";
     let building = [WHY, PROGRAM, RENDERED, LIBRARY, lacking].concat();
-    let calls = "rt check unloop\nrt staticlib exports\n";
+    let calls = "rt run unloop\nrt lib exports\n";
     let ended = run(&scratch, &[]);
     told(&scratch, &ended, 0, &building, calls);
     assert_eq!(ended.stdout, b"the input\n");
@@ -482,7 +466,7 @@ fn a_report_needs_all() {
         let ended = ended(command, input.as_bytes());
         let building = [WHY, PROGRAM, LIBRARY, DRIVER].concat();
         told(&scratch, &ended, 7, &building, ALL_BUILT);
-        let program = scratch.path("target/bin/unloop");
+        let program = scratch.path("crates/unloop/out/unloop");
         let words: String = words.iter().map(|word| format!("{word}\n")).collect();
         let output = format!("{}\n{words}{input}", program.display());
         assert_eq!(String::from_utf8_lossy(&ended.stdout), output);
@@ -501,88 +485,6 @@ fn builds_again_by_another_kit() {
     told(&scratch, &run(&scratch, ALL), 7, "", "");
     fs::remove_file(scratch.path("tools/rt")).unwrap();
     told(&scratch, &run(&scratch, ALL), 7, "", "");
-}
-
-/// The jobs and the folder of temporary files: a new one, or the caller's own; nothing of it stays.
-#[test]
-fn jobs_and_temporary_files() {
-    let scratch = repository();
-    run(&scratch, ALL);
-    let room = scratch.get("room");
-    assert_eq!(room.lines().count(), 2);
-    for line in room.lines() {
-        let (jobs, folder) = line.split_once(' ').unwrap();
-        assert!(jobs.parse::<usize>().unwrap() >= 1, "{room}");
-        assert!(
-            folder.is_empty() || folder.starts_with("/dev/shm/unloop."),
-            "{room}"
-        );
-        assert!(folder.is_empty() || !Path::new(folder).exists(), "{room}");
-    }
-    let scratch = repository();
-    let mut command = Command::new(scratch.path("bin/unloop"));
-    let command = command.env_clear().env("PATH", scratch.path("tools"));
-    let own = scratch.path("tools");
-    ended(
-        command.env("TMPDIR", &own).env("RT_JOBS", "7").args(ALL),
-        b"",
-    );
-    let line = format!("7 {}\n", own.display());
-    assert_eq!(scratch.get("room"), line.repeat(2));
-}
-
-/// What bin/machine.sh answers to a line of bash.
-fn machine(scratch: &Scratch, line: &str) -> String {
-    let script = format!(
-        "set -euo pipefail\nsource '{}'\n{line}",
-        scratch.path("bin/machine.sh").display()
-    );
-    let mut command = Command::new(scratch.path("tools/bash"));
-    let command = command.env_clear().env("PATH", scratch.path("tools"));
-    let ended = ended(
-        command.current_dir(scratch.path(".")).args(["-c", &script]),
-        b"",
-    );
-    assert!(ended.stderr.is_empty(), "{ended:?}");
-    String::from_utf8(ended.stdout).unwrap()
-}
-
-/// As many jobs as there is memory for, one at least, and ten at most where there are not more processors.
-#[test]
-fn jobs_follow_the_memory() {
-    let scratch = repository();
-    scratch.put_script("tools/two", "#!/usr/bin/env bash\necho 2\n");
-    fs::rename(scratch.path("tools/two"), scratch.path("tools/nproc")).unwrap();
-    for (megabytes, jobs) in [
-        (500, 1),
-        (5_999, 1),
-        (6_000, 2),
-        (11_999, 3),
-        (12_000, 4),
-        (18_000, 6),
-        (99_999, 10),
-    ] {
-        let line = format!("jobs_within {megabytes} 3000");
-        assert_eq!(machine(&scratch, &line), format!("{jobs}\n"), "{megabytes}");
-    }
-    let free: usize = machine(&scratch, "free_memory").trim().parse().unwrap();
-    assert!(free > 0);
-}
-
-/// A folder in memory is taken where there is room for so many jobs, and removed again.
-#[test]
-fn temporary_files_in_memory() {
-    let scratch = repository();
-    scratch.put("memory/kept", "");
-    let line = "use_memory memory 0; echo \"$TMPDIR\"; [[ -d $TMPDIR ]]; leave_memory; echo \"${TMPDIR-none}\"";
-    let said = machine(&scratch, line);
-    assert!(
-        said.starts_with("memory/unloop.") && said.ends_with("\nnone\n"),
-        "{said}"
-    );
-    let line = "use_memory memory 999999999 || echo \"no ${TMPDIR-none}\"; use_memory nowhere 0 || echo no";
-    assert_eq!(machine(&scratch, line), "no none\nno\n");
-    assert_eq!(scratch.names("memory"), ["kept"]);
 }
 
 #[test]
@@ -604,14 +506,14 @@ fn bench_joins_the_netlist_and_the_input() {
     scratch.put("a.net", "(in a)\n");
     scratch.put("empty.net", "");
     let why = WHY.replace("unloop:", "bench:");
-    let building = "bench: building target/bin/bench\nbench: 2 crates are proved (N s)\n";
+    let building = "bench: building crates/bench/out/bench\nbench: 2 crates are proved (N s)\n";
     let building = why + building;
     let bench = |file: &str| {
         let path = scratch.path(file);
         run_command(&scratch, "bin/bench", &[path.to_str().unwrap()])
     };
     let ended = bench("a.net");
-    told(&scratch, &ended, 0, &building, "rt check bench\n");
+    told(&scratch, &ended, 0, &building, "rt run bench\n");
     assert_eq!(ended.stdout, b"(in a)\n\nthe input\n");
     let ended = bench("empty.net");
     told(&scratch, &ended, 0, "", "");

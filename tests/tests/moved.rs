@@ -3,7 +3,7 @@
 
 use simulator::compare::programs::written_in_pieces;
 use simulator::cut::written;
-use simulator::executed::{ended, root, Scratch};
+use simulator::executed::{self, ended, root, Scratch};
 use simulator::generate::{bench_input, long_texts, Random, Report, Size};
 use simulator::limits::WRITTEN_BYTES;
 use simulator::specimens::{PROGRAM_INPUT, SIX_GATES};
@@ -11,15 +11,15 @@ use simulator::{bench, unloop};
 use std::collections::BTreeSet;
 use std::io::{pipe, Read, Write};
 use std::process::{Child, Command, Stdio};
-use std::thread;
 use std::time::Duration;
+use std::{fs, thread};
 
 /// The most bytes of a call; 0 stands for another size at each.
 const SIZES: [usize; 8] = [0, 1, 2, 7, 4_095, 4_096, 4_097, 61_441];
 
 fn program(name: &str) -> Command {
     let mut command = Command::new("timeout");
-    command.arg("60").arg(root().join("target/bin").join(name));
+    command.arg("60").arg(executed::program(name));
     command
 }
 
@@ -123,12 +123,17 @@ fn a_write_that_fails_loses_its_answer_alone() {
     }
 }
 
-/// Of C they call `read` and `write`, and what starts a program and moves memory: nothing that could catch a signal. So the system starts a call
-/// again that a signal interrupted before it moved a byte, and no call of theirs fails by one.
+/// Of C they call `read` and `write`, what starts a program and what moves memory. The start looks at the processor and has SIGPIPE passed over, which a
+/// run shows: while it waits for input, no signal is caught. So the system starts a call again that a signal interrupted before it moved a byte, and no
+/// call of theirs fails by one.
 #[test]
 fn no_signal_is_caught() {
     let allowed = [
+        "__errno_location",
         "__libc_start_main",
+        "__sysv_signal",
+        "__write",
+        "__x86_get_cpuid_feature_leaf",
         "memcpy",
         "memmove",
         "memset",
@@ -139,7 +144,7 @@ fn no_signal_is_caught() {
     for name in ["unloop", "bench"] {
         let mut command = Command::new("nm");
         command.args(["-D", "--undefined-only"]);
-        let listed = ended(command.arg(root().join("target/bin").join(name)), b"");
+        let listed = ended(command.arg(executed::program(name)), b"");
         assert!(listed.status.success(), "{listed:?}");
         let listed = String::from_utf8(listed.stdout).expect("names");
         let called = listed
@@ -154,6 +159,18 @@ fn no_signal_is_caught() {
             called.iter().all(|name| allowed.contains(name)),
             "{called:?}"
         );
+        let mut command = Command::new(executed::program(name));
+        let command = command.stdin(Stdio::piped()).stdout(Stdio::null());
+        let mut child = command.spawn().expect("the program");
+        let state = format!("/proc/{}/status", child.id());
+        let state = || fs::read_to_string(&state).expect("its state");
+        while !state().contains("\nState:\tS") {
+            thread::sleep(Duration::from_millis(1));
+        }
+        let status = state();
+        assert!(status.contains("\nSigCgt:\t0000000000000000\n"), "{status}");
+        drop(child.stdin.take());
+        assert!(child.wait().expect("it ends").success());
     }
 }
 
@@ -168,7 +185,7 @@ fn under_signals(name: &str, input: &[u8]) -> Vec<u8> {
     const FULL: usize = 65_536;
     let (mut output, mut held) = pipe().expect("a pipe");
     held.write_all(&[b'#'; FULL]).expect("room");
-    let mut command = Command::new(root().join("target/bin").join(name));
+    let mut command = Command::new(executed::program(name));
     let command = command.stdin(Stdio::piped()).stdout(held);
     let mut child = command.spawn().expect("the program");
     command.stdout(Stdio::null()); // or the pipe would never end

@@ -1,9 +1,9 @@
-//! target/bin/unloop, from its standard input to its standard output, against the simulator.
+//! The proved program `unloop`, from its standard input to its standard output, against the simulator.
 //! Its `main` can have no contract, so that it reads all of its input and writes all of the answer is held by this.
 
 use simulator::compare::programs::compare_program as compare;
 use simulator::compare::tally::answered_often as answered;
-use simulator::executed::{root, written_by_the_program};
+use simulator::executed::{program, written_by_the_program};
 use simulator::generate::{
     about_1024_copies, for_texts, long_texts, near_a_limit, over_a_limit, spoiled, strange_never,
     Random, Report, Size,
@@ -96,7 +96,7 @@ fn longest_rendering() {
 /// A read may give fewer bytes than were asked for, and still not be the last.
 #[test]
 fn text_in_pieces() {
-    let mut program = Command::new(root().join("target/bin/unloop"));
+    let mut program = Command::new(program("unloop"));
     let program = program.stdin(Stdio::piped()).stdout(Stdio::piped());
     let mut program = program.spawn().expect("the program");
     let mut input = program.stdin.take().expect("piped");

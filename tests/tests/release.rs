@@ -16,9 +16,14 @@ const RT: &str = r#"#!/usr/bin/env bash
 bring() { [ -e "$1" ] || { mkdir -p "${1%/*}" && cp -p "$REAL/$1" "$1"; }; }
 case $1 in
   version) echo kit 1 ;;
-  ci) bring target/bin/unloop; bring target/bin/bench; mkdir -p target/stamp; touch target/stamp/exports; cat tools/verdict ;;
-  check) bring "target/bin/$2" ;;
-  staticlib) bring target/staticlib/libexports.a ;;
+  ci)
+    bring crates/unloop/out/unloop
+    bring crates/bench/out/bench
+    echo 'rt: ok; handles allowed: none; must-fail edits: 0 refused'
+    cat tools/verdict
+    ;;
+  run) crate=${PWD##*/}; cd ../..; bring "crates/$crate/out/$crate" ;;
+  lib) cd ../..; bring crates/exports/out/libexports.a ;;
 esac
 "#;
 
@@ -26,7 +31,7 @@ const CARGO: &str = r#"#!/usr/bin/env bash
 [ "$1" != build ] || { mkdir -p target/driver/release && cp -p "$REAL/target/driver/release/unloop-files" target/driver/release; }
 "#;
 
-/// A repository with a commit of all that is installed and an ignored target/.
+/// A repository with a commit of all that is installed and ignored folders target/ and out/.
 fn committed() -> Scratch {
     moved(); // all is built
     let scratch = repository();
@@ -39,7 +44,7 @@ fn committed() -> Scratch {
         scratch.put_script(tool, "#!/bin/sh\n");
     }
     // What makes the library for the gate.
-    let library = "#!/bin/sh\n[ \"$1\" != --library ] || rt staticlib exports\n";
+    let library = "#!/bin/sh\n[ \"$1\" != --library ] || (cd crates/exports && rt lib)\n";
     scratch.put_script("tests/levels", library);
     for file in [
         "include/unloop.h",
@@ -50,7 +55,7 @@ fn committed() -> Scratch {
     ] {
         scratch.put(file, fs::read(root().join(file)).unwrap());
     }
-    scratch.put(".gitignore", "target/\ntools/\ncalls\nroom\n");
+    scratch.put(".gitignore", "target/\ncrates/*/out/\ntools/\ncalls\n");
     git(&scratch, &["init", "-q"]);
     git(&scratch, &["config", "status.showUntrackedFiles", "no"]); // what is not known to git counts all the same
     commit(&scratch, "all of it");
@@ -183,9 +188,9 @@ fn stamps_that_are_refused() {
         refused(&scratch, words);
     }
     scratch.put("target/gate", &stamp);
-    fs::remove_file(scratch.path("target/bin/bench")).unwrap();
-    scratch.put_script("target/bin/bench", "#!/bin/sh\n");
-    let other = "what is built is not what the gate has tried: target/bin/bench: FAILED";
+    fs::remove_file(scratch.path("crates/bench/out/bench")).unwrap();
+    scratch.put_script("crates/bench/out/bench", "#!/bin/sh\n");
+    let other = "what is built is not what the gate has tried: crates/bench/out/bench: FAILED";
     refused(&scratch, other);
 }
 

@@ -5,7 +5,7 @@ mod session;
 
 use session::{run, told, with};
 use simulator::block::{Block, Gate, Kind, Source};
-use simulator::executed::{ended, netlists, root, Scratch};
+use simulator::executed::{ended, netlists, program, root, Scratch};
 use simulator::generate::{for_blocks, for_texts, for_typical_blocks, Random, Report, Size};
 use simulator::limits::{BLOCK_WORDS, TEXT_BYTES};
 use simulator::render::copied;
@@ -558,7 +558,7 @@ fn names_that_are_nearly_the_same() {
 /// The driver with a program that answers with the proved one's rendering, in which one word is another.
 fn with_spoiled_program(scratch: &Scratch, edit: &str, words: &[&str]) -> Output {
     run(scratch, &[]); // built
-    let program = root().join("target/bin/unloop");
+    let program = program("unloop");
     let script = format!("#!/bin/sh\n'{}' | sed '{edit}'\n", program.display());
     scratch.put_script("spoiled", &script);
     let mut driver = Command::new(root().join("target/driver/release/unloop-files"));

@@ -1,6 +1,6 @@
 //! tests/soak tells a difference, and ends with it: here with a library in which two operations are exchanged.
 
-use simulator::executed::{ended, root, Scratch};
+use simulator::executed::{ended, library_folder, root, Scratch};
 use std::fs;
 use std::path::Path;
 use std::process::{Command, Output};
@@ -14,7 +14,7 @@ fn run(command: &mut Command) -> Output {
 /// The library that ships with two of its functions exchanged, in a folder.
 fn exchange(folder: &Path, [one, other]: [&str; 2]) {
     let library = folder.join("libexports.a");
-    let shipped = root().join("target/staticlib/libexports.a");
+    let shipped = library_folder().join("libexports.a");
     let names = folder.join("names");
     let pairs = format!("unloop_{one} unloop_{other}\nunloop_{other} unloop_{one}\n");
     fs::write(&names, pairs).expect("a file");

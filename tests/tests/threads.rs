@@ -1,6 +1,6 @@
 //! The library keeps no state: many threads at once are given the answers that one is given, and what was compiled has no variables.
 
-use simulator::executed::root;
+use simulator::executed::library_folder;
 use simulator::generate::{for_blocks, for_texts, for_typical_blocks, Size};
 use simulator::limits::{BLOCK_WORDS, CELL_WORDS, COVER_WORDS, GATES, WRITTEN_BYTES};
 use std::process::Command;
@@ -123,7 +123,7 @@ fn texts() {
 /// Nothing that was compiled can be written: there is neither data nor room for it.
 #[test]
 fn no_variables() {
-    let library = root().join("target/staticlib/libexports.a");
+    let library = library_folder().join("libexports.a");
     let told = Command::new("size").arg(&library).output();
     let told = told.expect("size, of the binutils").stdout;
     let told = String::from_utf8(told).unwrap();

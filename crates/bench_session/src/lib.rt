@@ -3,6 +3,7 @@
 // and prepared once, when it is read (`netlist_part`): `graph` and `fanout` are room for that; then come set lines
 // (`line_part`). Whatever the pieces, what is written is the bench's output (`pieces-bench` in proofs/Pieces.antt).
 #![tactic(auto)]
+
 ghost use Rattle.bench_session.specs.Runs.{turn, ending};
 ghost use Rattle.bench_session.specs.Session.{run_of, SessionReady, AnswerWritten, SessionStepped, Advanced};
 

@@ -1,6 +1,7 @@
 // The answer to one line of the bench, for a block that is prepared: the line's form (2, `form`), its pairs against the
 // block's inputs (4 and 5, crates/text_pairs), and the show line (11, `show`), or the refusal.
 #![tactic(auto)]
+
 ghost use Rattle.std.specs.Prelude.{List, length};
 ghost use Rattle.netlist.specs.Answers.{Promise};
 ghost use Rattle.netlist.specs.Syntax.{Pair};

@@ -1,6 +1,7 @@
 // A block's gates as a graph, decoded once: five words a gate, its operation and the places of its four operands
 // (specs/Graph.antt). Searches, orders, evaluation and copies read a gate here and know nothing of the stored format.
 #![tactic(auto)]
+
 pub mod fanout;
 
 ghost use Rattle.std.specs.Prelude.{◌≡◌, false, ◌+◌, ◌*◌, ◌/◌, ◌%◌, ◌≤◌, ◌<◌, length, get_or};

@@ -3,6 +3,7 @@
 // is an order of evaluation (`layers`; else all gates are one layer), and that the layers are the components, of which
 // each gate gets the lowest gate (`leaders`; else the slow `closure` finds it). No graph is known that fails a check.
 #![tactic(auto)]
+
 mod certified;
 mod check;
 mod closure;

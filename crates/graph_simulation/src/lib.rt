@@ -2,6 +2,7 @@
 // table of all gates (`gate`, `table`), and of one output; the array of values; and rounds that evaluate only the
 // fan-out of the gates that changed in the round before. Callers cite the definitions of `netlist`.
 #![tactic(auto)]
+
 mod changes;
 pub mod gate;
 pub mod output;

@@ -1,6 +1,7 @@
 // Sixty-four settings at a time in dual-rail words: a value under each of them is a pair of bits, and a gate's pair of
 // words comes from its operands' pairs.
 #![tactic(auto)]
+
 use graph_gates::PLACES;
 
 pub mod evaluate;

@@ -2,6 +2,7 @@
 // never come (`nevers`), under which an output is undefined and which count once a batch is decided (`decided`,
 // `outputs`, `settled`), and the lowest that may come and is not settled (`lowest`).
 #![tactic(auto)]
+
 ghost use Rattle.std.specs.Prelude.{◌≡◌, ◌^◌, ◌≤◌};
 ghost use Rattle.netlist.specs.Limits.{max_inputs};
 

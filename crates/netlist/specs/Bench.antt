@@ -1,6 +1,6 @@
 -- The bench (SPECIFICATION 8.2): a netlist text, an empty line and set lines in, a show line or a refusal's line for
 -- each set line out; first the answer to one line, then the whole run.
-use Rattle.std.specs.Prelude.{ℕ, ◌+◌, ◌-◌, Bool, true, cond, ◌&&◌, List, [], ◌∷◌, ◌++◌, map, length, eqb}
+use Rattle.std.specs.Prelude.{ℕ, ◌-◌, Bool, true, cond, ◌&&◌, List, [], ◌∷◌, ◌++◌, map, length, eqb}
 use Rattle.prelude.specs.Lists.{ascii, joined}
 use Rattle.netlist.specs.declared.Refusal.TheVariants.{SyntaxError, DuplicateDeclaration, UndeclaredName}
 use Rattle.netlist.specs.declared.Refusal.TheVariants.{MalformedBlock}

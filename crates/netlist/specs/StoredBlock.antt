@@ -1,5 +1,5 @@
 -- SPECIFICATION 2: the words of a netlist, the netlist of a slice of words, and which words are malformed ("torn").
-use Rattle.std.specs.Prelude.{ℕ, ◌+◌, ◌-◌, ◌*◌, ◌/◌, ◌%◌, Bool, true, false, cond, not, ◌&&◌, ◌||◌, List, [], ◌∷◌, ◌++◌, map, length, get_or, eqb, leb, ltb}
+use Rattle.std.specs.Prelude.{ℕ, ◌+◌, ◌-◌, ◌*◌, ◌/◌, ◌%◌, Bool, true, false, cond, not, ◌&&◌, List, [], ◌∷◌, ◌++◌, map, length, get_or, eqb, leb, ltb}
 use Rattle.prelude.specs.Lists.{same, all, tab, joined, trimmed, distinct}
 use Rattle.netlist.specs.Limits.{max_inputs, max_nevers, max_gates, max_outputs}
 use Rattle.netlist.specs.Assignments.{Assignment, are_masks}

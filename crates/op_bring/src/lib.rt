@@ -1,5 +1,6 @@
 // Bring (SPECIFICATION 7.14): a block that was stored before there were never lines, as a block of today.
 #![tactic(auto)]
+
 ghost use Rattle.std.specs.Prelude.{◌≡◌, ◌≤◌, ◌<◌, length, get_or};
 ghost use Rattle.prelude.specs.Lists.{tab, placed};
 ghost use Rattle.netlist.specs.declared.Refusal.TheVariants.{MalformedBlock};

@@ -1,6 +1,7 @@
 // Lookup cells, the field's lookup tables (LUTs) of four operands (SPECIFICATION 7.15, 7.16): making cells from a
 // straight block, and running cells, which may have been made elsewhere.
 #![tactic(auto)]
+
 use words_layout::offsets::OPERAND_WORDS;
 
 pub mod legal;

@@ -2,6 +2,7 @@
 // elsewhere as good as the original? Behind 6 and 10 the two interfaces must be the same (12, `interface`); then the
 // settings are searched, up to 64 at a time, for the lowest under which an output differs (`settings`, `outputs`).
 #![tactic(auto)]
+
 ghost use Rattle.std.specs.Prelude.{◌≡◌};
 ghost use Rattle.netlist.specs.StoredBlock.{decode};
 ghost use Rattle.netlist.specs.Answers.{answer_of, Told};

@@ -3,6 +3,7 @@
 // at a time (`evaluate`, `choice`): a cell has two values, so one word a place is enough, bit s for setting s. A
 // `miter` tells where an output and the node listed for it differ.
 #![tactic(auto)]
+
 ghost use Rattle.std.specs.Prelude.{◌≡◌};
 ghost use Rattle.netlist.specs.StoredBlock.{decode};
 ghost use Rattle.netlist.specs.Answers.{answer_of, Told};

@@ -2,6 +2,7 @@
 // the prime implicants of "settled or never comes", where settings that never come are don't-cares. Each setting is
 // decided once, into a table (`table`); `implicants` and the modules that it calls find the entries in it.
 #![tactic(auto)]
+
 ghost use Rattle.std.specs.Prelude.{◌≡◌, false, length};
 ghost use Rattle.netlist.specs.Answers.{Promise};
 ghost use Rattle.netlist.specs.StoredBlock.{is_malformed};

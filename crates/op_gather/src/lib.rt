@@ -1,6 +1,7 @@
 // Gather and Scatter (SPECIFICATION 7.17, 7.18): gates numbered afresh, so that those of a strongly connected group lie
 // side by side, and the way back. specs/Promise.antt has Gather's promise, which is on two slices.
 #![tactic(auto)]
+
 ghost use Rattle.std.specs.Prelude.{◌≡◌, false, length};
 ghost use Rattle.prelude.specs.Lists.{placed};
 ghost use Rattle.netlist.specs.StoredBlock.{decode, is_malformed};

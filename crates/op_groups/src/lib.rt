@@ -2,6 +2,7 @@
 // algorithm on the leaders that crates/graph_scc finds. `links` makes the lists of the gates of each group, here and
 // for whoever puts gates in the order of their groups.
 #![tactic(auto)]
+
 ghost use Rattle.std.specs.Prelude.{length};
 ghost use Rattle.netlist.specs.Answers.{Promise};
 ghost use Rattle.netlist.specs.Operations.{groups_of};

@@ -2,6 +2,7 @@
 // without its LF. Never refuses. `line_start` and `line_length` are its two ends for callers who cannot be handed a
 // part: the C export.
 #![tactic(auto)]
+
 ghost use Rattle.std.specs.Prelude.{◌≡◌, false, ℕ, ◌+◌, ◌<◌, ◌≤◌, length, get_or, drop};
 ghost use Rattle.netlist.specs.Line.{lf, clamped, start_before, until_lf, line_start, line_end, line_length, line_at};
 ghost use Rattle.op_line.specs.Parts.{part_size};

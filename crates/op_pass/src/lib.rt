@@ -1,5 +1,6 @@
 // Pass (SPECIFICATION 7.10): a straight block's values in one sweep.
 #![tactic(auto)]
+
 ghost use Rattle.op_pass.specs.Passed.{PassPromise};
 
 use crate::sweep::sweep_into;

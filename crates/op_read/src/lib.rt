@@ -1,6 +1,7 @@
 // Read (SPECIFICATION 7.3), in passes over the text: its length, its form by the recogniser, and then steps that know
 // that the text is a tree's: refusal 3 from the counts, 4 and 5 from the symbol table.
 #![tactic(auto)]
+
 ghost use Rattle.std.specs.Prelude.{length};
 ghost use Rattle.netlist.specs.Answers.{Promise};
 ghost use Rattle.netlist.specs.Operations.{read};

@@ -2,6 +2,7 @@
 // (`listing`), the walk over settings (crates/unroll_depth), which tells of 8 and 9, and behind these the room (11) and
 // the rendered block's words (`writing`). specs/Promise.antt states the whole claim.
 #![tactic(auto)]
+
 ghost use Rattle.std.specs.Prelude.{◌≡◌, length};
 ghost use Rattle.netlist.specs.Limits.{max_gates};
 ghost use Rattle.netlist.specs.Answers.{Promise};

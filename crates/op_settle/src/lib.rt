@@ -1,4 +1,5 @@
 // Settle (SPECIFICATION 7.5), and the test of a setting's bytes.
 #![tactic(auto)]
+
 pub mod setting;
 pub mod settle;

@@ -3,6 +3,7 @@
 // (`records`, `inputs`, `settling`, `outputs`). The function over the caller's records is the C function in
 // crates/exports, whose proof goes step by step by hand.
 #![tactic(auto)]
+
 ghost use Rattle.netlist.specs.Answers.{answer_of, Shows};
 ghost use Rattle.netlist.specs.Sheet.{sheet};
 

@@ -1,5 +1,6 @@
 // Verdict (SPECIFICATION 7.6): under how many settings a block settles, by exhaustive bit-parallel simulation.
 #![tactic(auto)]
+
 ghost use Rattle.std.specs.Prelude.{◌≡◌, false, length};
 ghost use Rattle.netlist.specs.Answers.{Told};
 ghost use Rattle.netlist.specs.StoredBlock.{is_malformed};

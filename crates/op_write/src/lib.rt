@@ -1,6 +1,7 @@
 // Write (SPECIFICATION 7.11): block to text, each gate on a line of its own and named by `_` and its number; count:
 // bytes.
 #![tactic(auto)]
+
 ghost use Rattle.std.specs.Prelude.{◌≡◌, false, ltb, length};
 ghost use Rattle.netlist.specs.Answers.{Promise};
 ghost use Rattle.netlist.specs.Operations.{write};

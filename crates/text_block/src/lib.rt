@@ -1,6 +1,7 @@
 // The words of a text's block, from its tables: the counts, the names of the inputs, and the words of never lines,
 // gates and outputs that are there already.
 #![tactic(auto)]
+
 ghost use Rattle.std.specs.Prelude.{◌≡◌, [], ◌∷◌, ◌+◌, ◌*◌, ◌≤◌, length};
 ghost use Rattle.std.proofs.lemmas.List.Edits.{sets};
 ghost use Rattle.prelude.specs.Lists.{tab, joined};

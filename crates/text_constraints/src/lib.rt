@@ -2,6 +2,7 @@
 // refusals 4 and 5 among them, and their words in a stored block. A line has no limit of pairs but the text's length,
 // so an operation lends a table of MAX_PAIRS names to what reads a line; with no line to read it makes none.
 #![tactic(auto)]
+
 use words_refusals::Test;
 
 pub mod lines;

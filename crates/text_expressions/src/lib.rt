@@ -2,6 +2,7 @@
 // outputs (`lines`), over each expression (`walk`), and down to names and constants (`leaves`): the first name that is
 // not declared, and the words of gates and outputs. Never lines have no expressions.
 #![tactic(auto)]
+
 ghost use Rattle.text_symbols.specs.Results.{NodesIndexed};
 ghost use Rattle.text_expressions.specs.Resolution.{ResolveReady, Resolved};
 

@@ -1,6 +1,7 @@
 // The lines of a text: where each starts, and what its bytes say of it; and in `counts`, how many lines and gates a
 // text has, and the limits (refusal 3).
 #![tactic(auto)]
+
 ghost use Rattle.std.specs.Prelude.{◌≡◌, false, cond, ◌+◌, ◌-◌, ◌≤◌, eqb, length, drop};
 ghost use Rattle.netlist.specs.Limits.{max_text};
 ghost use Rattle.text_lines.specs.Lines.{times, NoLf, length_with_lf, line_opens, name_offset, LineOf};

@@ -1,6 +1,7 @@
 // Bytes, names, numbers and operands, each appended to a text at `at`. Each function answers the new end. What does not
 // fit into the text is left out, and counted all the same. `refusal_line` puts a refusal's line together of them.
 #![tactic(auto)]
+
 ghost use Rattle.std.specs.Prelude.{◌≡◌, [], ◌∷◌, ◌≤◌};
 ghost use Rattle.prelude.specs.Lists.{trimmed};
 ghost use Rattle.netlist.specs.Kinds.{keyword};

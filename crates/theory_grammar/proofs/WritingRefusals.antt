@@ -20,7 +20,7 @@ use Rattle.netlist.specs.Netlist.{Name, Operand, input, gate, constant, Output, 
 use Rattle.netlist.specs.Netlist.{output_count, never_count, gate_of}
 use Rattle.netlist.specs.StoredBlock.{is_node, is_operand, is_well_formed}
 use Rattle.netlist.specs.Names.{is_plain_name}
-use Rattle.netlist.specs.Syntax.{name, GateLine, OutputLine, Pair, print_input, print_pair, print_never, print_gate}
+use Rattle.netlist.specs.Syntax.{GateLine, OutputLine, Pair, print_input, print_pair, print_never, print_gate}
 use Rattle.netlist.specs.Syntax.{print_output}
 use Rattle.netlist.specs.Reading.{line_gates, is_over_limit, Mention, mentions, input_mention, gate_mention, port_mention}
 use Rattle.netlist.specs.Reading.{shown_mention, term_mentions, terms_mentions, operand_mentions, declared_nodes}

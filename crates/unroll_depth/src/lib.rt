@@ -2,6 +2,7 @@
 // over each group its gates need (SPECIFICATION 6.1; one group under one batch: `passes`, `group`, `pairs`), and the
 // lowest setting that may come and is not settled. specs/Counting.antt states what is found.
 #![tactic(auto)]
+
 mod group;
 mod pairs;
 mod passes;

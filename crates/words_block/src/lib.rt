@@ -2,6 +2,7 @@
 // order by gate number (refusal 10)? Each part of a block has its rules in a module: head, names, never lines, gates,
 // outputs. Every operation that takes a block calls `check_words` first. No function reads past the end of the words.
 #![tactic(auto)]
+
 ghost use Rattle.std.specs.Prelude.{◌≡◌, false, not, ◌≤◌, ◌+◌, ◌*◌, length};
 ghost use Rattle.theory_encoding.specs.Rules.{intact};
 ghost use Rattle.netlist.specs.declared.Refusal.TheVariants.{MalformedBlock, NotStraight};

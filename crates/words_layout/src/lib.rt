@@ -2,6 +2,7 @@
 // constants, the table of kinds, masks of inputs and of values, and words of a slice read and filled (SPECIFICATION
 // 1.5, 2, 3.2 and 4.1).
 #![tactic(auto)]
+
 pub mod bytes;
 pub mod fill;
 pub mod kinds;

@@ -1,6 +1,7 @@
 // Refusals: the test of a condition and what an operation answers when it fails, the numbers and details of the table
 // of refusals, and an answer's three numbers for callers in other languages (SPECIFICATION 7.1, 7.2).
 #![tactic(auto)]
+
 ghost use Rattle.std.specs.Prelude.{◌≡◌, ltb};
 ghost use Rattle.netlist.specs.declared.Answer.TheVariants.{Refused};
 ghost use Rattle.netlist.specs.declared.Refusal.TheVariants.{NoRoom};

@@ -1,8 +1,8 @@
-//! A million set lines through target/bin/bench and through the plain program: lines per second of processor time, and the most
+//! A million set lines through the proved bench and through the plain program: lines per second of processor time, and the most
 //! memory that either had. The same for a tenth of the lines, which shows that memory doesn't grow with them.
 
 use simulator::block::Block;
-use simulator::executed::root;
+use simulator::executed::{program, root};
 use simulator::generate::{text, typical, Loops, Random, Size};
 use simulator::{read, write};
 use std::fs::{self, File};
@@ -14,7 +14,7 @@ use std::{env, process};
 const LINES: usize = 1_000_000;
 
 fn main() -> ExitCode {
-    let programs = [root().join("target/bin/bench"), plain_program()];
+    let programs = [program("bench"), plain_program()];
     if let Some(missing) = programs.iter().find(|program| !program.exists()) {
         eprintln!("perf/set-lines: no {}", missing.display());
         return ExitCode::from(2);

@@ -2,7 +2,7 @@
 
 use simulator::compare::tally::Tally;
 use simulator::compare::{cells, foreign, gather, many, programs, seeded, sheet};
-use simulator::executed::root;
+use simulator::executed::{library_folder, root};
 use simulator::generate::Size;
 use std::hash::{DefaultHasher, Hash, Hasher};
 use std::num::NonZero;
@@ -295,7 +295,7 @@ impl All {
 fn kept_in() -> io::Result<PathBuf> {
     let (library, sittings) = match option_env!("UNLOOP_LIBRARY") {
         Some(folder) => (PathBuf::from(folder), PathBuf::from(folder).join("soak")),
-        None => (root().join("target/staticlib"), root().join("target/soak")),
+        None => (library_folder(), root().join("target/soak")),
     };
     let library = fs::read(library.join("libexports.a"))?;
     let mut sum = DefaultHasher::new();

@@ -2,7 +2,7 @@
 //! whatever sizes the system gives them to read, is held by this.
 
 use super::tally::{count_answer, Operation};
-use crate::executed::{ended, root, written_by_the_program};
+use crate::executed::{ended, program, written_by_the_program};
 use crate::generate::{
     about_1024_copies, bench_input, long_bench_inputs, odd_bench_input, over_a_limit, spoiled,
     text, Random, Report, Size,
@@ -40,7 +40,7 @@ fn number(line: &[u8]) -> usize {
 /// The program `bench`, which fails where it takes longer than a minute.
 pub fn bench_program() -> Command {
     let mut command = Command::new("timeout");
-    command.arg("60").arg(root().join("target/bin/bench"));
+    command.arg("60").arg(program("bench"));
     command
 }
 

@@ -1,7 +1,7 @@
 //! The driver where nothing is installed but a stand-in for ABC, or nothing at all.
 
 use crate::session::command;
-use simulator::executed::{ended, root, Scratch};
+use simulator::executed::{ended, program, root, Scratch};
 use std::fs;
 use std::process::{Command, Output};
 
@@ -17,7 +17,7 @@ pub fn run_with(scratch: &Scratch, abc: Option<StandIn>, words: &[&str]) -> Outp
         scratch.put_script(&format!("tools/{name}"), &format!("#!/bin/sh\n{script}"));
     }
     let mut driver = Command::new(root().join("target/driver/release/unloop-files"));
-    driver.arg(root().join("target/bin/unloop")).args(words);
+    driver.arg(program("unloop")).args(words);
     driver
         .current_dir(scratch.path("."))
         .env("PATH", scratch.path("tools"));

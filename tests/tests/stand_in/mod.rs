@@ -7,35 +7,28 @@ use std::path::{Path, PathBuf};
 use std::time::{Duration, SystemTime};
 
 /// The commands that the scripts use.
-const TOOLS: [&str; 29] = [
-    "awk", "bash", "cat", "chmod", "df", "dirname", "env", "find", "flock", "grep", "head", "ln",
-    "mkdir", "mktemp", "mv", "nice", "nproc", "readlink", "renice", "rm", "sed", "sh", "sleep",
-    "sort", "tail", "tee", "touch", "tr", "wc",
+const TOOLS: [&str; 25] = [
+    "awk", "bash", "cat", "chmod", "dirname", "env", "find", "flock", "grep", "head", "ln",
+    "mkdir", "mktemp", "mv", "readlink", "rm", "sed", "sh", "sleep", "sort", "tail", "tee",
+    "touch", "tr", "wc",
 ];
 
-/// Names the kit. Makes its result, a program that writes its input, unless it is up to date, which `rt check` tells by a stamp of its own. It
-/// takes a while, and would take the input too. Notes the jobs, the folder for temporary files, and what is in `out` before the library is made.
-/// A crate that is proved alone, in a folder of its own, it notes elsewhere, when it begins and when it ends.
+/// Names the kit. Called in a crate's folder, notes the call and the crate, and makes its result, a program that writes its input, unless it is there.
+/// It takes a while, and would take the input too. Notes what is in `out` before the library is made.
 const RT: &str = r#"#!/usr/bin/env bash
 if [ "$1" = version ]; then cat "$(dirname "$0")/kit"; exit; fi
-if [ ! -e calls ]; then
-  alone=$(dirname "$0")/../alone
-  echo "begin $2" >> "$alone"; sleep 0.1; echo "end $2" >> "$alone"
-  exit
-fi
-echo "rt $*" >> calls
-echo "$RT_JOBS $TMPDIR" >> room
-[ -z "$TMPDIR" ] || [ -d "$TMPDIR" ] || exit 9
+crate=${PWD##*/}
+cd ../..
+echo "rt $* $crate" >> calls
 cat > eaten
 sleep 0.1
-case "$1 $2" in
-  'check unloop' | 'check bench') result=target/bin/$2 stamp=target/stamp/$2 ;;
-  check*) exit ;;
-  staticlib*) result=target/staticlib/libexports.a stamp=$result; [ ! -e out ] || cat out > out.then ;;
+case "$1 $crate" in
+  'run unloop' | 'run bench') result=crates/$crate/out/$crate ;;
+  'lib exports') result=crates/exports/out/libexports.a; [ ! -e out ] || cat out > out.then ;;
+  *) exit 2 ;;
 esac
-[ -e "$stamp" ] && exit
-mkdir -p "${result%/*}" target/stamp
-touch "$stamp"
+[ -e "$result" ] && exit
+mkdir -p "${result%/*}"
 printf '#!/usr/bin/env bash\ntr -d "\\000"\n' > "$result"
 chmod +x "$result"
 "#;
@@ -56,15 +49,21 @@ chmod +x target/driver/release/unloop-files
 
 /// Six crates, four of which the program needs and three the library.
 const CRATES: &str =
-    "# NAME: what it is built on\nprelude:\nunloop: prelude words netlist io\nnetlist: prelude\n\
-    words: prelude netlist # not in rt's order\nexports: prelude netlist\nbench: prelude\n";
+    "# NAME: what it is built on\nprelude:\nunloop: prelude words netlist\nnetlist: prelude\n\
+    words: prelude netlist # not in rt's order\nexports staticlib: prelude netlist\nbench: prelude\n";
 
 /// A repository with nothing built, its sources two hours old.
 pub fn repository() -> Scratch {
     let scratch = Scratch::new();
     let usage = "rust/src/bin/unloop-files/usage.txt";
     scratch.put("crates.txt", CRATES);
-    for source in ["crates/a/src/lib.rt", "rust/build.rs"] {
+    for source in [
+        "crates/a/src/lib.rt",
+        "crates/unloop/src/main.rt",
+        "crates/exports/src/lib.rt",
+        "crates/bench/src/main.rt",
+        "rust/build.rs",
+    ] {
         scratch.put(source, "");
     }
     for source in ["rust/Cargo.toml", usage] {

@@ -92,9 +92,9 @@ returns-in_default-tested-2 c =
 
 pub check_interface-tested-requires : goal.check_interface-tested-requires
 check_interface-tested-requires c = let t = c in record {
-      ours_value = ours-whole (goal.at.check_interface-tested-requires c).In-Passed;
-      theirs_value = theirs-whole (goal.at.check_interface-tested-requires c).In-Passed-tested;
-    }
+  ours_value = ours-whole (goal.at.check_interface-tested-requires c).In-Passed;
+  theirs_value = theirs-whole (goal.at.check_interface-tested-requires c).In-Passed-tested;
+}
 
 pub returns-in_default-tested-3 : goal.returns-in_default-tested-3
 returns-in_default-tested-3 c =

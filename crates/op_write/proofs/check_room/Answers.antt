@@ -17,9 +17,9 @@ returns-then-room-ge-WRITTEN_BYTES c = let s = c in room-enough s.args.words.now
 
 pub put_block-requires : goal.put_block-requires
 put_block-requires c = let s = c in record {
-      words_bound = few-inputs _ s.requires;
-      short = block-short _ s.requires;
-    }
+  words_bound = few-inputs _ s.requires;
+  short = block-short _ s.requires;
+}
 
 pub returns : goal.returns
 returns c =

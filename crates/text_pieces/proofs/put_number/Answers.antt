@@ -34,21 +34,21 @@ last-two c l = short-rest _ ((let behind_here : (c.args.v < 10000 →
 
 pub put_digit-thousands-requires : goal.put_digit-thousands-requires
 put_digit-thousands-requires c = record {
-      le_unit = omega arith;
-      short = short-first _ (all (goal.at.put_digit-thousands-requires c).Start (omega arith));
-    }
+  le_unit = omega arith;
+  short = short-first _ (all (goal.at.put_digit-thousands-requires c).Start (omega arith));
+}
 
 pub put_digit-hundreds-requires : goal.put_digit-hundreds-requires
 put_digit-hundreds-requires c = record {
-      le_unit = omega arith;
-      short = short-first _ (behind (goal.at.put_digit-hundreds-requires c).After-put_digit-thousands (omega arith));
-    }
+  le_unit = omega arith;
+  short = short-first _ (behind (goal.at.put_digit-hundreds-requires c).After-put_digit-thousands (omega arith));
+}
 
 pub put_digit-tens-requires : goal.put_digit-tens-requires
 put_digit-tens-requires c = record {
-      le_unit = omega arith;
-      short = short-first _ (last-two (goal.at.put_digit-tens-requires c).After-put_digit-hundreds (omega arith));
-    }
+  le_unit = omega arith;
+  short = short-first _ (last-two (goal.at.put_digit-tens-requires c).After-put_digit-hundreds (omega arith));
+}
 
 pub put-requires : goal.put-requires
 put-requires c =

@@ -14,9 +14,9 @@ put_all-opened-requires c = search short-first
 pub put_name-named-requires : goal.put_name-named-requires
 unfolding pair_piece
 put_name-named-requires c = record {
-      from_le_written_room = omega arith;
-      short = search (short-first, short-rest);
-    }
+  from_le_written_room = omega arith;
+  short = search (short-first, short-rest);
+}
 
 pub put-spaced-requires : goal.put-spaced-requires
 unfolding pair_piece

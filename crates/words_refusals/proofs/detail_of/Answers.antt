@@ -22,6 +22,6 @@ unfolding refusal_detail
 returns-in-NotSettled c = sym (ap refusal_detail c.in-NotSettled.is)
 
 pub returns-in_default : goal.returns-in_default
-returns-in_default c = 
+returns-in_default c =
     let d = c.in_default in
     detail-none c.args.why d.not-SyntaxError d.not-DuplicateDeclaration d.not-UndeclaredName d.not-NotSettled

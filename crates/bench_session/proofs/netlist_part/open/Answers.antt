@@ -27,9 +27,12 @@ pub prepare-requires : goal.prepare-requires
 prepare-requires c =
     let start = c in
     let after-count = c in
-    let bare = start.requires.3 in
-    ((read-legal (take c.args.held c.args.text.now) c.args.words.now _ c.requires.1 _
-    c.read.ensures c.in-Done.count _ c.in-Done.is).1, bare.long, bare.empty)
+    let bare = start.requires.3 in (
+      (read-legal (take c.args.held c.args.text.now) c.args.words.now _ c.requires.1 _
+          c.read.ensures c.in-Done.count _ c.in-Done.is).1,
+      bare.long,
+      bare.empty,
+    )
 
 pub returns-in-Refused : goal.returns-in-Refused
 returns-in-Refused c =

@@ -29,12 +29,17 @@ below : (d : After-next_round-end) → d.loop-head.count < d.args.m
 below d =
     let a = d.args in
     let b = network a.m a.graph.now in
-    omega (arith, ((let more_here : (let a = d.args in
-    Rounding a.m a.graph.now a.values.now d.next_round-end.new.values
-    d.next_round-end.new.found
-    d.next_round-end.new.queue d.loop-head.tail d.next_round-end.result (d.loop-head.count + 1)) = let turn = d in
-    rounding-more _ d.requires.0.legal d.loop-head.invariant turn.loop-head-test.true
-    d.next_round-end.ensures in more_here)).reached, rounds-le b (inputs_in a.values.now), network-count a.m a.graph.now)
+    omega (
+      arith,
+      ((let more_here : (let a = d.args in
+          Rounding a.m a.graph.now a.values.now d.next_round-end.new.values
+          d.next_round-end.new.found
+          d.next_round-end.new.queue d.loop-head.tail d.next_round-end.result (d.loop-head.count + 1)) = let turn = d in
+          rounding-more _ d.requires.0.legal d.loop-head.invariant turn.loop-head-test.true
+          d.next_round-end.ensures in more_here)).reached,
+      rounds-le b (inputs_in a.values.now),
+      network-count a.m a.graph.now,
+    )
 
 pub update_all-tail-requires : goal.update_all-tail-requires
 update_all-tail-requires c =

@@ -74,26 +74,26 @@ loop-ones-preserved c =
     let x = c.next_ones-ones.ensures.1 in
     elim c.if-is_left.branch [
       | then-is_left t ↦
-    let e = sym entry ∙ t.if-is_left.true in
-    rw (t.out-is, t.count-is) (record {
-      within = c.next_ones-ones.ensures.0;
-      ends = loop.invariant.ends;
-      reached = reached-add loop.invariant.reached x e;
-      same_length = simp length-set loop.invariant.same_length;
-      words = λ first v.
-          words-add loop.invariant.reached x e (sym (digits_div start.args.first.fixed l))
-          (sym (digits_mod start.args.first.fixed l))
-          (omega (arith, loop.invariant.same_length, start.requires.n_in_bounds)) (loop.invariant.words first v);
-    })
+          let e = sym entry ∙ t.if-is_left.true in
+          rw (t.out-is, t.count-is) (record {
+            within = c.next_ones-ones.ensures.0;
+            ends = loop.invariant.ends;
+            reached = reached-add loop.invariant.reached x e;
+            same_length = simp length-set loop.invariant.same_length;
+            words = λ first v.
+                words-add loop.invariant.reached x e (sym (digits_div start.args.first.fixed l))
+                (sym (digits_mod start.args.first.fixed l))
+                (omega (arith, loop.invariant.same_length, start.requires.n_in_bounds)) (loop.invariant.words first v);
+          })
       | else-is_left t ↦
-    let e = sym entry ∙ t.if-is_left.false in
-    rw (t.out-is, t.count-is) (record {
-      within = c.next_ones-ones.ensures.0;
-      ends = loop.invariant.ends;
-      reached = reached-skip loop.invariant.reached x e;
-      same_length = loop.invariant.same_length;
-      words = λ first v. words-skip loop.invariant.reached x e (loop.invariant.words first v);
-    })
+          let e = sym entry ∙ t.if-is_left.false in
+          rw (t.out-is, t.count-is) (record {
+            within = c.next_ones-ones.ensures.0;
+            ends = loop.invariant.ends;
+            reached = reached-skip loop.invariant.reached x e;
+            same_length = loop.invariant.same_length;
+            words = λ first v. words-skip loop.invariant.reached x e (loop.invariant.words first v);
+          })
     ]
 
 pub shape_of-out : goal.shape_of-out

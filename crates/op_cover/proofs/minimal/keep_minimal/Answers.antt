@@ -22,24 +22,24 @@ loop-k-preserved c =
     let m : loop.k < start.args.size = c.loop-k-test.true in
     elim c.if-sound-k-eq1.branch [
       | then-sound-k-eq1+then-is_minimal w ↦ rw (w.sound-is, w.count-is) (record {
-      within = omega arith;
-      fewer = omega (arith, loop.invariant.fewer);
-      same_length = loop.invariant.same_length;
-      minimal = minimal-stays loop.invariant.minimal w.if-sound-k-eq1.true
-          (sym w.is_minimal.ensures ∙ w.if-is_minimal.true);
-    })
+        within = omega arith;
+        fewer = omega (arith, loop.invariant.fewer);
+        same_length = loop.invariant.same_length;
+        minimal = minimal-stays loop.invariant.minimal w.if-sound-k-eq1.true
+            (sym w.is_minimal.ensures ∙ w.if-is_minimal.true);
+      })
       | then-sound-k-eq1+else-is_minimal w ↦ rw (w.sound-is, w.count-is) (record {
-      within = omega arith;
-      fewer = omega (arith, loop.invariant.fewer);
-      same_length = simp length-set loop.invariant.same_length;
-      minimal = minimal-cleared loop.invariant.minimal l (sym w.is_minimal.ensures ∙ w.if-is_minimal.false);
-    })
+        within = omega arith;
+        fewer = omega (arith, loop.invariant.fewer);
+        same_length = simp length-set loop.invariant.same_length;
+        minimal = minimal-cleared loop.invariant.minimal l (sym w.is_minimal.ensures ∙ w.if-is_minimal.false);
+      })
       | else-sound-k-eq1 w ↦ rw (w.sound-is, w.count-is) (record {
-      within = omega arith;
-      fewer = omega (arith, loop.invariant.fewer);
-      same_length = loop.invariant.same_length;
-      minimal = minimal-unsound loop.invariant.minimal w.if-sound-k-eq1.false;
-    })
+        within = omega arith;
+        fewer = omega (arith, loop.invariant.fewer);
+        same_length = loop.invariant.same_length;
+        minimal = minimal-unsound loop.invariant.minimal w.if-sound-k-eq1.false;
+      })
     ]
 
 pub returns : goal.returns

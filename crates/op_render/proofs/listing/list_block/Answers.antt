@@ -16,6 +16,6 @@ plan_block-requires c = let s = c in (s.requires.whole, s.requires.plan_room)
 
 pub returns : goal.returns
 returns c = let p = c in record {
-      planned = p.plan_block.ensures;
-      listed = c.list_numbered.ensures;
-    }
+  planned = p.plan_block.ensures;
+  listed = c.list_numbered.ensures;
+}

@@ -22,9 +22,13 @@ there c =
     omega (arith, e, c.loop-s.invariant.below)
 
 small : (c : In-loop-s) → c.loop-s.s - 1 < 64
-small c = omega (arith, (let there_here : (c.loop-s.s - 1 < c.args.count) = let a = c.args in
-    let e = length-tab (lane_value a.fixed.now a.ones.now a.i) a.count in
-    omega (arith, e, c.loop-s.invariant.below) in there_here), c.requires.0)
+small c = omega (
+  arith,
+  (let there_here : (c.loop-s.s - 1 < c.args.count) = let a = c.args in
+      let e = length-tab (lane_value a.fixed.now a.ones.now a.i) a.count in
+      omega (arith, e, c.loop-s.invariant.below) in there_here),
+  c.requires.0,
+)
 
 -- the bits that a turn adds
 zero_is : (c : After-zero_bit)

@@ -23,9 +23,13 @@ there c =
     omega (arith, e, c.loop-o.invariant.below)
 
 small : (c : In-loop-o) → c.loop-o.o - 1 < 16
-small c = omega (arith, (let there_here : (c.loop-o.o - 1 < get_or c.args.words.now 2 0) = let a = c.args in
-    let e = length-shown (get_or a.words.now 2 0) a.shown.now a.s in
-    omega (arith, e, c.loop-o.invariant.below) in there_here), (whole_parts c.args.words.now c.requires.0).few_outputs)
+small c = omega (
+  arith,
+  (let there_here : (c.loop-o.o - 1 < get_or c.args.words.now 2 0) = let a = c.args in
+      let e = length-shown (get_or a.words.now 2 0) a.shown.now a.s in
+      omega (arith, e, c.loop-o.invariant.below) in there_here),
+  (whole_parts c.args.words.now c.requires.0).few_outputs,
+)
 
 -- the bits that a turn adds
 defined-is : (c : After-defined_bit)

@@ -12,9 +12,9 @@ put_all-opened-requires c = search short-first
 pub put_name-named-requires : goal.put_name-named-requires
 unfolding input_text
 put_name-named-requires c = record {
-      from_le_written_room = omega arith;
-      short = search (short-first, short-rest);
-    }
+  from_le_written_room = omega arith;
+  short = search (short-first, short-rest);
+}
 
 pub put_all-requires : goal.put_all-requires
 unfolding input_text

@@ -28,10 +28,10 @@ next-within c =
       c.next_line-end.ensures,
       next-inside c.args.letter c.args.text.now c.loop-end.end
           ((let there_here : (let l = c in
-    lettered l.args.letter (drop l.loop-end.end l.args.text.now) ≡ true) = let l = c in
-    let s = l in
-    letter-there s.args.letter s.args.text.now l.loop-end.end s.requires.some c.byte_at.ensures
-    c.loop-end-test.true in there_here)),
+          lettered l.args.letter (drop l.loop-end.end l.args.text.now) ≡ true) = let l = c in
+          let s = l in
+          letter-there s.args.letter s.args.text.now l.loop-end.end s.requires.some c.byte_at.ensures
+          c.loop-end-test.true in there_here)),
     )
 
 next-behind : (c : After-next_line-end) → c.loop-end.end + 1 ≤ c.next_line-end.result
@@ -41,10 +41,10 @@ next-behind c =
       c.next_line-end.ensures,
       next-further c.args.letter c.args.text.now c.loop-end.end
           ((let there_here : (let l = c in
-    lettered l.args.letter (drop l.loop-end.end l.args.text.now) ≡ true) = let l = c in
-    let s = l in
-    letter-there s.args.letter s.args.text.now l.loop-end.end s.requires.some c.byte_at.ensures
-    c.loop-end-test.true in there_here)),
+          lettered l.args.letter (drop l.loop-end.end l.args.text.now) ≡ true) = let l = c in
+          let s = l in
+          letter-there s.args.letter s.args.text.now l.loop-end.end s.requires.some c.byte_at.ensures
+          c.loop-end-test.true in there_here)),
     )
 
 pub loop-end-init : goal.loop-end-init

@@ -90,6 +90,6 @@ returns-after-loop-group c =
 
 pub lowest_with-lowest-requires : goal.lowest_with-lowest-requires
 lowest_with-lowest-requires c = let p = c.requires in record {
-      judged = (p.held.judged, p.lowest);
-      words_bound = p.held.settings;
-    }
+  judged = (p.held.judged, p.lowest);
+  words_bound = p.held.settings;
+}

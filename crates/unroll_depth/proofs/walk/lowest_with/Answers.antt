@@ -27,9 +27,13 @@ settings-are c =
 -- none is known, and what the batch tells
 unknown : (c : Else-lowest-setting_count) → let k = c in
     setting_count (decode k.args.words.now) ≤ k.args.lowest
-unknown c = omega (arith, (let settings-are_here : (c.setting_count.result ≡ setting_count (decode c.args.words.now)) = let ws = c.args.words.now in
-    setting-count (decode ws) c.inputs_of-n.result c.setting_count.result
-    (c.inputs_of-n.ensures ∙ sym (decode-input_count ws)) c.setting_count.ensures in settings-are_here), c.if-lowest-setting_count.false)
+unknown c = omega (
+  arith,
+  (let settings-are_here : (c.setting_count.result ≡ setting_count (decode c.args.words.now)) = let ws = c.args.words.now in
+      setting-count (decode ws) c.inputs_of-n.result c.setting_count.result
+      (c.inputs_of-n.ensures ∙ sym (decode-input_count ws)) c.setting_count.ensures in settings-are_here),
+  c.if-lowest-setting_count.false,
+)
 
 told : (c : After-unsound_lanes-unsound) → let s = c in
     Tells (lanes_of (get_or s.args.words.now 0 0)) s.args.base (is_unsound (decode s.args.words.now))

@@ -6,6 +6,6 @@ use Rattle.unroll_emission.proofs.rendered.copy_gate.Goals as goal
 
 pub returns : goal.returns
 returns c = record {
-      out_after = c.write_gate.ensures;
-      newest_after = refl;
-    }
+  out_after = c.write_gate.ensures;
+  newest_after = refl;
+}

@@ -34,6 +34,6 @@ overflow_add-at-2 c = omega (arith, place-j (goal.at.overflow_add-at-2 c).Start)
 
 pub is_same-requires : goal.is_same-requires
 is_same-requires c = record {
-      at_le_max_word = place-i (goal.at.is_same-requires c).Start;
-      other_le_max_word = place-j (goal.at.is_same-requires c).Start;
-    }
+  at_le_max_word = place-i (goal.at.is_same-requires c).Start;
+  other_le_max_word = place-j (goal.at.is_same-requires c).Start;
+}
