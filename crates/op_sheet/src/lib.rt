@@ -1,7 +1,7 @@
 // Sheet (SPECIFICATION 7.12): many settings in one call, a record each. Here are the call's reply and its turns, on
 // numbers and arrays: a turn reads a record or answers one, and up to 64 records are settled side by side in lanes
 // (`records`, `inputs`, `settling`, `outputs`). The function over the caller's records is the C function in
-// crates/exports, whose proof goes step by step by hand.
+// crates/exports.
 #![tactic(auto)]
 
 ghost use Rattle.netlist.specs.Answers.{answer_of, Shows};
