@@ -178,7 +178,9 @@ pub struct Report<F: Fn() -> String>(pub F);
 impl<F: Fn() -> String> Drop for Report<F> {
     fn drop(&mut self) {
         if std::thread::panicking() {
-            eprintln!("failed: {}", self.0());
+            // One string is one write, which what other threads print of their panics doesn't break up.
+            let line = format!("failed: {}\n", self.0());
+            eprint!("{line}");
         }
     }
 }

@@ -1,6 +1,6 @@
 // The program `bench`: moves bytes from standard input to `bench_session`, and the answers to standard output. What is
 // there is read and answered at once, so that it serves a terminal and a pipe. A proved loop has to end, and nothing
-// says that the input does: the loop over reads counts down from a number that no run uses up.
+// says that the input does: the loop over reads counts up to a number that no run reaches.
 #![tactic(auto)]
 
 ghost use Rattle.std.specs.Prelude.{◌≤◌, length};
@@ -37,6 +37,7 @@ fn serve_piece(
 {
     let mut state = state;
     let mut at = 0;
+    // Each turn goes on behind what the last answer took, so that no range counts the turns.
     while at < piece.len() {
         let fed = feed(state, &piece[at..], text, words, graph, fanout, line, out);
         io::write_all(1, &out[..fed.written]);
@@ -97,13 +98,12 @@ fn serve(
     requires { SessionRoom text.old words.old line.old out.old × Unprepared graph.old fanout.old }
 {
     let mut state = start();
-    let mut more = true;
-    let mut turns = u64::MAX;
-    while turns > 0 && more {
+    for _ in 0..u64::MAX {
         let served = serve_some(input, state, text, words, graph, fanout, line, out);
         state = served.state;
-        more = served.more;
-        turns -= 1;
+        if !served.more {
+            break;
+        }
     }
     let written = finish(state, text, words, graph, fanout, line, out);
     io::write_all(1, &out[..written]);

@@ -7,8 +7,9 @@ use native.Mathlib.Omega.{arith}
 use lib.ListN.{length, length-append}
 use Rattle.prelude.specs.Lists.{ascii, all, joined}
 use Rattle.netlist.specs.declared.Refusal.{Refusal}
-use Rattle.netlist.specs.declared.Answer.{Answer}
-use Rattle.netlist.specs.declared.Answer.TheVariants.{Done, Refused}
+use Rattle.netlist.specs.declared.Done.{Done}
+use Rattle.netlist.specs.Answers.{Answer}
+use Rattle.std.specs.declared.result.Result.TheVariants.{Ok, Err}
 use Rattle.netlist.specs.Limits.{max_name}
 use Rattle.netlist.specs.Values.{Value, undefined, val}
 use Rattle.netlist.specs.Netlist.{Output, Block, input_count}
@@ -98,13 +99,13 @@ module _ (ws line : List ℕ) (whole : is_malformed ws ≡ false) (entry exit : 
   unfolding o
   told = rw (answer-is ws line whole (length entry) enough) at p
 
-  pub line_refused : (why : Refusal) (final : List ℕ) (n : ℕ) → a ≡ Refused why → Shown (refused why) exit final n
+  pub line_refused : (why : Refusal) (final : List ℕ) (n : ℕ) → a ≡ Err why → Shown (refused why) exit final n
       → AnswerWritten (line_answer (decode ws) line) final n
   unfolding o line_answer
   line_refused why final n e s =
       shown-written (shown-refused o why entry exit final n (told-refused o a entry exit fits told why e)
       (kept-refused o a entry exit fits told why e) s)
 
-  pub line-done : (count detail : ℕ) → a ≡ Done count detail → AnswerWritten (line_answer (decode ws) line) exit count
+  pub line-done : (d : Done) → a ≡ Ok d → AnswerWritten (line_answer (decode ws) line) exit d.count
   unfolding o line_answer
-  line-done count detail e = shown-written (shown-gave (told-done o a entry exit fits told count detail e))
+  line-done d e = shown-written (shown-gave (told-done o a entry exit fits told d e))

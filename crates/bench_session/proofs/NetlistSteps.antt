@@ -13,8 +13,9 @@ use lib.Dec.{eqb}
 use borrow.Author.Tests.{lt-ltb, le-ltb}
 use Rattle.netlist.specs.declared.Refusal.{Refusal}
 use Rattle.netlist.specs.declared.Refusal.TheVariants.{TextTooLong}
-use Rattle.netlist.specs.declared.Answer.{Answer}
-use Rattle.netlist.specs.declared.Answer.TheVariants.{Done, Refused}
+use Rattle.netlist.specs.declared.Done.{Done}
+use Rattle.netlist.specs.Answers.{Answer}
+use Rattle.std.specs.declared.result.Result.TheVariants.{Ok, Err}
 use Rattle.netlist.specs.Limits.{max_text, max_block}
 use Rattle.netlist.specs.StoredBlock.{is_malformed}
 use Rattle.netlist.specs.Line.{lf}
@@ -37,15 +38,15 @@ use Rattle.bench_session.proofs.Written.{shown-written, nothing_written}
 
 module _ (t entry exit : List ℕ) (room : max_block ≤ length entry) (a : Answer)
     (p : Promise (read t (length entry)) entry a exit) where
-  is-refused : (why : Refusal) → a ≡ Refused why → read_text t ≡ refused why
+  is-refused : (why : Refusal) → a ≡ Err why → read_text t ≡ refused why
   unfolding read
   is-refused why e = told-refused (read_text t) a entry exit (read_fits (length entry) room t) p why e
 
-  is-done : (count detail : ℕ) → a ≡ Done count detail → Gave (read_text t) entry exit count detail
+  is-done : (d : Done) → a ≡ Ok d → Gave (read_text t) entry exit d.count d.detail
   unfolding read
-  is-done count detail e = told-done (read_text t) a entry exit (read_fits (length entry) room t) p count detail e
+  is-done d e = told-done (read_text t) a entry exit (read_fits (length entry) room t) p d e
 
-  pub read-refused : (why : Refusal) → a ≡ Refused why → (text graph fanout line out final : List ℕ) (n : ℕ)
+  pub read-refused : (why : Refusal) → a ≡ Err why → (text graph fanout line out final : List ℕ) (n : ℕ)
       → Shown (refused why) out final n
       → SessionStepped (opened (read_text t)) Ended text exit graph fanout line final n
   unfolding opened run_of Sound shown
@@ -53,20 +54,19 @@ module _ (t entry exit : List ℕ) (room : max_block ≤ length entry) (a : Answ
       rw (is-refused why e) (record { sound = tt; next = refl; output = shown-written s })
 
   -- the block that was read is not malformed
-  pub read-legal : (count detail : ℕ) → a ≡ Done count detail
-      → (count ≤ length exit) × (is_malformed (take count exit) ≡ false)
-  read-legal count detail e =
-      let g = is-done count detail e in (gave-within g, rw g.front (read_whole t g.result count detail g.is))
+  pub read-legal : (d : Done) → a ≡ Ok d → (d.count ≤ length exit) × (is_malformed (take d.count exit) ≡ false)
+  read-legal d e =
+      let g = is-done d e in (gave-within g, rw g.front (read_whole t g.result d.count d.detail g.is))
 
-  pub read_done : (count detail : ℕ) → a ≡ Done count detail → (text graph fanout line out : List ℕ)
-      → PreparedFor (take count exit) graph fanout
-      → SessionStepped (opened (read_text t)) (Lines count 0) text exit graph fanout line out 0
+  pub read_done : (d : Done) → a ≡ Ok d → (text graph fanout line out : List ℕ)
+      → PreparedFor (take d.count exit) graph fanout
+      → SessionStepped (opened (read_text t)) (Lines d.count 0) text exit graph fanout line out 0
   unfolding opened run_of Sound
-  read_done count detail e text graph fanout line out prepared =
-      let g = is-done count detail e in
+  read_done d e text graph fanout line out prepared =
+      let g = is-done d e in
       rw g.is
       (record {
-        sound = (omega arith, (read-legal count detail e).0, (read-legal count detail e).1, prepared);
+        sound = (omega arith, (read-legal d e).0, (read-legal d e).1, prepared);
         next = ap (λ (ws : List ℕ). in_lines ws []) g.front;
         output = nothing_written out;
       })

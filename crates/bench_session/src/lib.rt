@@ -7,7 +7,7 @@
 ghost use Rattle.bench_session.specs.Runs.{turn, ending};
 ghost use Rattle.bench_session.specs.Session.{run_of, SessionReady, AnswerWritten, SessionStepped, Advanced};
 
-use crate::line_part::{end_line, line_byte};
+use crate::line_part::{Prepared, end_line, line_byte};
 use crate::netlist_part::{end_netlist, netlist_byte};
 use crate::state::{Fed, State};
 use graph_gates::GRAPH_WORDS;
@@ -25,7 +25,7 @@ pub struct Progress {
     pub written: usize,
 }
 
-// Feeds one byte of input.
+// Feeds one byte of input. A struct of the lent buffers would be no plainer: its contract has to say that each is kept.
 fn feed_byte(
     state: State,
     byte: u8,
@@ -49,7 +49,15 @@ fn feed_byte(
         State::Lines {
             words: count,
             length,
-        } => line_byte(count, length, byte, words, graph, fanout, line, out),
+        } => {
+            let block = Prepared {
+                count,
+                words,
+                graph,
+                fanout,
+            };
+            line_byte(block, length, byte, line, out)
+        }
         State::Ended => Fed {
             state: State::Ended,
             written: 0,
@@ -78,6 +86,7 @@ pub fn feed(
     let mut state = state;
     let mut taken = 0;
     let mut written = 0;
+    // How many bytes were taken is part of the answer, so a range would be no plainer.
     while taken < piece.len() && written == 0 {
         let fed = feed_byte(state, piece[taken], text, words, graph, fanout, line, out);
         state = fed.state;
@@ -110,7 +119,15 @@ pub fn finish(
         State::Lines {
             words: count,
             length,
-        } => end_line(count, length, words, graph, fanout, line, out),
+        } => {
+            let block = Prepared {
+                count,
+                words,
+                graph,
+                fanout,
+            };
+            end_line(block, length, line, out)
+        }
         State::Ended => 0,
     }
 }

@@ -12,26 +12,30 @@ use bench_set_line::answer_line;
 use graph_gates::GRAPH_WORDS;
 use graph_gates::fanout::FANOUT_WORDS;
 use graph_simulation::table::gate_table;
-use netlist::Answer;
 use text_pieces::refusal_line::tell;
 
+// A block that is prepared: the first `count` of `words`, with its graph and its fan-out.
+#[derive(Clone, Copy)]
+pub struct Prepared<'a> {
+    pub count: usize,
+    pub words: &'a [u16],
+    pub graph: &'a [u16; GRAPH_WORDS],
+    pub fanout: &'a [u16; FANOUT_WORDS],
+}
+
 // Answers the line that is held.
-fn answer(
-    words: &[u16],
-    graph: &[u16; GRAPH_WORDS],
-    fanout: &[u16; FANOUT_WORDS],
-    line: &[u8],
-    out: &mut [u8],
-) -> usize
-    requires { (is_malformed words.now ≡ false) × PreparedFor words.now graph.now fanout.now
+fn answer(block: Prepared<'_>, line: &[u8], out: &mut [u8]) -> usize
+    requires { (block.count ≤ length block.words.now) × (is_malformed (take block.count block.words.now) ≡ false)
+        × PreparedFor (take block.count block.words.now) block.graph.now block.fanout.now
         × (max_answer ≤ length out.old) }
-    ensures { AnswerWritten (line_answer (decode words.now) line.now) out.new
+    ensures { AnswerWritten (line_answer (decode (take block.entry.count block.entry.words.now)) line.now) out.new
         result }
 {
     let table = gate_table();
-    match answer_line(words, &table, graph, fanout, line, out) {
-        Answer::Refused(why) => tell(why, out),
-        Answer::Done { count, detail: _ } => count,
+    let words = &block.words[..block.count];
+    match answer_line(words, &table, block.graph, block.fanout, line, out) {
+        Err(why) => tell(why, out),
+        Ok(done) => done.count,
     }
 }
 
@@ -48,37 +52,28 @@ fn hold(line: &mut [u8], held: usize, byte: u8) -> usize
 }
 
 // Takes one byte of a line.
-pub fn line_byte(
-    count: usize,
-    held: usize,
-    byte: u8,
-    words: &[u16],
-    graph: &[u16; GRAPH_WORDS],
-    fanout: &[u16; FANOUT_WORDS],
-    line: &mut [u8],
-    out: &mut [u8],
-) -> Fed
-    requires { LineRoom count held words.now graph.now fanout.now line.old out.old }
+pub fn line_byte(block: Prepared<'_>, held: usize, byte: u8, line: &mut [u8], out: &mut [u8]) -> Fed
+    requires { LineRoom block.count held block.words.now block.graph.now block.fanout.now line.old out.old }
     ensures { (text : List ℕ)
-        → SessionStepped (turn (in_lines (take count words.now) (take held line.old)) byte)
+        → SessionStepped (turn (in_lines (take block.entry.count block.entry.words.now) (take held line.old)) byte)
         result.state text
-        words.now graph.now fanout.now line.new out.new
+        block.entry.words.now block.entry.graph.now block.entry.fanout.now line.new out.new
         result.written }
 {
     let kept = hold(line, held, byte);
     if byte != b'\n' {
         return Fed {
             state: State::Lines {
-                words: count,
+                words: block.count,
                 length: kept,
             },
             written: 0,
         };
     }
-    let written = answer(&words[..count], graph, fanout, &line[..kept], out);
+    let written = answer(block, &line[..kept], out);
     Fed {
         state: State::Lines {
-            words: count,
+            words: block.count,
             length: 0,
         },
         written,
@@ -86,21 +81,13 @@ pub fn line_byte(
 }
 
 // Ends the input inside a line: it is answered unless it is empty.
-pub fn end_line(
-    count: usize,
-    held: usize,
-    words: &[u16],
-    graph: &[u16; GRAPH_WORDS],
-    fanout: &[u16; FANOUT_WORDS],
-    line: &[u8],
-    out: &mut [u8],
-) -> usize
-    requires { LineRoom count held words.now graph.now fanout.now line.now out.old }
-    ensures { AnswerWritten (line_answers (decode (take count words.now))
+pub fn end_line(block: Prepared<'_>, held: usize, line: &[u8], out: &mut [u8]) -> usize
+    requires { LineRoom block.count held block.words.now block.graph.now block.fanout.now line.now out.old }
+    ensures { AnswerWritten (line_answers (decode (take block.entry.count block.entry.words.now))
         (last_line (take held line.now))) out.new result }
 {
     if held == 0 {
         return 0;
     }
-    answer(&words[..count], graph, fanout, &line[..held], out)
+    answer(block, &line[..held], out)
 }

@@ -10,7 +10,7 @@ use crate::state::{Fed, State};
 use graph_gates::GRAPH_WORDS;
 use graph_gates::fanout::FANOUT_WORDS;
 use graph_simulation::round::prepare;
-use netlist::{Answer, Refusal};
+use netlist::Refusal;
 use op_read::read;
 use text_pieces::refusal_line::tell;
 use words_layout::limits::MAX_TEXT;
@@ -31,14 +31,15 @@ fn open(
         words.new graph.new fanout.new line out.new result.written }
 {
     match read(&text[..held], words) {
-        Answer::Refused(why) => {
+        Err(why) => {
             let written = tell(why, out);
             Fed {
                 state: State::Ended,
                 written,
             }
         }
-        Answer::Done { count, detail: _ } => {
+        Ok(done) => {
+            let count = done.count;
             prepare(&words[..count], graph, fanout);
             Fed {
                 state: State::Lines {

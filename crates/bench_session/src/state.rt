@@ -44,9 +44,5 @@ pub fn start() -> State
 pub fn is_over(state: State) -> bool
     ensures { result ≡ has_ended state }
 {
-    if let State::Ended = state {
-        true
-    } else {
-        false
-    }
+    matches!(state, State::Ended)
 }

@@ -1,24 +1,22 @@
 -- Set lines: one law for each way through the code that reads them. Assumes nothing.
 use mathlib.Core.Path.{◌≡◌, refl, sym, ap, ◌∙◌}
 use mathlib.Core.List.{List, [], ◌∷◌}
-use Prim.Native.Nat.{ℕ, suc, ◌-◌, ◌≤◌}
+use Prim.Native.Nat.{ℕ, suc, ◌-◌}
 use native.Mathlib.Nat.{le_refl}
 use native.Mathlib.Omega.{arith}
 use lib.ListN.{length}
+use Rattle.std.specs.Prelude.{Result, Ok, Err}
 use Rattle.prelude.specs.Lists.{ascii}
 use Rattle.netlist.specs.Parse.{Parsed, Reader, got, stuck, expect, nothing_behind, bind, pairs_reader}
 use Rattle.netlist.specs.Syntax.{Pair}
 use Rattle.netlist.specs.SetLine.{set_line_reader}
 use Rattle.netlist.specs.declared.Refusal.TheVariants.{SyntaxError}
-use Rattle.words_refusals.specs.declared.Test.TheVariants.{Passed, Failed}
 use Rattle.words_refusals.specs.Tests.{test_at}
-use Rattle.text_recogniser.specs.declared.scan.Scan.{Scan}
-use Rattle.text_recogniser.specs.declared.scan.Scan.TheVariants.{Next, Bad}
-use Rattle.text_recogniser.specs.Readers.{scan_of, scan_behind, last_ones, bad_of, word_reader}
+use Rattle.text_recogniser.specs.Readers.{scan_of, last_ones, bad_of, word_reader}
 use Rattle.text_recogniser.proofs.ListFacts.{length_last}
-use Rattle.text_recogniser.proofs.Shortens.{Leaves, tail-refl, Shortens, shortens-expect, shortens-bind}
-use Rattle.text_recogniser.proofs.Continues.{continues-bind, continues-word, continues-same}
-use Rattle.text_recogniser.proofs.Chain.{Then, word-then, At}
+use Rattle.text_recogniser.proofs.Shortens.{Leaves, tail-refl, Shortens, shortens-expect, shortens-bind, shortens-word}
+use Rattle.text_recogniser.proofs.Continues.{continues-bind, continues-word, continues-same, left-short}
+use Rattle.text_recogniser.proofs.Chain.{Then, word-then, goes-on}
 use Rattle.text_recogniser.proofs.PairSteps.{shortens-pairs}
 use Rattle.bench_set_line.specs.Line.{first_bad_in_set_line}
 
@@ -34,28 +32,24 @@ nothing-scan : {A B : Type 0} (a : A) (b : B) (t : List ℕ) → scan_of (nothin
 nothing-scan a b [] = refl
 nothing-scan a b (c ∷ t) = refl
 
-nothing_left : (t : List ℕ) (n : ℕ) → length t ≡ n → n ≡ 0 → scan_of {A = ℕ} (nothing_behind 0 t) ≡ Next 0
+nothing_left : (t : List ℕ) (n : ℕ) → length t ≡ n → n ≡ 0 → scan_of {A = ℕ} (nothing_behind 0 t) ≡ Ok 0
 nothing_left [] n e z = refl
 nothing_left (c ∷ t) n e z = absurd (omega arith)
 
-something-left : (t : List ℕ) (n : ℕ) → length t ≡ n → (n ≡ 0 → ⊥) → scan_of {A = ℕ} (nothing_behind 0 t) ≡ Bad n
+something-left : (t : List ℕ) (n : ℕ) → length t ≡ n → (n ≡ 0 → ⊥) → scan_of {A = ℕ} (nothing_behind 0 t) ≡ Err n
 something-left [] n e z = absurd (z (sym e))
-something-left (c ∷ t) n e z = ap Bad e
+something-left (c ∷ t) n e z = ap Err e
 
 -- behind the LF: nothing is left, or something
-module _ {answer : Scan} {s : List ℕ} {x : Scan} (a : At answer s x (nothing_behind {A = ℕ} 0)) {n : ℕ}
-    (e : x ≡ Next n) where
-  pub line-over : n ≡ 0 → Next 0 ≡ answer
-  line-over z =
-      sym
-      (a.is-rest ∙ ap (scan_behind (nothing_behind {A = ℕ} 0) s) e
-      ∙ nothing_left (last_ones n s) n (length_last n s (omega arith)) z)
+module _ (s : List ℕ) {n : ℕ} (e : Ok n ≡ scan_of (word_reader (ascii "\n") s)) where
+  rest-length : length (last_ones n s) ≡ n
+  rest-length = length_last n s (left-short (shortens-word (ascii "\n")) s e)
 
-  pub line-goes-on : n ≤ length s → (n ≡ 0 → ⊥) → Bad n ≡ answer
-  line-goes-on h z =
-      sym
-      (a.is-rest ∙ ap (scan_behind (nothing_behind {A = ℕ} 0) s) e
-      ∙ something-left (last_ones n s) n (length_last n s h) z)
+  pub line-over : n ≡ 0 → scan_of (line_last s) ≡ Ok 0
+  line-over z = goes-on last_word s e refl ∙ nothing_left (last_ones n s) n rest-length z
+
+  pub line-goes-on : (n ≡ 0 → ⊥) → scan_of (line_last s) ≡ Err n
+  line-goes-on z = goes-on last_word s e refl ∙ something-left (last_ones n s) n rest-length z
 
 module _ (most : ℕ) where
   -- behind `(set`
@@ -75,22 +69,22 @@ module _ (most : ℕ) where
     shorter = shortens-pairs most 0;
   }
 
-  pub line-passed : (line : List ℕ) {r : Scan} {n : ℕ} → r ≡ scan_of (set_line_reader most line) → r ≡ Next n
-      → Passed ≡ test_at (first_bad_in_set_line most line) SyntaxError
+  pub line-passed : (line : List ℕ) {r : Result ℕ ℕ} {n : ℕ} → r ≡ scan_of (set_line_reader most line) → r ≡ Ok n
+      → Ok tt ≡ test_at (first_bad_in_set_line most line) SyntaxError
   unfolding first_bad_in_set_line test_at
   line-passed line {r} {n} e g = go (set_line_reader most line) (sym g ∙ e)
     where
-      go : (p : Parsed (List Pair)) → Next n ≡ scan_of p → Passed ≡ test_at (bad_of line p) SyntaxError
+      go : (p : Parsed (List Pair)) → Ok n ≡ scan_of p → Ok tt ≡ test_at (bad_of line p) SyntaxError
       go (got ps rest) h = refl
       go (stuck left) h = let z : ◌≡◌ {A = ℕ} 0 1 = cc in absurd (omega arith)
 
-  pub line-failed : (line : List ℕ) {r : Scan} {n : ℕ} → r ≡ scan_of (set_line_reader most line) → r ≡ Bad n
-      → Failed (SyntaxError (length line - n)) ≡ test_at (first_bad_in_set_line most line) SyntaxError
+  pub line-failed : (line : List ℕ) {r : Result ℕ ℕ} {n : ℕ} → r ≡ scan_of (set_line_reader most line) → r ≡ Err n
+      → Err (SyntaxError (length line - n)) ≡ test_at (first_bad_in_set_line most line) SyntaxError
   unfolding first_bad_in_set_line test_at
   line-failed line {r} {n} e g = go (set_line_reader most line) (sym g ∙ e)
     where
-      go : (p : Parsed (List Pair)) → Bad n ≡ scan_of p
-          → Failed (SyntaxError (length line - n)) ≡ test_at (bad_of line p) SyntaxError
+      go : (p : Parsed (List Pair)) → Err n ≡ scan_of p
+          → Err (SyntaxError (length line - n)) ≡ test_at (bad_of line p) SyntaxError
       go (got ps rest) h = let z : ◌≡◌ {A = ℕ} 0 1 = cc in absurd (omega arith)
       go (stuck left) h = let f : n ≡ left = cc in rw f
 

@@ -2,12 +2,13 @@
 use Prim.Native.Nat.{ℕ}
 use mathlib.Core.Path.{◌≡◌, refl, sym, ap, ◌∙◌}
 use mathlib.Core.Bool.{false}
-use mathlib.Core.List.{List, [], ◌∷◌}
+use mathlib.Core.List.{List, []}
 use mathlib.Core.Option.{Option, none, some}
 use native.Mathlib.Omega.{arith}
-use types.Run.{miss}
 use lib.ListN.{length, get_or}
 use lib.Dec.{ltb}
+use Rattle.netlist.specs.declared.Refusal.{Refusal}
+use Rattle.std.specs.Result.{IsErrAnd}
 use Rattle.netlist.specs.declared.Refusal.TheVariants.{SyntaxError, DuplicateDeclaration, UndeclaredName}
 use Rattle.netlist.specs.declared.Refusal.TheVariants.{MalformedBlock, NoRoom}
 use Rattle.netlist.specs.Netlist.{Block}
@@ -15,7 +16,7 @@ use Rattle.netlist.specs.StoredBlock.{decode, is_malformed}
 use Rattle.netlist.specs.Parse.{Parsed, got, stuck}
 use Rattle.netlist.specs.Reading.{first_repeat, first_outside}
 use Rattle.netlist.specs.Answers.{Outcome, done, refused, refuse_if, refuse_at, in_room, Promise}
-use Rattle.netlist.specs.declared.Answer.{Answer}
+use Rattle.netlist.specs.Answers.{Answer}
 use Rattle.netlist.specs.Operations.{counted}
 use Rattle.netlist.specs.Syntax.{Pair}
 use Rattle.netlist.specs.SetLine.{set_line_reader}
@@ -24,10 +25,10 @@ use Rattle.theory_encoding.proofs.Decoded.{decode-input_count}
 use Rattle.theory_grammar.proofs.SetLines.{set_line-sound}
 use Rattle.text_recogniser.specs.Readers.{bad_of}
 use Rattle.bench_set_line.specs.Line.{first_bad_in_set_line}
-use Rattle.words_refusals.specs.declared.Test.{Test}
-use Rattle.words_refusals.specs.declared.Test.TheVariants.{Passed, Failed}
-use Rattle.words_refusals.specs.Tests.{test_at, refusal_of}
-use Rattle.words_refusals.proofs.Promised.{IsFailed, failed-at, keeps-room}
+use Rattle.words_refusals.specs.Tests.{Test}
+use Rattle.std.specs.declared.result.Result.TheVariants.{Ok, Err}
+use Rattle.words_refusals.specs.Tests.{test_at}
+use Rattle.words_refusals.proofs.Promised.{IsFailed, not-err, residual, failed-at, keeps-room}
 use Rattle.bench_set_line.specs.Tables.{LineFor, then_test, pairs_test, LineRead}
 use Rattle.graph_simulation.specs.Rounded.{Starting}
 
@@ -73,14 +74,6 @@ in-form ws line whole h = go (set_line_reader (get_or ws 0 0) line) refl h
         }
     go (stuck left) e h = let z : ◌≡◌ {A = ℕ} 0 1 = cc in absurd (omega arith)
 
--- the conditions on the pairs
-pub pairs-chain : (b : Block) (ps : List Pair) (room : ℕ) → in_room room (pairs_outcome b ps) ≡ in_room room
-    (refuse_at (first_repeat [] (given_names ps)) DuplicateDeclaration
-    (refuse_at (first_outside b.inputs (given_names ps)) UndeclaredName
-    (counted (show_line b (given_values b ps)))))
-unfolding pairs_outcome
-pairs-chain b ps room = refl
-
 -- 11 is the last condition
 pub show-room : (s : List ℕ) (room : ℕ)
     → in_room room (counted s) ≡ refuse_if (ltb room (length s)) NoRoom (done s (length s) 0)
@@ -88,7 +81,7 @@ unfolding counted in_room
 show-room s room = refl
 
 -- the same by the two tests together
-pub pairs-passed : (b : Block) (ps : List Pair) (room : ℕ) {t : Test} → t ≡ pairs_test b ps → t ≡ Passed
+pub pairs-passed : (b : Block) (ps : List Pair) (room : ℕ) {t : Test} → t ≡ pairs_test b ps → t ≡ Ok tt
     → in_room room (pairs_outcome b ps) ≡ in_room room (counted (show_line b (given_values b ps)))
 unfolding pairs_outcome pairs_test then_test test_at refuse_at
 pairs-passed b ps room {t} told passes =
@@ -97,17 +90,18 @@ pairs-passed b ps room {t} told passes =
     o : Outcome
     o = counted (show_line b (given_values b ps))
 
-    go : (p q : Option ℕ) → then_test (test_at p DuplicateDeclaration) (test_at q UndeclaredName) ≡ Passed
+    go : (p q : Option ℕ) → then_test (test_at p DuplicateDeclaration) (test_at q UndeclaredName) ≡ Ok tt
         → in_room room (refuse_at p DuplicateDeclaration (refuse_at q UndeclaredName o)) ≡ in_room room o
     go none none e = refl
     go none (some place) e = let z : ◌≡◌ {A = ℕ} 0 1 = cc in absurd (omega arith)
     go (some place) q e = let z : ◌≡◌ {A = ℕ} 0 1 = cc in absurd (omega arith)
 
-pub pairs-failed : (b : Block) (ps : List Pair) (room : ℕ) {t : Test} {r : Answer} (entry : List ℕ) → t ≡ pairs_test b ps
-    → IsFailed t → r ≡ refusal_of t
+pub pairs-failed : (b : Block) (ps : List Pair) (room : ℕ) {t : Test} {why : Refusal} {r : Answer} (entry : List ℕ)
+    → t ≡ pairs_test b ps
+    → t ≡ Err why → IsErrAnd r (λ e. e ≡ why)
     → Promise (in_room room (pairs_outcome b ps)) entry r entry
 unfolding pairs_outcome pairs_test then_test test_at refuse_at
-pairs-failed b ps room {t} {r} entry told fails is =
+pairs-failed b ps room {t} {r = r} entry told fails is =
     go (first_repeat [] (given_names ps)) (first_outside b.inputs (given_names ps)) told
   where
     o : Outcome
@@ -130,34 +124,37 @@ module _ (ws : List ℕ) (ps : List Pair) (values : List ℕ) where
 
   then-failed : (t : Test) → IsFailed t → t ≡ then_test t unknown
   unfolding then_test
-  then-failed Passed k = absurd (k refl)
-  then-failed (Failed why) k = refl
+  then-failed (Ok u) k = absurd (k refl)
+  then-failed (Err why) k = refl
 
-  failed-not-passed : (t : Test) → IsFailed t → t ≡ Passed → ⊥
-  failed-not-passed t k e = k e
-
-  pub repeat_read : {t : Test} → t ≡ repeated → IsFailed t → LineRead ws ps t values
+  -- behind a test that failed, `r` is what `?` answers
+  pub repeat_read : {t r : Test} {why : Refusal} → t ≡ repeated → t ≡ Err why → IsErrAnd r (λ e. e ≡ why)
+      → LineRead ws ps r values
   unfolding pairs_test
-  repeat_read {t} e k =
+  repeat_read {t} {r} e k g =
+      let same : r ≡ t = residual r g ∙ sym k in
+      let fails : IsFailed t = λ p. not-err (sym k ∙ p) in
       record {
-        told = then-failed t k ∙ ap (λ (a : Test). then_test a unknown) e;
-        given = λ p. absurd
-            (failed-not-passed t k p);
+        told = same ∙ then-failed t fails ∙ ap (λ (a : Test). then_test a unknown) e;
+        given = λ p. absurd (fails (sym same ∙ p));
       }
 
-  pub outside-read : {s t : Test} → s ≡ repeated → s ≡ Passed → t ≡ unknown → IsFailed t → LineRead ws ps t values
+  pub outside-read : {s t r : Test} {why : Refusal} → s ≡ repeated → s ≡ Ok tt → t ≡ unknown → t ≡ Err why
+      → IsErrAnd r (λ e. e ≡ why)
+      → LineRead ws ps r values
   unfolding pairs_test then_test
-  outside-read {s} {t} d p e k =
-      let first : repeated ≡ Passed = sym d ∙ p in
-      record { told = e ∙ rw first refl; given = λ q. absurd (failed-not-passed t k q) }
+  outside-read {s} {t} {r} d p e k g =
+      let first : repeated ≡ Ok tt = sym d ∙ p in
+      let same : r ≡ t = residual r g ∙ sym k in
+      record { told = same ∙ e ∙ rw first refl; given = λ q. absurd (not-err (sym k ∙ sym same ∙ q)) }
 
-  pub both_read : {s t : Test} → s ≡ repeated → s ≡ Passed → t ≡ unknown → t ≡ Passed
+  pub both_read : {s t : Test} → s ≡ repeated → s ≡ Ok tt → t ≡ unknown → t ≡ Ok tt
       → Starting (given_values (decode ws) ps) values
-      → LineRead ws ps Passed values
+      → LineRead ws ps (Ok tt) values
   unfolding pairs_test then_test
   both_read d p e q g =
-      let first : repeated ≡ Passed = sym d ∙ p in
-      let second : unknown ≡ Passed = sym e ∙ q in
+      let first : repeated ≡ Ok tt = sym d ∙ p in
+      let second : unknown ≡ Ok tt = sym e ∙ q in
       record { told = rw (first, second) refl; given = λ z. g }
 
 -- of a block that is not malformed the form is the first condition

@@ -34,7 +34,8 @@ use Rattle.text_pairs.specs.PairBytes.{given_code, input_code}
 use Rattle.text_pairs.specs.Tables.{PairsAt, PairRoom, PairsTabled, InputsAre}
 use Rattle.text_pairs.proofs.PairPlaces.{count-is}
 use Rattle.text_pairs.proofs.TableLaws.{taken, setting-given, plain-bytes}
-use Rattle.bench_set_line.specs.Tables.{pairs_at, SetLineOf, input_key, LineFor, InForm, SetTableRoom, TablesFor}
+use Rattle.bench_set_line.specs.Tables.{pairs_at, SetLineOf, input_key, LineFor, InForm, TablesFor}
+use Rattle.bench_set_line.specs.declared.LineTables.{LineTables}
 
 module _ {n : ℕ} {ps : List Pair} {line : List ℕ} (is : SetLineOf n ps line) where
   pub pairs-legal : all is_legal_pair ps ≡ true
@@ -126,18 +127,18 @@ pub inputs-counted : {known : List Name} {n m : ℕ} {inputs : List ℕ} → m �
 inputs-counted e i = rw e i
 
 -- what the inputs are given
-pub line-setting : {ws : List ℕ} {ps : List Pair} {names places codes : List ℕ} {count : ℕ} {inputs : List ℕ}
-    → TablesFor ws ps names places codes count inputs → {n : ℕ} (setting₀ : List ℕ) {setting : List ℕ} → n ≡ get_or ws 0 0
-    → setting ≡ placed (tab (input_code names codes count inputs) n) setting₀
+pub line-setting : {ws : List ℕ} {ps : List Pair} {t : LineTables} → TablesFor ws ps t → {n : ℕ} (setting₀ : List ℕ)
+    {setting : List ℕ} → n ≡ get_or ws 0 0
+    → setting ≡ placed (tab (input_code t.names t.codes t.count t.inputs) n) setting₀
     → map value_of (take n setting) ≡ given_values (decode ws) ps
 unfolding given_values
 line-setting t setting₀ e f = setting-given t.legal t.tabled (inputs-counted e t.inputs_are) setting₀ f
 
--- the tables that `answer_with` fills
+-- the tables that `fill_tables` fills
 pub tables-for : {ws : List ℕ} {ps : List Pair} {line : List ℕ} → LineFor ws ps line
     → {names places codes : List ℕ} {count n : ℕ} (inputs₀ : List ℕ) {inputs : List ℕ}
     → PairsTabled ps pairs_at count names places codes → n ≡ get_or ws 0 0 → inputs ≡ placed (tab (input_key ws) n) inputs₀
-    → TablesFor ws ps names places codes count inputs
+    → TablesFor ws ps (record { names = names; places = places; codes = codes; count = count; inputs = inputs })
 tables-for {ws} {ps} {line} f {names} {places} {codes} {count} {n} inputs₀ {inputs} t e g = record {
   whole = f.whole;
   few = omega (arith, t.counted, pairs-few f.is, inputs-few ws f.whole);
@@ -146,9 +147,11 @@ tables-for {ws} {ps} {line} f {names} {places} {codes} {count} {n} inputs₀ {in
   inputs_are = inputs-filled ws f.whole inputs₀ (rw e at g);
 }
 
-pub pair-room : {ws line names places codes inputs : List ℕ} → InForm ws line → SetTableRoom names places codes inputs
+pub pair-room : {ws line names places codes : List ℕ} → InForm ws line → max_inputs ≤ length names
+    → max_inputs ≤ length places
+    → max_inputs ≤ length codes
     → PairRoom line pairs_at names places codes
-pair-room {ws} {line} f r =
+pair-room {ws} {line} f name_room place_room code_room =
     let n = inputs-few ws f.for.whole in
     let k = pairs-few f.for.is in
     let c = count-is (pairs-at f.for.is) in
@@ -156,9 +159,9 @@ pair-room {ws} {line} f r =
       inside = line-inside f.for.is;
       near = omega arith;
       few = omega (arith, n, k, c);
-      name_room = omega (arith, n, k, c, r.name_room);
-      place_room = omega (arith, n, k, c, r.place_room);
-      code_room = omega (arith, n, k, c, r.code_room);
+      name_room = omega (arith, n, k, c, name_room);
+      place_room = omega (arith, n, k, c, place_room);
+      code_room = omega (arith, n, k, c, code_room);
     }
 
 -- ---- the bytes of the setting that a line gives
@@ -188,18 +191,19 @@ given-most {ps} {at} {count} {names} {places} {codes} t name =
     past : count ≤ i → cond (ltb i count) (get_or codes i 0) 2 ≤ 2
     past l = rw (le-ltb i count l) (omega arith)
 
-pub line-bytes : {ws : List ℕ} {ps : List Pair} {names places codes : List ℕ} {count : ℕ} {inputs : List ℕ}
-    → TablesFor ws ps names places codes count inputs → {n : ℕ} (setting₀ : List ℕ) {setting : List ℕ} → n ≡ get_or ws 0 0
-    → setting ≡ placed (tab (input_code names codes count inputs) n) setting₀ → Bytes (take n setting)
+pub line-bytes : {ws : List ℕ} {ps : List Pair} {t : LineTables} → TablesFor ws ps t → {n : ℕ} (setting₀ : List ℕ)
+    {setting : List ℕ} → n ≡ get_or ws 0 0
+    → setting ≡ placed (tab (input_code t.names t.codes t.count t.inputs) n) setting₀
+    → Bytes (take n setting)
 unfolding input_code
-line-bytes {ws} {ps} {names} {places} {codes} {count} {inputs} t {n} setting₀ {setting} e f =
-    let f' = input_code names codes count inputs in
-    let is : take n setting ≡ tab f' n = ap (take n) f ∙ taken f' n setting₀ in
+line-bytes {ws} {ps} {t} f {n} setting₀ {setting} e g =
+    let f' = input_code t.names t.codes t.count t.inputs in
+    let is : take n setting ≡ tab f' n = ap (take n) g ∙ taken f' n setting₀ in
     rw is
     (record {
-      few = rw (length-tab f' n) (omega (arith, inputs-few ws t.whole));
+      few = rw (length-tab f' n) (omega (arith, inputs-few ws f.whole));
       most = λ i. ⊎_elim
-          (λ l. rw (get_d-tab f' n i 0 l) (given-most t.tabled (get_or inputs i 0)))
+          (λ l. rw (get_d-tab f' n i 0 l) (given-most f.tabled (get_or t.inputs i 0)))
           (λ l. let long : length (tab f' n) ≤ i = rw (length-tab f' n) l in rw (get_or-eq_default (tab f' n) 0 long)
           (omega arith))
           (lt-or-le i n);

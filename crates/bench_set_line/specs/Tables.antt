@@ -10,12 +10,13 @@ use Rattle.netlist.specs.Bench.{given_names, given_values}
 use Rattle.netlist.specs.StoredBlock.{name_size, inputs_at, bytes_at, decode, is_malformed}
 use Rattle.netlist.specs.Syntax.{Pair, is_legal_pair}
 use Rattle.netlist.specs.SetLine.{print_set_line, is_legal_set_line}
-use Rattle.words_refusals.specs.declared.Test.{Test}
-use Rattle.words_refusals.specs.declared.Test.TheVariants.{Passed, Failed}
+use Rattle.words_refusals.specs.Tests.{Test}
+use Rattle.std.specs.declared.result.Result.TheVariants.{Ok, Err}
 use Rattle.words_refusals.specs.Tests.{test_at}
 use Rattle.graph_simulation.specs.Rounded.{Starting}
 use Rattle.text_names.specs.Packed.{packed, name_front}
 use Rattle.text_pairs.specs.Tables.{PairsTabled, InputsAre}
+use Rattle.bench_set_line.specs.declared.LineTables.{LineTables}
 
 -- the place of the first pair's space, behind the word
 abbrev pub pairs_at : ℕ
@@ -43,31 +44,20 @@ pub record InForm (ws line : List ℕ) : Type 0 where
   pub pairs : List Pair
   pub for : LineFor ws pairs line
 
-pub record SetTableRoom (names places codes inputs : List ℕ) : Type 0 where
-  pub name_room : max_inputs ≤ length names
-  pub place_room : max_inputs ≤ length places
-  pub code_room : max_inputs ≤ length codes
-  pub input_room : max_inputs ≤ length inputs
-
 -- the tables are those of these pairs and of the block's inputs
-pub record TablesFor (ws : List ℕ) (ps : List Pair) (names places codes : List ℕ) (count : ℕ) (inputs : List ℕ) : Type 0
-  where
-    pub whole : is_malformed ws ≡ false
-    pub few : count ≤ max_inputs
-    pub legal : all is_legal_pair ps ≡ true
-    pub tabled : PairsTabled ps pairs_at count names places codes
-    pub inputs_are : InputsAre (decode ws).inputs (get_or ws 0 0) inputs
-
-pub record SetTablesReady (ws names places codes : List ℕ) (count : ℕ) (inputs : List ℕ) : Type 0 where
-  pub pairs : List Pair
-  pub for : TablesFor ws pairs names places codes count inputs
+pub record TablesFor (ws : List ℕ) (ps : List Pair) (t : LineTables) : Type 0 where
+  pub whole : is_malformed ws ≡ false
+  pub few : t.count ≤ max_inputs
+  pub legal : all is_legal_pair ps ≡ true
+  pub tabled : PairsTabled ps pairs_at t.count t.names t.places t.codes
+  pub inputs_are : InputsAre (decode ws).inputs (get_or ws 0 0) t.inputs
 
 -- ---- what reading a line comes to
 
 -- the first of two tests that fails, or that both pass
 unfoldable pub then_test : Test → Test → Test
-then_test Passed t = t
-then_test (Failed why) t = Failed why
+then_test (Ok u) t = t
+then_test (Err why) t = Err why
 
 -- refusals 4 and 5 of a set line's pairs, 4 before 5
 unfoldable pub pairs_test : Block → List Pair → Test
@@ -78,4 +68,4 @@ pairs_test b ps =
 -- what reading a set line gives: the test's answer, and where it passes the values that the line gives the inputs
 pub record LineRead (ws : List ℕ) (ps : List Pair) (r : Test) (values : List ℕ) : Type 0 where
   pub told : r ≡ pairs_test (decode ws) ps
-  pub given : r ≡ Passed → Starting (given_values (decode ws) ps) values
+  pub given : r ≡ Ok tt → Starting (given_values (decode ws) ps) values

@@ -13,10 +13,8 @@ pub fn fill_inputs(words: &[u16], n: usize, inputs: &mut [u64])
     requires { (n ≤ max_word) × (n ≤ length inputs.old) }
     ensures { inputs.new ≡ placed (tab (input_key words.now) n) inputs.old }
 {
-    let mut i = 0;
-    while i < n {
+    for i in 0..n {
         let bytes = name_bytes(words, INPUTS_AT + NAME_SIZE * i);
         inputs[i] = pack(&bytes);
-        i += 1;
     }
 }

@@ -8,22 +8,21 @@ ghost use Rattle.netlist.specs.Syntax.{Pair};
 ghost use Rattle.netlist.specs.Bench.{answer_line};
 ghost use Rattle.graph_simulation.specs.Rounded.{Blank};
 ghost use Rattle.bench_set_line.specs.Shown.{BlockReady};
-ghost use Rattle.bench_set_line.specs.Tables.{LineFor, InForm, SetTableRoom, TablesFor, SetTablesReady, LineRead};
+ghost use Rattle.bench_set_line.specs.Tables.{LineFor, InForm, TablesFor, LineRead};
 
 use crate::form::test_set_line;
 use graph_gates::fanout::FANOUT_WORDS;
 use graph_gates::{GRAPH_WORDS, PLACES};
-use graph_simulation::round::UNDEFINED;
+use graph_simulation::round::{UNDEFINED, settle_prepared};
 use graph_simulation::table::GATE_ENTRIES;
 use graph_simulation::values::put_setting;
 use inputs::fill_inputs;
-use netlist::Answer;
-use show::show;
+use netlist::{Answer, Refusal};
+use show::show_settled;
 use text_pairs::given::{fill_setting, test_outside, test_repeat};
 use text_pairs::tables::fill_pairs;
 use words_layout::limits::MAX_INPUTS;
-use words_layout::offsets::inputs_of;
-use words_refusals::{Test, refusal};
+use words_layout::offsets::{gates_of, inputs_of};
 
 mod form;
 mod inputs;
@@ -32,108 +31,57 @@ mod show;
 // The bytes of `(set`, behind which the pairs stand.
 const PAIRS_AT: usize = 4;
 
-// Refusals 4 and 5 of a line's tables, and then what the line gives the inputs, in an array of values where nothing has
-// one.
-fn read_tables(
-    words: &[u16],
-    names: &[u64],
-    places: &[usize],
-    codes: &[u8],
+// The tables of a line: the number of each pair's name, its place and its value's code, how many pairs there are, and
+// the number of each input's name.
+#[derive(Drop)]
+struct LineTables {
+    names: [u64; MAX_INPUTS],
+    places: [usize; MAX_INPUTS],
+    codes: [u8; MAX_INPUTS],
     count: usize,
-    inputs: &[u64],
-    values: &mut [u8; PLACES],
-) -> Test
-    requires { SetTablesReady words.now names.now places.now codes.now count inputs.now
-        × Blank values.old }
-    ensures { (ps : List Pair)
-        → TablesFor words.now ps names.now places.now codes.now count
-        inputs.now
-        → LineRead words.now ps result values.new }
-{
-    let n = inputs_of(words);
-    let tested = test_repeat(names, places, count);
-    let Test::Passed = tested else {
-        return tested;
-    };
-    let tested = test_outside(names, places, count, inputs, n);
-    let Test::Passed = tested else {
-        return tested;
-    };
-    let mut setting = [0u8; MAX_INPUTS];
-    fill_setting(names, codes, count, inputs, n, &mut setting);
-    put_setting(&setting[..n], values);
-    Test::Passed
+    inputs: [u64; MAX_INPUTS],
 }
 
-// Fills the tables of a line's pairs, and then tests them and sets the inputs.
-fn read_with(
-    words: &[u16],
-    line: &[u8],
-    names: &mut [u64],
-    places: &mut [usize],
-    codes: &mut [u8],
-    inputs: &mut [u64],
-    values: &mut [u8; PLACES],
-) -> Test
-    requires in_form { InForm words.now line.now × Blank values.old }
-    requires set_table_room { SetTableRoom names.old places.old codes.old inputs.old }
-    ensures { (ps : List Pair) → LineFor words.now ps line.now
-        → LineRead words.now ps result values.new }
-{
-    let count = fill_pairs(line, PAIRS_AT, names, places, codes);
-    fill_inputs(words, inputs_of(words), inputs);
-    read_tables(words, names, places, codes, count, inputs, values)
-}
-
-// Reads the pairs of a line in form: makes room for the tables of at most MAX_INPUTS pairs.
-fn read_pairs(words: &[u16], line: &[u8], values: &mut [u8; PLACES]) -> Test
-    requires { InForm words.now line.now × Blank values.old }
-    ensures { (ps : List Pair) → LineFor words.now ps line.now
-        → LineRead words.now ps result values.new }
+// The tables of a line in form.
+fn fill_tables(words: &[u16], line: &[u8]) -> LineTables
+    requires { InForm words.now line.now }
+    ensures { (ps : List Pair) → LineFor words.now ps line.now → TablesFor words.now ps result }
 {
     let mut names = [0u64; MAX_INPUTS];
     let mut places = [0usize; MAX_INPUTS];
     let mut codes = [0u8; MAX_INPUTS];
     let mut inputs = [0u64; MAX_INPUTS];
-    read_with(
-        words,
-        line,
-        &mut names,
-        &mut places,
-        &mut codes,
-        &mut inputs,
-        values,
-    )
+    let count = fill_pairs(line, PAIRS_AT, &mut names, &mut places, &mut codes);
+    fill_inputs(words, inputs_of(words), &mut inputs);
+    LineTables {
+        names,
+        places,
+        codes,
+        count,
+        inputs,
+    }
 }
 
-// The answer to a line, with its LF, for a block that is prepared; `values` is room for what stands at each place.
-// Count: bytes of the show line.
-fn answer_with(
-    words: &[u16],
-    table: &[u8; GATE_ENTRIES],
-    graph: &[u16; GRAPH_WORDS],
-    fanout: &[u16; FANOUT_WORDS],
-    line: &[u8],
-    values: &mut [u8; PLACES],
-    out: &mut [u8],
-) -> Answer
-    requires { BlockReady words.now table.now graph.now fanout.now × Blank values.old }
-    ensures { Promise (answer_line words.now line.now (length out.old))
-        out.old result out.new }
+// Reads the pairs of a line in form: refusals 4 and 5, and then what the line gives the inputs, in an array of values
+// where nothing has one.
+fn read_pairs(words: &[u16], line: &[u8], values: &mut [u8; PLACES]) -> Result<(), Refusal>
+    requires { InForm words.now line.now × Blank values.old }
+    ensures { (ps : List Pair) → LineFor words.now ps line.now
+        → LineRead words.now ps result values.new }
 {
-    let tested = test_set_line(line, inputs_of(words));
-    let Test::Passed = tested else {
-        return refusal(tested);
-    };
-    let tested = read_pairs(words, line, values);
-    let Test::Passed = tested else {
-        return refusal(tested);
-    };
-    show(words, table, graph, fanout, values, out)
+    let n = inputs_of(words);
+    let t = fill_tables(words, line);
+    let names = &t.names[..t.count];
+    let inputs = &t.inputs[..n];
+    test_repeat(names, &t.places)?;
+    test_outside(names, &t.places, inputs)?;
+    let mut setting = [0u8; MAX_INPUTS];
+    fill_setting(names, &t.codes, inputs, &mut setting);
+    put_setting(&setting[..n], values);
+    Ok(())
 }
 
-// The answer to a line, with its LF, for a block that is prepared; makes the array of values. Count: bytes of the show
-// line.
+// The answer to a line, with its LF, for a block that is prepared. Count: bytes of the show line.
 pub fn answer_line(
     words: &[u16],
     table: &[u8; GATE_ENTRIES],
@@ -146,6 +94,9 @@ pub fn answer_line(
     ensures { Promise (answer_line words.now line.now (length out.old))
         out.old result out.new }
 {
+    test_set_line(line, inputs_of(words))?;
     let mut values = [UNDEFINED; PLACES];
-    answer_with(words, table, graph, fanout, line, &mut values, out)
+    read_pairs(words, line, &mut values)?;
+    settle_prepared(table, graph, fanout, gates_of(words), &mut values);
+    show_settled(words, &values, out)
 }

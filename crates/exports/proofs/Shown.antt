@@ -2,7 +2,7 @@
 use mathlib.Core.Path.{sym, ◌∙◌}
 use mathlib.Core.List.{List}
 use Prim.Native.Nat.{ℕ}
-use Rattle.netlist.specs.declared.Answer.{Answer}
+use Rattle.netlist.specs.Answers.{Answer}
 use Rattle.netlist.specs.declared.Reply.{Reply}
 use Rattle.netlist.specs.Answers.{Shows, Outcome, answer_of, Told, Promise}
 use Rattle.words_refusals.proofs.Shown.{shows_same}

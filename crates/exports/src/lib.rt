@@ -83,13 +83,11 @@ pub extern "C" fn unloop_sheet(block: &[u16], records: &mut [Record]) -> Reply
     let count = reply.count;
     let turns = 2 * count;
     let mut batch = no_batch();
-    let mut t = 0;
-    while t < turns {
+    for t in 0..turns {
         let i = place_at(count, t);
         let asked = records[i];
         batch = advance(block, count, t, asked, batch);
         records[i] = answer(block, count, t, asked, batch);
-        t += 1;
     }
     reply
 }

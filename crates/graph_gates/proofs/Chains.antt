@@ -1,8 +1,7 @@
 -- The lists of a fan-out: a slot more in front of one, and what they hold when all slots are in. Cited by this crate's
 -- functions and by whoever walks along a list.
 --   chain-step, chain-end, chain-le   the walk along a list
---   linking-none, linking-next        no slot, one more
---   linked-fanout                     all slots
+--   linking-next                      one slot more
 --   reading-found                     whoever reads a gate has a slot in its list
 -- Assumes nothing.
 use mathlib.Core.Path.{◌≡◌, refl, sym, ap, ◌∙◌}
@@ -15,7 +14,7 @@ use lib.ListN.{length, get_or, set, length-set}
 use lib.Seq.{get_or-set_same, get_or-set_other}
 use lib.Dec.{leb}
 use borrow.Author.Tests.{le-leb, lt-leb, leb-true, ne_eqb, lt-ltb, le-ltb}
-use Rattle.prelude.specs.Lists.{member, joined, tab}
+use Rattle.prelude.specs.Lists.{member, joined}
 use Rattle.prelude.proofs.Tests.{lt-or-le, eq-or-ne, and_right}
 use Rattle.prelude.proofs.Lists.{member-first}
 use Rattle.prelude.proofs.Tab.{get_d-tab, length-tab}
@@ -26,7 +25,7 @@ use Rattle.netlist.specs.Groups.{gate_operand, read_by, reads}
 use Rattle.words_layout.proofs.KindLaws.{not-counts, other-counts, kind-last}
 use Rattle.graph_gates.specs.Places.{first_input, first_gate, operand_at}
 use Rattle.graph_gates.specs.Graph.{slots, kind_at, count_at, place_at, gate_at, gates_in, network, Graph}
-use Rattle.graph_gates.specs.Fanout.{fanout_size, slot_place, Chain, at, behind, Descends, Fanout, Empty, Linked}
+use Rattle.graph_gates.specs.Fanout.{slot_place, Chain, at, behind, Descends, Fanout, Linked}
 use Rattle.graph_gates.specs.Fanout.{Linking}
 
 -- a list that is not at its end: the slot in front, or one behind it
@@ -52,17 +51,6 @@ chain-kept : {fanout fanout' : List ℕ} {p q : ℕ} (e : ℕ)
 chain-kept e same d at l = at
 chain-kept {fanout} {fanout'} {p} e same d (behind {q = q} c) l =
     behind {q = q} (rw (same q (omega arith)) (chain-kept e same d c (omega (arith, d q))))
-
--- no slot is in a list
-pub linking-none : {graph fanout : List ℕ} → Empty fanout → Linking graph fanout 0
-linking-none z =
-    record {
-      long = z.long;
-      descends = λ e. rw (z.zeros (max_gates + e)) (omega arith);
-      starts = λ k l. rw (z.zeros k) (omega arith);
-      found = λ d k l. absurd (omega arith);
-      only = λ d k l c. absurd (chain-end c (rw (z.zeros k) (omega arith)));
-    }
 
 module _ {graph fanout : List ℕ} (e : ℕ) (h : Linking graph fanout e) where
   -- a slot that reads no gate
@@ -186,18 +174,6 @@ linking-next {graph} {fanout} {fanout'} e h below inside d = ⊎_elim none some 
     some l =
         rw (d.is, le-leb first_gate (slot_place graph e) l)
         (linking-more e h (slot_place graph e - first_gate) (omega arith) (omega arith) below)
-
--- all slots are in
-pub linked-fanout : {m : ℕ} {graph fanout : List ℕ} {e : ℕ} → Linking graph fanout e → slots * m ≤ e → e ≤ slots * m
-    → Fanout m graph fanout
-linked-fanout h lo hi =
-    record {
-      long = h.long;
-      descends = h.descends;
-      starts = λ k l. omega (arith, h.starts k l);
-      found = λ e k l. h.found e k (omega arith);
-      only = h.only;
-    }
 
 -- slot i of gate j
 pub slot_of : (graph : List ℕ) (j i : ℕ) → i < slots → slot_place graph (slots * j + i) ≡ place_at graph j i

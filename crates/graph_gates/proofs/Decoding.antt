@@ -1,37 +1,34 @@
 -- From a block's words to its graph: the words are legal, the gates are put one after the other, and at the end the
 -- graph is the block's. Cited by `put_node` and `decode_gates`. Assumes nothing.
-use mathlib.Core.Path.{◌≡◌, refl, sym, ap, ◌∙◌}
-use mathlib.Core.Logic.{◌⊎◌, ⊎_elim}
+use mathlib.Core.Path.{◌≡◌, refl, ◌∙◌}
+use mathlib.Core.Logic.{⊎_elim}
 use mathlib.Core.Bool.{true, false, cond}
 use mathlib.Core.List.{List, [], ◌∷◌}
 use Prim.Native.Nat.{ℕ, zero, suc, ◌+◌, ◌-◌, ◌*◌, ◌/◌, ◌%◌, ◌≤◌, ◌<◌}
 use native.Mathlib.Omega.{arith}
 use native.Mathlib.Numerals.{add-one}
 use native.Mathlib.Nat.{not-suc-le-zero, le_of_suc-le-suc, add-zero}
-use borrow.Author.Tests.{ltb-true, lt-ltb, le-ltb, le-leb}
-use lib.Dec.{ltb, leb}
+use borrow.Author.Tests.{lt-ltb, le-ltb}
+use lib.Dec.{ltb}
 use lib.ListN.{length, get_or, set, length-set}
 use lib.Seq.{sets, length-sets, get_or-set_same, get_or-set_other}
 use Rattle.prelude.specs.Lists.{tab}
 use Rattle.prelude.proofs.Tests.{lt-or-le, eq-or-ne}
-use Rattle.prelude.proofs.Tab.{length-tab, get_d-tab, tab-ext, tab-get_d}
+use Rattle.prelude.proofs.Tab.{length-tab, get_d-tab, tab-ext}
 use Rattle.words_layout.specs.declared.nodes.Nodes.{Nodes}
 use Rattle.words_layout.specs.Nodes.{nodes_of}
 use Rattle.netlist.specs.Limits.{max_inputs, max_gates}
-use Rattle.netlist.specs.Kinds.{is_kind, arity_fits}
-use Rattle.netlist.specs.Netlist.{Operand, constant, Gate, gate_of}
+use Rattle.netlist.specs.Netlist.{Operand, constant, Gate}
 use Rattle.netlist.specs.StoredBlock.{gate_size, nevers_at, gates_at, outputs_at, operand_of, gate_at as stored_gate, decode}
 use Rattle.netlist.specs.StoredBlock.{is_malformed}
-use Rattle.theory_encoding.proofs.Decoded.{decode-gate_count, decode-gate}
 use Rattle.theory_encoding.proofs.Readers.{OperandWord, whole_parts, whole-gate}
 use Rattle.theory_encoding.proofs.Sizes.{whole-small}
 use Rattle.graph_gates.specs.Places.{first_gate, operand_at, place_of}
-use Rattle.graph_gates.specs.Graph.{node_size, slots, graph_size, controlling_of, forced_of, operation_word}
+use Rattle.graph_gates.specs.Graph.{node_size, slots, controlling_of, forced_of, operation_word}
 use Rattle.graph_gates.specs.Graph.{operand_place, kind_at, count_at, place_at, gate_at}
-use Rattle.graph_gates.specs.Graph.{gates_in, Node, Graph, Decoded}
+use Rattle.graph_gates.specs.Graph.{gates_in, Node, Decoded}
 use Rattle.graph_gates.specs.Decoding.{WordsOf, word_place, head_word, absent_place, node_words, Putting}
 use Rattle.graph_gates.proofs.Places.{place-input, place-zero, place-one, place-gate, operand_at-word}
-use Rattle.graph_gates.proofs.Rules.{controlling-small, forced-small}
 
 -- ---- the words of a block
 
@@ -85,9 +82,6 @@ sets-at l i (x ∷ xs) (suc p) h fits =
 
 -- the numbers of a gate's words fit a word
 module _ {ws : List ℕ} {nodes : Nodes} (w : WordsOf ws nodes) (j : ℕ) (l : j < nodes.gates) where
-  pub head_small : get_or ws (nodes.start + gate_size * j) 0 ≤ 38
-  head_small = omega (arith, w.kind j l, w.count j l)
-
   pub place-small : (absent i : ℕ) → absent ≤ 1
       → word_place ws nodes.inputs (nodes.start + gate_size * j) absent i < 65536
   unfolding word_place
@@ -96,24 +90,14 @@ module _ {ws : List ℕ} {nodes : Nodes} (w : WordsOf ws nodes) (j : ℕ) (l : j
       (λ k. rw (le-ltb i _ k) (omega arith))
       (lt-or-le i (get_or ws (nodes.start + gate_size * j) 0 / 8))
 
--- five stores are the gate's words
-pub node-put : (ws graph : List ℕ) (nodes : Nodes) (j at to h c f p q r s : ℕ) → to ≡ node_size * j
-    → at ≡ nodes.start + gate_size * j
-    → h ≡ get_or ws at 0 → c ≡ controlling_of (h % 8) → f ≡ forced_of (h % 8)
-    → p ≡ word_place ws nodes.inputs at (1 - c) 0 → q ≡ word_place ws nodes.inputs at (1 - c) 1
-    → r ≡ word_place ws nodes.inputs at (1 - c) 2 → s ≡ word_place ws nodes.inputs at (1 - c) 3
-    → set (set (set (set (set graph to (h + 64 * c + 128 * f)) (to + 1) p) (to + 2) q) (to + 3) r) (to + 4) s
+-- the store of the operation and then the places of the four slots are the gate's words
+pub node-put : (ws graph : List ℕ) (nodes : Nodes) (j h c f : ℕ)
+    → h ≡ get_or ws (nodes.start + gate_size * j) 0 → c ≡ controlling_of (h % 8) → f ≡ forced_of (h % 8)
+    → sets (set graph (node_size * j) (h + 64 * c + 128 * f)) (node_size * j + 1)
+    (tab (word_place ws nodes.inputs (nodes.start + gate_size * j) (1 - c)) slots)
     ≡ sets graph (node_size * j) (node_words ws nodes j)
 unfolding node_words head_word absent_place
-node-put ws graph nodes j at to h c f p q r s e_to e_at e_h e_c e_f e_p e_q e_r e_s =
-    let one : to + 1 ≡ suc to = omega arith in
-    let two : to + 2 ≡ suc (suc to) = omega arith in
-    let three : to + 3 ≡ suc (suc (suc to)) = omega arith in
-    let four : to + 4 ≡ suc (suc (suc (suc to))) = omega arith in
-    rw (one, two, three, four, e_p, e_q, e_r, e_s, e_f, e_c, e_h, e_at, e_to) refl
-
-pub putting-none : (ws : List ℕ) (nodes : Nodes) (graph : List ℕ) → length graph ≡ graph_size → Putting ws nodes 0 graph
-putting-none ws nodes graph e = record { long = e; put = λ k i l. absurd (not-suc-le-zero l) }
+node-put ws graph nodes j h c f e_h e_c e_f = rw (add-one (node_size * j), e_f, e_c, e_h) refl
 
 node_words-length : (ws : List ℕ) (nodes : Nodes) (j : ℕ) → length (node_words ws nodes j) ≡ node_size
 unfolding node_words

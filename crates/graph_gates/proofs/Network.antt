@@ -4,18 +4,18 @@
 --   network-gates, network-count      the network's gates are the block's
 --   ..-gates                          the same gates, the same answer
 use mathlib.Core.Path.{◌≡◌, refl, ap, fun_ext}
-use mathlib.Core.Bool.{Bool, true, false, cond, not, ◌&&◌, ◌||◌}
-use mathlib.Core.List.{List, [], ◌∷◌, ◌++◌, map}
+use mathlib.Core.Bool.{Bool}
+use mathlib.Core.List.{List, [], ◌∷◌, ◌++◌}
 use Prim.Native.Nat.{ℕ, zero, suc}
-use lib.ListN.{length, get_or, set, replicate}
-use lib.Dec.{eqb, ltb}
-use Rattle.prelude.specs.Lists.{same, all, any, keep, tab, joined, up_to, member, least}
+use lib.ListN.{length}
+use lib.Dec.{eqb}
+use Rattle.prelude.specs.Lists.{tab, least}
 use Rattle.prelude.proofs.Tab.{length-tab}
-use Rattle.netlist.specs.Values.{Value, undefined, code}
-use Rattle.netlist.specs.Netlist.{Gate, Block, gate_count, gate_of}
-use Rattle.netlist.specs.Rounds.{evaluated, round, after_rounds, is_stable, rounds, settled}
+use Rattle.netlist.specs.Values.{Value}
+use Rattle.netlist.specs.Netlist.{Block, gate_count, gate_of}
+use Rattle.netlist.specs.Rounds.{round, after_rounds, is_stable, rounds, settled}
 use Rattle.netlist.specs.Steps.{step_at, run}
-use Rattle.netlist.specs.Groups.{gate_operand, read_by, reads, has, grown, grown_times, reach, reaches, same_group, group_of}
+use Rattle.netlist.specs.Groups.{read_by, reads, grown, grown_times, reach, reaches, same_group, group_of}
 use Rattle.netlist.specs.Groups.{is_ready, may_be_next, groups_after}
 use Rattle.netlist.specs.Groups.{groups, group_number, group_numbers}
 use Rattle.graph_gates.specs.Graph.{gates_in, network, Decoded}

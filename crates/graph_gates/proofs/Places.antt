@@ -1,15 +1,14 @@
 -- The place of what an operand word stands for, by what the word is; and a place and what stands there determine each
 -- other. Cited by whoever makes or reads a graph. Assumes nothing.
-use mathlib.Core.Path.{◌≡◌, refl, sym, ◌∙◌}
-use mathlib.Core.Bool.{Bool, true, false, cond}
+use mathlib.Core.Path.{◌≡◌, refl}
+use mathlib.Core.Bool.{true, false}
 use Prim.Native.Nat.{ℕ, ◌+◌, ◌-◌, ◌≤◌, ◌<◌}
 use native.Mathlib.Omega.{arith}
 use borrow.Author.Tests.{ne_eqb, lt-ltb, le-ltb}
-use lib.Dec.{eqb, ltb}
 use mathlib.Core.Logic.{⊎_elim}
 use Rattle.prelude.proofs.Tests.{lt-or-le, eq-or-ne}
 use Rattle.netlist.specs.Limits.{max_inputs}
-use Rattle.netlist.specs.Netlist.{Operand, input, gate, constant}
+use Rattle.netlist.specs.Netlist.{input, gate, constant}
 use Rattle.netlist.specs.StoredBlock.{operand_of}
 use Rattle.theory_encoding.proofs.Nodes.{operand_of-input, operand_of-zero, operand_of-one, operand_of-gate}
 use Rattle.graph_gates.specs.Places.{first_input, first_gate, operand_at, place_of}

@@ -3,10 +3,9 @@
 --   word_place    a slot's place from a gate's words
 --   node_words    the five words of a gate
 --   Putting      the gates below j are put
-use Rattle.std.specs.Prelude.{ℕ, ◌+◌, ◌-◌, ◌*◌, ◌/◌, ◌%◌, ◌≤◌, ◌<◌, ◌≡◌, true, cond, List, [], ◌∷◌, length, get_or, ltb}
+use Rattle.std.specs.Prelude.{ℕ, ◌+◌, ◌-◌, ◌*◌, ◌/◌, ◌%◌, ◌≤◌, ◌<◌, ◌≡◌, cond, List, [], ◌∷◌, length, get_or, ltb}
 use Rattle.words_layout.specs.declared.nodes.Nodes.{Nodes}
 use Rattle.netlist.specs.Limits.{max_inputs, max_gates}
-use Rattle.netlist.specs.Kinds.{is_kind}
 use Rattle.netlist.specs.StoredBlock.{gate_size, operand_of}
 use Rattle.graph_gates.specs.Places.{place_of}
 use Rattle.graph_gates.specs.Graph.{node_size, slots, graph_size, controlling_of, forced_of}

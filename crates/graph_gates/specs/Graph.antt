@@ -7,11 +7,11 @@
 --   kind_at, count_at, gate_at, gates_in, network   what a graph holds, as numbers, gates and a block without names
 --   Graph                     every gate of a graph is legal, and its places are there
 --   Decoded                   a graph of a block's gates
-use Rattle.std.specs.Prelude.{ℕ, ◌+◌, ◌-◌, ◌*◌, ◌/◌, ◌%◌, ◌≤◌, ◌<◌, ◌≡◌, Bool, true, cond, List, [], length, get_or, leb, ltb}
+use Rattle.std.specs.Prelude.{ℕ, ◌+◌, ◌-◌, ◌*◌, ◌/◌, ◌%◌, ◌≤◌, ◌<◌, ◌≡◌, true, cond, List, [], length, get_or, ltb}
 use Rattle.prelude.specs.Lists.{tab}
 use Rattle.netlist.specs.Limits.{max_gates}
 use Rattle.netlist.specs.Kinds.{row_of, is_not, is_xor, is_xnor, is_kind, arity_fits}
-use Rattle.netlist.specs.Netlist.{Operand, constant, Gate, Block}
+use Rattle.netlist.specs.Netlist.{constant, Gate, Block}
 use Rattle.graph_gates.specs.Places.{first_gate, operand_at, place_of}
 
 -- words of a gate, and of the longest graph

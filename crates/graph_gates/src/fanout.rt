@@ -30,9 +30,7 @@ pub fn link_slots(graph: &[u16; GRAPH_WORDS], m: usize, fanout: &mut [u16; FANOU
     requires { Graph m graph.now × Empty fanout.old }
     ensures { Fanout m graph.now fanout.new }
 {
-    let mut e = 0;
-    while e < SLOTS * m {
+    for e in 0..SLOTS * m {
         link(graph, e, fanout);
-        e += 1;
     }
 }

@@ -48,7 +48,7 @@ pub struct Rule {
     pub forced: usize,
 }
 
-// The rule of a kind, by the kind's number.
+// The rule of a kind, by the number that the stored format gives the kind.
 pub fn rule_of(kind: usize) -> Rule
     requires { kind ≤ 6 }
     ensures { (result.controlling ≡ controlling_of kind) × (result.forced ≡ forced_of kind) × (result.controlling ≤ 1) × (result.forced ≤ 1) }
@@ -115,10 +115,9 @@ fn put_node(words: &[u16], nodes: Nodes, j: usize, graph: &mut [u16; GRAPH_WORDS
     let absent = 1 - rule.controlling;
     let to = NODE_SIZE * j;
     graph[to] = (head + CONTROLLING * rule.controlling + FORCED * rule.forced) as u16;
-    graph[to + 1] = slot_place(words, n, at, 0, absent) as u16;
-    graph[to + 2] = slot_place(words, n, at, 1, absent) as u16;
-    graph[to + 3] = slot_place(words, n, at, 2, absent) as u16;
-    graph[to + 4] = slot_place(words, n, at, 3, absent) as u16;
+    for i in 0..SLOTS {
+        graph[to + 1 + i] = slot_place(words, n, at, i, absent) as u16;
+    }
 }
 
 // Writes the graph of a block.
@@ -127,9 +126,7 @@ pub fn decode_gates(words: &[u16], graph: &mut [u16; GRAPH_WORDS])
     ensures { Decoded (decode words.now) (get_or words.now 1 0) graph.new }
 {
     let nodes = nodes_of(words);
-    let mut j = 0;
-    while j < nodes.gates {
+    for j in 0..nodes.gates {
         put_node(words, nodes, j, graph);
-        j += 1;
     }
 }

@@ -12,17 +12,16 @@ use mathlib.Core.List.{List}
 use native.Mathlib.Omega.{arith}
 use lib.ListN.{get_or}
 use borrow.Author.Tests.{eq-eqb, ne_eqb}
-use Rattle.prelude.proofs.Tests.{and_intro, and_left, and_right, lt-or-le, eq-or-ne}
-use Rattle.netlist.specs.Netlist.{Block, gate_count}
+use Rattle.prelude.proofs.Tests.{and_intro, and_left, and_right, lt-or-le}
+use Rattle.netlist.specs.Netlist.{gate_count}
 use Rattle.netlist.specs.Groups.{OperandPath, stay, step, reads, reaches, same_group}
 use Rattle.theory_reach.proofs.Reach.{path-append, path-reaches, reaches-path}
 use Rattle.graph_gates.specs.Graph.{network}
 use Rattle.graph_gates.proofs.Network.{network-count}
-use Rattle.graph_scc.specs.Layers.{LoopEnd, LayerEnd, Layers}
-use Rattle.graph_scc.specs.Search.{Layered}
-use Rattle.graph_scc.specs.Leaders.{last_of, distance_at, HasParent, HasLowLink, CertifiedAt, Certified}
+use Rattle.graph_scc.specs.Layers.{LoopEnd, Layers}
+use Rattle.graph_scc.specs.Leaders.{last_of, distance_at, HasParent, Certified}
 use Rattle.graph_scc.specs.Leaders.{layer_key, Keyed}
-use Rattle.graph_scc.proofs.Slots.{read-slot, read-inside}
+use Rattle.graph_scc.proofs.Slots.{read-inside}
 use Rattle.graph_scc.proofs.Layered.{layered}
 
 pub last-same : (ends : List ℕ) (i : ℕ) → get_or ends i 0 ≡ i → last_of ends i ≡ i

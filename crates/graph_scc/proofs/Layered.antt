@@ -6,15 +6,10 @@
 use Prim.Native.Nat.{ℕ, zero, suc, ◌+◌, ◌≤◌, ◌<◌}
 use mathlib.Core.Path.{◌≡◌, refl, sym, ◌∙◌}
 use mathlib.Core.Logic.{◌⊎◌, inl, inr, ⊎_elim}
-use mathlib.Core.Bool.{true}
 use mathlib.Core.List.{List}
 use native.Mathlib.Omega.{arith}
-use native.Mathlib.Nat.{not-suc-le-zero}
-use lib.ListN.{length, get_or, set}
-use lib.Seq.{get_or-set_same, get_or-set_other}
+use lib.ListN.{get_or}
 use Rattle.prelude.proofs.Tests.{eq-or-ne}
-use Rattle.netlist.specs.Groups.{reads}
-use Rattle.graph_gates.specs.Graph.{network}
 use Rattle.graph_scc.specs.Layers.{LoopEnd, LayerEnd, Layers}
 use Rattle.graph_scc.specs.Search.{EndStep, OneLayer}
 use Rattle.graph_scc.specs.Search.{Layered}
@@ -62,7 +57,7 @@ layered {m} {graph} {order} {ends} {positions} r =
       end = layer-end m ends (λ i l. (steps i l).end);
       reads = λ i k il kl r.
           let s = read-slot g (get_or order i 0) (steps i il).listed.inside (get_or order k 0) r in
-          rw (steps k kl).listed.found at ((steps i il).before s.0 (get_or order k 0) s.1 s.2);
+          rw (steps k kl).listed.found at (((steps i il).before s.0 s.1).before (get_or order k 0) s.2);
     }
 
 pub one-layer : {m : ℕ} {graph order ends : List ℕ} → OneLayer m m order ends → Layers m graph order ends
@@ -80,22 +75,3 @@ one-layer {m} {graph} {order} {ends} o =
       };
       reads = λ i k il kl r. rw (o.all_end i il) kl;
     }
-
--- one position more
-pub one-layer-more : {m i : ℕ} {order ends : List ℕ} → OneLayer m i order ends → i < length order → i < length ends
-    → OneLayer m (i + 1) (set order i i) (set ends i m)
-one-layer-more {m} {i} {order} {ends} o fits room =
-    record {
-      as_they_come = λ k l.
-          ⊎_elim (λ e. rw e (get_or-set_same order i i 0 fits))
-          (λ n. get_or-set_other order i k i 0 n ∙ o.as_they_come k (omega (arith, n)))
-          (eq-or-ne k i);
-      all_end = λ k l.
-          ⊎_elim (λ e. rw e (get_or-set_same ends i m 0 room))
-          (λ n. get_or-set_other ends i k m 0 n ∙ o.all_end k (omega (arith, n)))
-          (eq-or-ne k i);
-    }
-
-pub one-layer-none : (m : ℕ) (order ends : List ℕ) → OneLayer m 0 order ends
-one-layer-none m order ends =
-    record { as_they_come = λ k l. absurd (not-suc-le-zero l); all_end = λ k l. absurd (not-suc-le-zero l) }

@@ -2,5 +2,6 @@
 mod Certificate
 pub mod Leader
 mod Reaching
+pub mod Ranges
 pub mod Slots
 pub mod Layered

@@ -3,31 +3,33 @@
 --   growing-start, growing-more    the first gate, and one gate more
 --   reached                        when none can be added
 --   leader-found                   the lowest gate in both sets is the leader
-use Prim.Native.Nat.{ℕ, suc, ◌+◌, ◌≤◌, ◌<◌}
+use Prim.Native.Nat.{ℕ, ◌+◌, ◌≤◌, ◌<◌}
 use mathlib.Core.Path.{◌≡◌, refl, sym, ◌∙◌}
-use mathlib.Core.Logic.{◌⊎◌, inl, inr, ⊎_elim}
+use mathlib.Core.Logic.{⊎_elim}
 use mathlib.Core.Bool.{Bool, true, false, not}
 use mathlib.Core.List.{List}
 use native.Mathlib.Omega.{arith}
 use lib.ListN.{length, get_or, set, length-set}
 use lib.Seq.{get_or-set_same, get_or-set_other}
 use lib.Dec.{eqb}
-use borrow.Author.Tests.{eq-eqb, ne_eqb}
-use Rattle.prelude.proofs.Tests.{lt-or-le, eq-or-ne, not-true-false, and_intro, and_left, and_right}
+use borrow.Author.Tests.{eqb-true, eq-eqb, ne_eqb}
+use Rattle.std.specs.declared.option.Option.{Option}
+use Rattle.std.specs.declared.option.Option.TheVariants.{None, Some}
+use Rattle.prelude.specs.Lists.{least}
+use Rattle.prelude.proofs.Tests.{eq-or-ne, same_test, and_intro, and_left, and_right}
 use Rattle.prelude.proofs.Counting.{count_below-one}
-use Rattle.prelude.proofs.Least.{least-is}
 use Rattle.netlist.specs.Limits.{max_gates}
-use Rattle.netlist.specs.Netlist.{Block, gate_count}
+use Rattle.netlist.specs.Netlist.{Block}
 use Rattle.netlist.specs.Groups.{OperandPath, stay, step, reads, reaches, same_group}
 use Rattle.theory_reach.proofs.Reach.{path-append, path-reaches, reaches-path}
 use Rattle.graph_gates.specs.Places.{first_gate}
 use Rattle.graph_gates.specs.Graph.{slots, place_at, network, Graph}
 use Rattle.graph_gates.proofs.Network.{network-count}
 use Rattle.graph_scc.specs.Leaders.{leader_of}
-use Rattle.graph_scc.specs.Closure.{Walk, Edge, Open, Shut, Added, SlotTarget, Target, Growing, outside}
-use Rattle.graph_scc.specs.Closure.{Reached}
-use Rattle.graph_scc.specs.Closure.{LowestOfBoth, LeaderFound, LeadingEach}
+use Rattle.graph_scc.specs.Closure.{Walk, Edge, Open, Shut, Added, SlotShut, GateShut, SlotTarget, Growing, outside}
+use Rattle.graph_scc.specs.Closure.{Reached, in_both, LeaderFound, LeadingEach}
 use Rattle.graph_scc.proofs.Slots.{read-slot, slot_read, read-inside}
+use Rattle.graph_scc.proofs.Leader.{least-cong, leader-below}
 
 walk-stay : (b : Block) (back : Bool) (i : ℕ) → Walk b back i i
 unfolding Walk
@@ -46,59 +48,29 @@ module _ {m : ℕ} {graph : List ℕ} (legal : Graph m graph) (k : ℕ) (kl : k 
   below : j < m
   below = omega (arith, (legal.node k kl).inside s sl, is)
 
-  pub target_ahead : {flags : List ℕ} {r : ℕ} → Added m flags k j r → SlotTarget m graph false flags k s r
+  pub target_ahead : (flags : List ℕ) (r : Option ℕ) → Added flags k j r → SlotTarget m graph false flags k s r
   unfolding Edge Shut
-  target_ahead {flags} {r} a =
+  target_ahead flags None a = record { shut = λ i e. let q : i ≡ j = omega (arith, e, is) in rw q a }
+  target_ahead flags (Some t) (e, h, n) =
       record {
-        found = λ l. ⊎_elim (adds l) (λ h. absurd (omega (arith, h.0))) a.cases;
-        none = λ past i e. shut past
-            i e;
+        below = omega (arith, e, below);
+        adds = rw e (record { from = k; below = kl; there = h; edge = slot_read legal k kl s j sl is; absent = n });
       }
-    where
-      adds : r < m → (r ≡ j) × (get_or flags k 0 ≡ 1) × (get_or flags j 0 ≡ 1 → ⊥) → Open (network m graph) m false flags r
-      adds l h =
-          rw h.0 (record {
-            from = k;
-            below = kl;
-            there = h.1;
-            edge = slot_read legal k kl s j sl is;
-            absent = h.2;
-          })
 
-      shut : m ≤ r → (i : ℕ) → place_at graph k s ≡ first_gate + i → get_or flags k 0 ≡ 1 → get_or flags i 0 ≡ 1
-      shut past i e =
-          let q : i ≡ j = omega (arith, e, is) in
-          rw q (⊎_elim (λ h. absurd (omega (arith, h.0, below))) (λ h. h.1) a.cases)
-
-  pub target-back : {flags : List ℕ} {r : ℕ} → Added m flags j k r → SlotTarget m graph true flags k s r
+  pub target-back : (flags : List ℕ) (r : Option ℕ) → Added flags j k r → SlotTarget m graph true flags k s r
   unfolding Edge Shut
-  target-back {flags} {r} a =
+  target-back flags None a = record { shut = λ i e. let q : i ≡ j = omega (arith, e, is) in rw q a }
+  target-back flags (Some t) (e, h, n) =
       record {
-        found = λ l. ⊎_elim (adds l) (λ h. absurd (omega (arith, h.0))) a.cases;
-        none = λ past i e. shut past
-            i e;
+        below = omega (arith, e, kl);
+        adds = rw e (record { from = j; below = below; there = h; edge = slot_read legal k kl s j sl is; absent = n });
       }
-    where
-      adds : r < m → (r ≡ k) × (get_or flags j 0 ≡ 1) × (get_or flags k 0 ≡ 1 → ⊥) → Open (network m graph) m true flags r
-      adds l h =
-          rw h.0 (record {
-            from = j;
-            below = below;
-            there = h.1;
-            edge = slot_read legal k kl s j sl is;
-            absent = h.2;
-          })
-
-      shut : m ≤ r → (i : ℕ) → place_at graph k s ≡ first_gate + i → get_or flags i 0 ≡ 1 → get_or flags k 0 ≡ 1
-      shut past i e =
-          let q : i ≡ j = omega (arith, e, is) in
-          rw q (⊎_elim (λ h. absurd (omega (arith, h.0))) (λ h. h.1) a.cases)
 
 -- no slot of gate k adds a gate
 pub none-by-slots : {m : ℕ} {graph : List ℕ} → Graph m graph → (k : ℕ) → k < m → (back : Bool) (flags : List ℕ)
-    → ((s : ℕ) → s < slots → (j : ℕ) → place_at graph k s ≡ first_gate + j → Shut back flags k j)
-    → (j : ℕ) → reads (network m graph) k j ≡ true → Shut back flags k j
-none-by-slots legal k kl back flags shut j r = let s = read-slot legal k kl j r in shut s.0 s.1 j s.2
+    → ((s : ℕ) → s < slots → SlotShut graph back flags k s) → GateShut m graph back flags k
+none-by-slots legal k kl back flags shut =
+    record { shut = λ j r. let s = read-slot legal k kl j r in (shut s.0 s.1).shut j s.2 }
 
 -- ---- growing
 
@@ -166,55 +138,52 @@ module _ {m : ℕ} {graph : List ℕ} (legal : Graph m graph) (flags : List ℕ)
   complete false start l h shut j jl w = ahead shut l h w
   complete true start l h shut j jl w = behind shut jl h w
 
-pub reached : {m : ℕ} {graph : List ℕ} {back : Bool} {start : ℕ} {flags : List ℕ} {t : ℕ} → Graph m graph → start < m
-    → Growing m graph back start flags → Target m graph back flags t → m ≤ t → Reached m graph back start flags
-reached {back = back} {start = start} {flags = flags} legal l g target past =
+pub reached : {m : ℕ} {graph : List ℕ} {back : Bool} {start : ℕ} {flags : List ℕ} → Graph m graph → start < m
+    → Growing m graph back start flags → ((k : ℕ) → k < m → GateShut m graph back flags k)
+    → Reached m graph back start flags
+reached {back = back} {start = start} {flags = flags} legal l g shut =
     record {
       room = g.room;
       sound = g.sound;
-      complete = complete legal flags back start l g.first
-          (target.none past);
+      complete = complete legal flags back start l g.first (λ k j kl. (shut k kl).shut j);
     }
 
 -- ---- the lowest of both
 
 module _ {m : ℕ} {graph : List ℕ} (legal : Graph m graph) {j : ℕ} (jl : j < m) {fore aft : List ℕ}
     (f : Reached m graph false j fore)
-    (a : Reached m graph true j aft) {r : ℕ} (low : LowestOfBoth m fore aft r) where
+    (a : Reached m graph true j aft) {r : ℕ} (low : r ≡ least (in_both fore aft) m) where
   -- in both sets, and of one group
-  both-same : (i : ℕ) → i < m → get_or fore i 0 ≡ 1 → get_or aft i 0 ≡ 1 → same_group (network m graph) j i ≡ true
+  both-same : (i : ℕ) → i < m → in_both fore aft i ≡ true → same_group (network m graph) j i ≡ true
   unfolding same_group Walk
-  both-same i il p q =
+  both-same i il h =
+      let p = eqb-true (get_or fore i 0) 1 (and_left (eqb (get_or fore i 0) 1) (eqb (get_or aft i 0) 1) h) in
+      let q = eqb-true (get_or aft i 0) 1 (and_right (eqb (get_or fore i 0) 1) (eqb (get_or aft i 0) 1) h) in
       and_intro (reaches (network m graph) j i) (reaches (network m graph) i j)
       (path-reaches (network m graph) j i (rw (network-count m graph) il) (f.sound i il p))
       (path-reaches (network m graph) i j (rw (network-count m graph) jl) (a.sound i il q))
 
-  same-both : (i : ℕ) → i < m → same_group (network m graph) j i ≡ true → (get_or fore i 0 ≡ 1) × (get_or aft i 0 ≡ 1)
+  same-both : (i : ℕ) → i < m → same_group (network m graph) j i ≡ true → in_both fore aft i ≡ true
   unfolding same_group Walk
-  same-both i il s = (
-    f.complete i il (reaches-path (network m graph) j i
-        (and_left (reaches (network m graph) j i) (reaches (network m graph) i j) s)),
-    a.complete i il (reaches-path (network m graph) i j
-        (and_right (reaches (network m graph) j i) (reaches (network m graph) i j) s)),
-  )
-
-  pub leader-below : r < m
-  leader-below =
-      ⊎_elim (λ h. h)
-      (λ past. absurd
-      (low.passed j (omega arith) (f.complete j jl (walk-stay (network m graph) false j))
-      (a.complete j jl (walk-stay (network m graph) true j))))
-      (lt-or-le r m)
+  same-both i il s =
+      and_intro (eqb (get_or fore i 0) 1) (eqb (get_or aft i 0) 1)
+      (eq-eqb (get_or fore i 0) 1 (f.complete i il (reaches-path (network m graph) j i
+      (and_left (reaches (network m graph) j i) (reaches (network m graph) i j) s))))
+      (eq-eqb (get_or aft i 0) 1 (a.complete i il (reaches-path (network m graph) i j
+      (and_right (reaches (network m graph) j i) (reaches (network m graph) i j) s))))
 
   pub leader-found : r ≡ leader_of (network m graph) j
   unfolding leader_of
   leader-found =
-      let l = leader-below in
-      sym (least-is (same_group (network m graph) j) (gate_count (network m graph)) r
-      (rw (network-count m graph) (omega arith))
-      (λ i il. not-true-false (same_group (network m graph) j i)
-      (λ s. let b = same-both i (omega arith) s in low.passed i il b.0 b.1))
-      (λ h. both-same r l (low.found l).0 (low.found l).1))
+      rw (network-count m graph)
+      (low ∙ least-cong (in_both fore aft) (same_group (network m graph) j) m
+      (λ i il. same_test (in_both fore aft i) (same_group (network m graph) j i) (both-same i il) (same-both i il)))
+
+  pub found-below : r < m
+  found-below =
+      let l : leader_of (network m graph) j < m =
+      rw (network-count m graph) at (leader-below (network m graph) j (rw (network-count m graph) jl)) in
+      rw leader-found l
 
 -- one leader more
 pub leading-more : {m : ℕ} {graph : List ℕ} → m ≤ max_gates → {j : ℕ} {ahead behind leaders : List ℕ}

@@ -1,23 +1,21 @@
 -- Gate i of a graph reads gate k exactly where one of its four slots has gate k's place. Cited by whoever walks a
 -- graph's slots. Assumes nothing.
---   by-slot      what holds of the four slots holds of each slot
 --   read-slot    a gate that is read has a slot
 --   read-inside  a gate that is read is one of the graph
 --   slot_read    a slot's gate is read
 use Prim.Native.Nat.{ℕ, ◌+◌, ◌-◌, ◌≤◌, ◌<◌}
-use mathlib.Core.Path.{◌≡◌, refl, sym, ap, ◌∙◌}
-use mathlib.Core.Logic.{◌⊎◌, inl, inr, ⊎_elim}
+use mathlib.Core.Path.{◌≡◌, refl}
+use mathlib.Core.Logic.{⊎_elim}
 use mathlib.Core.Bool.{Bool, true, false, false≢true, cond}
-use mathlib.Core.List.{List, [], ◌∷◌, map}
+use mathlib.Core.List.{List, []}
 use native.Mathlib.Omega.{arith}
-use lib.ListN.{length, get_or}
 use lib.Dec.{eqb, ltb, leb}
 use borrow.Author.Tests.{le-ltb, leb-true, ltb-false}
 use Rattle.prelude.specs.Lists.{tab, joined, member}
-use Rattle.prelude.proofs.Tests.{lt-or-le, eq-or-ne, and_right}
+use Rattle.prelude.proofs.Tests.{lt-or-le, and_right}
 use Rattle.prelude.proofs.Tab.{length-tab, get_d-tab, map-tab}
 use Rattle.prelude.proofs.Lists.{member-one, member-head}
-use Rattle.netlist.specs.Netlist.{Operand, input, gate, constant, gate_of}
+use Rattle.netlist.specs.Netlist.{input, gate, constant, gate_of}
 use Rattle.netlist.specs.Kinds.{signatures, signature_of, fewest_operands, most_operands, is_kind, arity_fits}
 use Rattle.netlist.specs.Groups.{gate_operand, read_by, reads}
 use Rattle.theory_reach.proofs.ListFacts.{joined-member, member-joined}
@@ -26,14 +24,6 @@ use Rattle.graph_gates.specs.Places.{first_gate, operand_at}
 use Rattle.graph_gates.specs.Graph.{slots, count_at, kind_at, place_at, gate_at, gates_in, network, controlling_of}
 use Rattle.graph_gates.specs.Graph.{operand_place, Graph}
 use Rattle.graph_gates.proofs.Places.{operand_at-gate}
-
-pub by-slot : (P : ℕ → Type 0) → P 0 → P 1 → P 2 → P 3 → (s : ℕ) → s < slots → P s
-by-slot P a b c d s l =
-    ⊎_elim (λ e. rw e a)
-    (λ n. ⊎_elim (λ e. rw e b)
-    (λ o. ⊎_elim (λ e. rw e c) (λ p. let e : s ≡ 3 = omega (arith, n, o, p) in rw e d) (eq-or-ne s 2))
-    (eq-or-ne s 1))
-    (eq-or-ne s 0)
 
 -- a gate has at most four operands
 most-four : (k count : ℕ) → is_kind k ≡ true → arity_fits k count ≡ true → count ≤ slots

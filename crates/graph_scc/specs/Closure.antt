@@ -5,7 +5,9 @@
 --   Open            a gate that can be added
 --   Target          one, or that there is none
 --   Reached         a set that is grown and sound
-use Rattle.std.specs.Prelude.{ℕ, ◌+◌, ◌≤◌, ◌<◌, ◌≡◌, ◌⊎◌, Bool, true, false, not, List, length, get_or, eqb}
+use Rattle.std.specs.Prelude.{ℕ, ◌+◌, ◌<◌, ◌≡◌, Bool, true, false, not, ◌&&◌, List, length, get_or, eqb}
+use Rattle.std.specs.declared.option.Option.{Option}
+use Rattle.std.specs.Option.{MatchOption}
 use Rattle.prelude.specs.Lists.{count_below}
 use Rattle.netlist.specs.Limits.{max_gates}
 use Rattle.netlist.specs.Netlist.{Block}
@@ -36,25 +38,37 @@ unfoldable pub Shut : Bool → List ℕ → ℕ → ℕ → Type 0
 Shut false flags i j = get_or flags i 0 ≡ 1 → get_or flags j 0 ≡ 1
 Shut true flags i j = get_or flags j 0 ≡ 1 → get_or flags i 0 ≡ 1
 
--- r is `to`, which can be added, or m
-pub record Added (m : ℕ) (flags : List ℕ) (from to r : ℕ) : Type 0 where
-  pub cases : ((r ≡ to) × (get_or flags from 0 ≡ 1) × (get_or flags to 0 ≡ 1 → ⊥))
-      ⊎ ((r ≡ m) × (get_or flags from 0 ≡ 1 → get_or flags to 0 ≡ 1))
+-- r is `to`, if it can be added
+abbrev pub Added : List ℕ → ℕ → ℕ → Option ℕ → Type 0
+Added flags from to r =
+    MatchOption r (get_or flags from 0 ≡ 1 → get_or flags to 0 ≡ 1)
+    (λ t. (t ≡ to) × (get_or flags from 0 ≡ 1) × (get_or flags to 0 ≡ 1 → ⊥))
+
+-- gate t of m can be added
+pub record OpenGate (m : ℕ) (graph : List ℕ) (back : Bool) (flags : List ℕ) (t : ℕ) : Type 0 where
+  pub below : t < m
+  pub adds : Open (network m graph) m back flags t
+
+-- no read by slot s of gate k leads out of the set
+pub record SlotShut (graph : List ℕ) (back : Bool) (flags : List ℕ) (k s : ℕ) : Type 0 where
+  pub shut : (j : ℕ) → place_at graph k s ≡ first_gate + j → Shut back flags k j
+
+-- no read by gate k does
+pub record GateShut (m : ℕ) (graph : List ℕ) (back : Bool) (flags : List ℕ) (k : ℕ) : Type 0 where
+  pub shut : (j : ℕ) → reads (network m graph) k j ≡ true → Shut back flags k j
 
 -- r is a gate that a read by slot s of gate k adds, or none does
-pub record SlotTarget (m : ℕ) (graph : List ℕ) (back : Bool) (flags : List ℕ) (k s r : ℕ) : Type 0 where
-  pub found : r < m → Open (network m graph) m back flags r
-  pub none : m ≤ r → (j : ℕ) → place_at graph k s ≡ first_gate + j → Shut back flags k j
+abbrev pub SlotTarget : ℕ → List ℕ → Bool → List ℕ → ℕ → ℕ → Option ℕ → Type 0
+SlotTarget m graph back flags k s r = MatchOption r (SlotShut graph back flags k s) (OpenGate m graph back flags)
 
 -- r is a gate that some read by gate k adds, or none does
-pub record GateTarget (m : ℕ) (graph : List ℕ) (back : Bool) (flags : List ℕ) (k r : ℕ) : Type 0 where
-  pub found : r < m → Open (network m graph) m back flags r
-  pub none : m ≤ r → (j : ℕ) → reads (network m graph) k j ≡ true → Shut back flags k j
+abbrev pub GateTarget : ℕ → List ℕ → Bool → List ℕ → ℕ → Option ℕ → Type 0
+GateTarget m graph back flags k r = MatchOption r (GateShut m graph back flags k) (OpenGate m graph back flags)
 
 -- r is a gate that some read adds, or none does
-pub record Target (m : ℕ) (graph : List ℕ) (back : Bool) (flags : List ℕ) (r : ℕ) : Type 0 where
-  pub found : r < m → Open (network m graph) m back flags r
-  pub none : m ≤ r → (k j : ℕ) → k < m → reads (network m graph) k j ≡ true → Shut back flags k j
+abbrev pub Target : ℕ → List ℕ → Bool → List ℕ → Option ℕ → Type 0
+Target m graph back flags r =
+    MatchOption r ((k : ℕ) → k < m → GateShut m graph back flags k) (OpenGate m graph back flags)
 
 pub record Growing (m : ℕ) (graph : List ℕ) (back : Bool) (start : ℕ) (flags : List ℕ) : Type 0 where
   pub room : length flags ≡ max_gates
@@ -71,16 +85,9 @@ pub record Reached (m : ℕ) (graph : List ℕ) (back : Bool) (start : ℕ) (fla
   pub sound : (j : ℕ) → j < m → get_or flags j 0 ≡ 1 → Walk (network m graph) back start j
   pub complete : (j : ℕ) → j < m → Walk (network m graph) back start j → get_or flags j 0 ≡ 1
 
--- whether gate i is in both sets
-pub record InBoth (ahead behind : List ℕ) (i : ℕ) (r : Bool) : Type 0 where
-  pub is : r ≡ true → (get_or ahead i 0 ≡ 1) × (get_or behind i 0 ≡ 1)
-  pub is_not : r ≡ false → get_or ahead i 0 ≡ 1 → get_or behind i 0 ≡ 1 → ⊥
-
--- r is the lowest gate in both sets
-pub record LowestOfBoth (m : ℕ) (ahead behind : List ℕ) (r : ℕ) : Type 0 where
-  pub small : r ≤ m
-  pub passed : (i : ℕ) → i < r → get_or ahead i 0 ≡ 1 → get_or behind i 0 ≡ 1 → ⊥
-  pub found : r < m → (get_or ahead r 0 ≡ 1) × (get_or behind r 0 ≡ 1)
+-- gate i is in both sets
+abbrev pub in_both : List ℕ → List ℕ → ℕ → Bool
+in_both ahead behind i = eqb (get_or ahead i 0) 1 && eqb (get_or behind i 0) 1
 
 -- r is the leader of gate j, and the arrays of the two sets keep their lengths
 pub record LeaderFound (m : ℕ) (graph : List ℕ) (j : ℕ) (ahead behind : List ℕ) (r : ℕ) : Type 0 where

@@ -51,10 +51,6 @@ pub record HasLowLink (m : ℕ) (graph order ends notes : List ℕ) (i : ℕ) : 
   pub nearer : distance_at order notes to < distance_at order notes i
   pub reading : reads (network m graph) (get_or order i 0) (get_or order to 0) ≡ true
 
--- r is the position of a gate that gate k reads, or it is no position
-pub record SlotPosition (m : ℕ) (graph positions : List ℕ) (k r : ℕ) : Type 0 where
-  pub read : r < m → (j : ℕ) × (j < m) × (get_or positions j 0 ≡ r) × (reads (network m graph) k j ≡ true)
-
 pub record CertifiedAt (m : ℕ) (graph order ends notes : List ℕ) (i : ℕ) : Type 0 where
   pub cases : (last_of ends i ≡ i) ⊎ (HasParent m graph order ends i × HasLowLink m graph order ends notes i)
 

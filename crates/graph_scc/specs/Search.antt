@@ -2,18 +2,16 @@
 -- alone. Assumes nothing.
 --   clock_end     the last time of a search
 --   StandingReady, LeftOne   the numbers of a search
---   SameRooms    the lengths of its arrays
 --   OneLayer     all gates as one loop
+--   SlotGate     the gate that a slot reads
 --   LayerStep    what the check finds of one position; `positions` says where each gate stands in the order
 --   Layered      what it finds of all
-use Rattle.std.specs.Prelude.{ℕ, ◌+◌, ◌*◌, ◌≤◌, ◌<◌, ◌≡◌, ◌⊎◌, List, length, get_or}
+use Rattle.std.specs.Prelude.{ℕ, ◌+◌, ◌≤◌, ◌<◌, ◌≡◌, ◌⊎◌, List, get_or}
+use Rattle.std.specs.declared.option.Option.{Option}
+use Rattle.std.specs.Option.{MatchOption}
 use Rattle.netlist.specs.Limits.{max_gates}
 use Rattle.graph_gates.specs.Places.{first_gate}
 use Rattle.graph_gates.specs.Graph.{slots, place_at, Graph}
-
--- the code's notes::NOTES
-abbrev pub note_room : ℕ
-note_room = 4 * max_gates
 
 -- the code's search::CLOCK
 abbrev pub clock_end : ℕ
@@ -30,18 +28,19 @@ pub record LeftOne (top count top' count' : ℕ) : Type 0 where
   pub low : top' ≤ max_gates
   pub more : count' + top' ≤ count + top + 1
 
--- arrays keep their lengths, which their types do not tell a proof
-pub record SameRooms (order ends order' ends' : List ℕ) : Type 0 where
-  pub order_room : length order' ≡ length order
-  pub end_room : length ends' ≡ length ends
+-- r is the gate that slot s of gate k reads, if it reads one
+abbrev pub SlotGate : ℕ → List ℕ → ℕ → ℕ → Option ℕ → Type 0
+SlotGate m graph k s r =
+    MatchOption r ((j : ℕ) → place_at graph k s ≡ first_gate + j → ⊥)
+    (λ j. (j < m) × (place_at graph k s ≡ first_gate + j))
 
 -- slot s of gate j reads no gate, or one that stands before `end`
-abbrev pub SlotBefore : List ℕ → List ℕ → ℕ → ℕ → ℕ → Type 0
-SlotBefore graph positions j end s = (k : ℕ) → place_at graph j s ≡ first_gate + k → get_or positions k 0 < end
+pub record SlotBefore (graph positions : List ℕ) (j end s : ℕ) : Type 0 where
+  pub before : (k : ℕ) → place_at graph j s ≡ first_gate + k → get_or positions k 0 < end
 
 -- every gate that gate j reads stands before `end`
 abbrev pub Before : List ℕ → List ℕ → ℕ → ℕ → Type 0
-Before graph positions j end = (s k : ℕ) → s < slots → place_at graph j s ≡ first_gate + k → get_or positions k 0 < end
+Before graph positions j end = (s : ℕ) → s < slots → SlotBefore graph positions j end s
 
 -- position i ends its layer, is one of no loop, or has the same end as the position behind it
 abbrev pub EndStep : ℕ → List ℕ → ℕ → Type 0

@@ -1,32 +1,32 @@
 // The transitive closure, for leaders without a certificate: of each gate the gates that it reaches and those that
 // reach it, each set grown gate by gate as long as a gate can be added. No graph is known for which this is needed.
 ghost use Rattle.std.specs.Prelude.{◌≡◌, ◌≤◌, ◌<◌, length};
+ghost use Rattle.prelude.specs.Lists.{least};
 ghost use Rattle.netlist.specs.Limits.{max_gates};
 ghost use Rattle.graph_gates.specs.Graph.{slots, network, Graph};
 ghost use Rattle.graph_scc.specs.Leaders.{leader_of, Leads};
-ghost use Rattle.graph_scc.specs.Closure.{Added, SlotTarget, GateTarget, Target, Growing, Reached, InBoth};
-ghost use Rattle.graph_scc.specs.Closure.{LowestOfBoth, LeaderFound};
+ghost use Rattle.graph_scc.specs.Closure.{Added, SlotTarget, GateTarget, Target, Growing, Reached, in_both};
+ghost use Rattle.graph_scc.specs.Closure.{LeaderFound};
 
-use crate::words::{graph_word, word_of};
-use graph_gates::{FIRST_GATE, GRAPH_WORDS, NODE_SIZE};
+use crate::operands::slot_gate;
+use graph_gates::{GRAPH_WORDS, SLOTS};
 use words_layout::fill::fill_words;
 use words_layout::limits::MAX_GATES;
 
-// Gate `to`, if gate `from` is in the set and gate `to` is not; else m.
-fn added(m: usize, from: usize, to: usize, flags: &[u16; MAX_GATES]) -> usize
+// Gate `to`, if gate `from` is in the set and gate `to` is not.
+fn added(from: usize, to: usize, flags: &[u16; MAX_GATES]) -> Option<usize>
     requires { (from < max_gates) × (to < max_gates) }
-    ensures { Added m flags.now from to result }
+    ensures { Added flags.now from to result }
 {
-    if word_of(flags, from) != 1 {
-        return m;
+    if flags[from] == 1 && flags[to] != 1 {
+        Some(to)
+    } else {
+        None
     }
-    if word_of(flags, to) == 1 {
-        return m;
-    }
-    to
 }
 
-// The gate that a read by slot `s` of gate k adds, or m: what is read, or going back the gate that reads.
+// The gate that a read by slot `s` of gate k adds, if it adds one: what is read, or going back the gate that reads. This
+// is all that `back` chooses, and a closure in its place would be lent through the same five functions.
 fn slot_target(
     graph: &[u16; GRAPH_WORDS],
     m: usize,
@@ -34,60 +34,43 @@ fn slot_target(
     s: usize,
     back: bool,
     flags: &[u16; MAX_GATES],
-) -> usize
+) -> Option<usize>
     requires { Graph m graph.now × (k < m) × (s < slots) }
     ensures { SlotTarget m graph.now back flags.now k s result }
 {
-    let place = graph_word(graph, NODE_SIZE * k + 1 + s) as usize;
-    if place < FIRST_GATE {
-        return m;
-    }
+    let j = slot_gate(graph, m, k, s)?;
     if back {
-        return added(m, place - FIRST_GATE, k, flags);
+        added(j, k, flags)
+    } else {
+        added(k, j, flags)
     }
-    added(m, k, place - FIRST_GATE, flags)
 }
 
-// The gate that a read of gate k adds, or m.
+// The gate that a read of gate k adds, if one does.
 fn gate_target(
     graph: &[u16; GRAPH_WORDS],
     m: usize,
     k: usize,
     back: bool,
     flags: &[u16; MAX_GATES],
-) -> usize
+) -> Option<usize>
     requires { Graph m graph.now × (k < m) }
     ensures { GateTarget m graph.now back flags.now k result }
 {
-    let t = slot_target(graph, m, k, 0, back, flags);
-    if t < m {
-        return t;
-    }
-    let t = slot_target(graph, m, k, 1, back, flags);
-    if t < m {
-        return t;
-    }
-    let t = slot_target(graph, m, k, 2, back, flags);
-    if t < m {
-        return t;
-    }
-    slot_target(graph, m, k, 3, back, flags)
+    (0..SLOTS).find_map(|s| slot_target(graph, m, k, s, back, flags))
 }
 
-// A gate that some read adds, or m.
-fn next_target(graph: &[u16; GRAPH_WORDS], m: usize, back: bool, flags: &[u16; MAX_GATES]) -> usize
+// A gate that some read adds, if one does.
+fn next_target(
+    graph: &[u16; GRAPH_WORDS],
+    m: usize,
+    back: bool,
+    flags: &[u16; MAX_GATES],
+) -> Option<usize>
     requires { Graph m graph.now }
     ensures { Target m graph.now back flags.now result }
 {
-    let mut k = 0;
-    while k < m {
-        let t = gate_target(graph, m, k, back, flags);
-        if t < m {
-            return t;
-        }
-        k += 1;
-    }
-    m
+    (0..m).find_map(|k| gate_target(graph, m, k, back, flags))
 }
 
 // Adds gates until none can be added.
@@ -101,10 +84,9 @@ fn grow(
     requires { Graph m graph.now × (start < m) × Growing m graph.now back start flags.old }
     ensures { Reached m graph.now back start flags.new }
 {
-    let mut t = next_target(graph, m, back, flags);
-    while t < m {
+    // Each turn asks anew, over the flags that it sets itself, so that no iterator could lend them.
+    while let Some(t) = next_target(graph, m, back, flags) {
         flags[t] = 1;
-        t = next_target(graph, m, back, flags);
     }
 }
 
@@ -124,30 +106,14 @@ fn reach_from(
     grow(graph, m, start, back, flags);
 }
 
-// Is gate i in both sets?
-fn is_in_both(i: usize, ahead: &[u16; MAX_GATES], behind: &[u16; MAX_GATES]) -> bool
-    requires { i < max_gates }
-    ensures { InBoth ahead.now behind.now i result }
-{
-    if word_of(ahead, i) != 1 {
-        return false;
-    }
-    word_of(behind, i) == 1
-}
-
 // The lowest gate that is in both sets, or m.
 fn lowest_of_both(m: usize, ahead: &[u16; MAX_GATES], behind: &[u16; MAX_GATES]) -> usize
     requires { m ≤ max_gates }
-    ensures { LowestOfBoth m ahead.now behind.now result }
+    ensures { result ≡ least (in_both ahead.now behind.now) m }
 {
-    let mut i = 0;
-    while i < m {
-        if is_in_both(i, ahead, behind) {
-            return i;
-        }
-        i += 1;
-    }
-    i
+    (0..m)
+        .find(|&i| ahead[i] == 1 && behind[i] == 1)
+        .unwrap_or(m)
 }
 
 // The leader of gate j: the lowest gate that it reaches and that reaches it.
@@ -178,10 +144,8 @@ fn lead_each(
         × (length leaders.old ≡ max_gates) }
     ensures { Leads (network m graph.now) m leaders.new }
 {
-    let mut j = 0;
-    while j < m {
+    for j in 0..m {
         leaders[j] = leader_of(graph, m, j, ahead, behind) as u16;
-        j += 1;
     }
 }
 

@@ -5,7 +5,8 @@ ghost use Rattle.graph_gates.specs.Graph.{Graph};
 ghost use Rattle.graph_scc.specs.Layers.{Layers};
 ghost use Rattle.graph_scc.specs.Search.{OneLayer};
 
-use crate::check::{are_layers, find_positions};
+use crate::check::find_positions;
+use crate::layering::Layering;
 use crate::notes::NOTES;
 use crate::search::find_layers;
 use graph_gates::GRAPH_WORDS;
@@ -16,11 +17,9 @@ fn write_one_layer(m: usize, order: &mut [u16; MAX_GATES], ends: &mut [u16; MAX_
     requires { (m ≤ max_gates) × (length order.old ≡ max_gates) × (length ends.old ≡ max_gates) }
     ensures { OneLayer m m order.new ends.new }
 {
-    let mut i = 0;
-    while i < m {
+    for i in 0..m {
         order[i] = i as u16;
         ends[i] = m as u16;
-        i += 1;
     }
 }
 
@@ -39,7 +38,15 @@ fn layer_with(
     find_layers(graph, m, stack, notes, order, ends);
     // The search is over, so its stack is room for the positions.
     find_positions(m, order, stack);
-    if !are_layers(graph, m, order, ends, stack) {
+    let layering = Layering {
+        graph,
+        gates: m,
+        order,
+        ends,
+        positions: stack,
+        notes,
+    };
+    if !layering.are_layers() {
         write_one_layer(m, order, ends);
     }
 }

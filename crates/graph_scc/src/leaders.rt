@@ -4,19 +4,19 @@
 ghost use Rattle.std.specs.Prelude.{◌≡◌, true, ◌<◌, length};
 ghost use Rattle.netlist.specs.Limits.{max_gates};
 ghost use Rattle.graph_gates.specs.Graph.{network, Graph};
-ghost use Rattle.graph_scc.specs.Leaders.{Leads, Certified, FirstOf};
+ghost use Rattle.graph_scc.specs.Leaders.{Leads, FirstOf};
+ghost use Rattle.graph_scc.specs.Checked.{IsCertified};
 
-use crate::certified::{are_certified, last_of};
-use crate::check::{are_layers, find_positions};
+use crate::check::find_positions;
 use crate::closure::lead_by_closure;
+use crate::layering::Layering;
 use crate::notes::NOTES;
 use crate::search::find_layers;
-use crate::words::word_of;
 use graph_gates::GRAPH_WORDS;
 use words_layout::fill::fill_words;
 use words_layout::limits::MAX_GATES;
 
-// The mark of no gate.
+// The mark of no gate: firsts are words of fixed memory, which hold no Option.
 const NONE: usize = 65535;
 
 // The first gate that had this key, which is gate k, if none had it before.
@@ -24,7 +24,7 @@ fn first_of(key: usize, k: usize, firsts: &mut [u16; MAX_GATES]) -> usize
     requires { (key < max_gates) × (k < max_gates) }
     ensures { FirstOf key k firsts.old firsts.new result }
 {
-    let first = word_of(firsts, key) as usize;
+    let first = firsts[key] as usize;
     if first != NONE {
         return first;
     }
@@ -33,46 +33,22 @@ fn first_of(key: usize, k: usize, firsts: &mut [u16; MAX_GATES]) -> usize
 }
 
 // Each gate gets the first gate whose layer has the same last position.
-fn lead_layers(
-    graph: &[u16; GRAPH_WORDS],
-    m: usize,
-    order: &[u16; MAX_GATES],
-    ends: &[u16; MAX_GATES],
-    positions: &[u16; MAX_GATES],
-    notes: &[u16; NOTES],
-    firsts: &mut [u16; MAX_GATES],
-    leaders: &mut [u16; MAX_GATES],
-)
-    requires { Certified m graph.now order.now ends.now positions.now notes.now × (length firsts.old ≡ max_gates)
-        × (length leaders.old ≡ max_gates) }
-    ensures { Leads (network m graph.now) m leaders.new }
+fn lead_layers(layering: &Layering, firsts: &mut [u16; MAX_GATES], leaders: &mut [u16; MAX_GATES])
+    requires { IsCertified layering.now × (length firsts.old ≡ max_gates) × (length leaders.old ≡ max_gates) }
+    ensures { Leads (network layering.now.gates layering.now.graph.now) layering.now.gates leaders.new }
 {
-    fill_words(firsts, m, NONE as u16);
-    let mut k = 0;
-    while k < m {
-        let key = last_of(ends, word_of(positions, k) as usize);
+    fill_words(firsts, layering.gates, NONE as u16);
+    for k in 0..layering.gates {
+        let key = layering.last_of(layering.positions[k] as usize);
         leaders[k] = first_of(key, k, firsts) as u16;
-        k += 1;
     }
 }
 
 // Are the layers certified to be the strongly connected components?
-fn is_certified(
-    graph: &[u16; GRAPH_WORDS],
-    m: usize,
-    order: &[u16; MAX_GATES],
-    ends: &[u16; MAX_GATES],
-    positions: &[u16; MAX_GATES],
-    notes: &[u16; NOTES],
-) -> bool
-    requires { Graph m graph.now }
-    ensures { result ≡ true → Certified m graph.now order.now ends.now positions.now
-        notes.now }
+fn is_certified(layering: &Layering) -> bool
+    ensures { result ≡ true → IsCertified layering.now }
 {
-    if !are_layers(graph, m, order, ends, positions) {
-        return false;
-    }
-    are_certified(graph, m, order, ends, positions, notes)
+    layering.are_layers() && layering.are_certified()
 }
 
 // Finds the leaders, with room lent for the search.
@@ -92,8 +68,16 @@ fn lead_with(
     find_layers(graph, m, stack, notes, order, ends);
     // The search is over, so its stack is room for the positions.
     find_positions(m, order, stack);
-    if is_certified(graph, m, order, ends, stack, notes) {
-        lead_layers(graph, m, order, ends, stack, notes, firsts, leaders);
+    let layering = Layering {
+        graph,
+        gates: m,
+        order,
+        ends,
+        positions: stack,
+        notes,
+    };
+    if is_certified(&layering) {
+        lead_layers(&layering, firsts, leaders);
         return;
     }
     lead_by_closure(graph, m, leaders);

@@ -7,8 +7,10 @@
 mod certified;
 mod check;
 mod closure;
+mod layering;
 pub mod layers;
 pub mod leaders;
 mod notes;
+mod operands;
 mod search;
 pub mod words;

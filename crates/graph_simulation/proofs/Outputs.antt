@@ -5,18 +5,18 @@ use mathlib.Core.Path.{◌≡◌, refl, sym, ap, ◌∙◌}
 use mathlib.Core.Logic.{⊎_elim}
 use mathlib.Core.Bool.{false}
 use mathlib.Core.List.{List}
-use Prim.Native.Nat.{ℕ, ◌+◌, ◌-◌, ◌*◌, ◌≤◌, ◌<◌}
+use Prim.Native.Nat.{ℕ, ◌+◌, ◌*◌, ◌<◌}
 use native.Mathlib.Omega.{arith}
 use lib.ListN.{get_or}
 use Rattle.prelude.proofs.Tests.{lt-or-le}
-use Rattle.netlist.specs.Values.{Value, code, value_of}
+use Rattle.netlist.specs.Values.{code, value_of}
 use Rattle.netlist.specs.Netlist.{Output}
 use Rattle.netlist.specs.StoredBlock.{name_size, output_size, nevers_at, gates_at, outputs_at, output_at, operand_of, decode}
 use Rattle.netlist.specs.StoredBlock.{is_malformed}
 use Rattle.netlist.specs.Rounds.{operand_value, output_value}
 use Rattle.theory_encoding.proofs.Readers.{whole_parts, whole-node}
 use Rattle.theory_encoding.proofs.Decoded.{decode-output}
-use Rattle.graph_gates.specs.Places.{first_input, first_gate, place_count, place_of}
+use Rattle.graph_gates.specs.Places.{first_gate, place_of}
 use Rattle.graph_gates.proofs.Places.{place-input, place-gate, operand_at-word}
 use Rattle.graph_simulation.specs.State.{Coded, inputs_in, state_in, ShownAt}
 use Rattle.graph_simulation.proofs.Codes.{code_same}

@@ -1,21 +1,21 @@
 -- The array of values before the first round: constants, then inputs one by one. Assumes nothing.
 --   blank, empty                      arrays as they are made
 --   starting-none, starting-more      no input, and one more
+--   starting-copied                   all inputs, copied at once
 use mathlib.Core.Path.{◌≡◌, refl, sym, ap, ◌∙◌}
 use mathlib.Core.Logic.{⊎_elim}
-use mathlib.Core.List.{List, [], ◌∷◌, ◌++◌}
-use Prim.Native.Nat.{ℕ, zero, suc, ◌+◌, ◌-◌, ◌≤◌, ◌<◌}
+use mathlib.Core.List.{List, [], ◌∷◌, ◌++◌, map, map-append}
+use Prim.Native.Nat.{ℕ, zero, suc, ◌+◌, ◌≤◌, ◌<◌}
 use native.Mathlib.Omega.{arith}
-use lib.ListN.{length, get_or, set, replicate, length-set, length-append, length-replicate, get_or-replicate}
+use lib.ListN.{length, get_or, set, take, replicate, length-set, length-map, length-append, length-replicate, get_or-replicate}
 use lib.ListN.{get_or-append, get_or-eq_default}
-use lib.Seq.{get_or-set_same, get_or-set_other, get_or-append-add}
-use Rattle.prelude.specs.Lists.{all}
+use lib.Seq.{get_or-set_same, get_or-set_other, get_or-append-add, take-suc, length-take-le, paste, paste-zero, paste-suc}
 use Rattle.prelude.proofs.Tests.{lt-or-le, eq-or-ne}
 use Rattle.netlist.specs.Limits.{max_inputs, max_gates}
 use Rattle.netlist.specs.Values.{Value, undefined, value_of}
 use Rattle.graph_gates.specs.Places.{first_input, first_gate, place_count}
 use Rattle.graph_gates.specs.Fanout.{fanout_size, Empty}
-use Rattle.graph_simulation.specs.Rounded.{Blank, Starting, ScratchReady}
+use Rattle.graph_simulation.specs.Rounded.{Blank, Bytes, Starting, ScratchReady}
 
 -- zeros
 zeros : (n k : ℕ) → ◌≡◌ {A = ℕ} (get_or (replicate n 0) k 0) 0
@@ -139,3 +139,21 @@ module _ {x : List Value} {values : List ℕ} (s : Starting x values) (i v : ℕ
         few = rw (length-append x (value_of v ∷ [])) (omega arith);
         given = given';
       }
+
+-- and of all of them, as the first i of their bytes are copied
+pub starting-copied : {values : List ℕ} (setting : List ℕ) → Bytes setting → Starting [] values → (i : ℕ)
+    → i ≤ length setting
+    → Starting (map value_of (take i setting)) (paste values first_input setting i)
+starting-copied {values} setting b s zero h = rw (← paste-zero values first_input setting) s
+starting-copied {values} setting b s (suc i) h =
+    let few : i < length setting = omega arith in
+    let before : Starting (map value_of (take i setting)) (paste values first_input setting i) =
+    starting-copied setting b s i (omega arith) in
+    let long : length (map value_of (take i setting)) ≡ i =
+    length-map (take i setting) value_of ∙ length-take-le i setting (omega arith) in
+    let more : map value_of (take (suc i) setting) ≡ map value_of (take i setting) ++ (value_of (get_or setting i 0) ∷ []) =
+    rw (take-suc setting i 0 few) (map-append value_of (take i setting) (get_or setting i 0 ∷ [])) in
+    let turn : set (paste values first_input setting i) (first_input + i) (get_or setting i 0)
+    ≡ paste values first_input setting (suc i) =
+    paste-suc values first_input setting i 0 (omega (arith, s.unsettled.coded.long, b.few)) few in
+    rw (more, ← turn) (starting-more before i (get_or setting i 0) long (omega (arith, b.few)) (b.most i))

@@ -6,22 +6,21 @@
 -- Assumes nothing.
 use mathlib.Core.Path.{◌≡◌, refl, sym, ap, ◌∙◌}
 use mathlib.Core.Logic.{⊎_elim}
-use mathlib.Core.Bool.{false, true}
-use mathlib.Core.List.{List, [], map}
-use Prim.Native.Nat.{ℕ, zero, suc, ◌+◌, ◌-◌, ◌*◌, ◌≤◌, ◌<◌}
+use mathlib.Core.List.{List, []}
+use Prim.Native.Nat.{ℕ, ◌+◌, ◌-◌, ◌*◌, ◌≤◌, ◌<◌}
 use native.Mathlib.Omega.{arith}
 use lib.ListN.{length, get_or}
 use borrow.Author.Tests.{ne_eqb, lt-ltb, le-ltb}
 use Rattle.prelude.specs.Lists.{tab}
 use Rattle.prelude.proofs.Tests.{lt-or-le, eq-or-ne}
 use Rattle.prelude.proofs.Tab.{get_d-tab, length-tab, map-tab, tab-ext}
-use Rattle.netlist.specs.Limits.{max_inputs, max_gates}
-use Rattle.netlist.specs.Values.{Value, undefined, val, code, value_of}
+use Rattle.netlist.specs.Limits.{max_inputs}
+use Rattle.netlist.specs.Values.{Value, undefined, code, value_of}
 use Rattle.netlist.specs.Kinds.{gate_value}
-use Rattle.netlist.specs.Netlist.{Operand, input, gate, constant, gate_of}
+use Rattle.netlist.specs.Netlist.{gate_of}
 use Rattle.netlist.specs.Rounds.{operand_value, evaluated}
-use Rattle.graph_gates.specs.Places.{first_input, first_gate, place_count, operand_at}
-use Rattle.graph_gates.specs.Graph.{node_size, slots, operation_word, kind_at, count_at, place_at, gate_at, gates_in, network}
+use Rattle.graph_gates.specs.Places.{first_input, first_gate, operand_at}
+use Rattle.graph_gates.specs.Graph.{node_size, operation_word, kind_at, count_at, place_at, gate_at, gates_in, network}
 use Rattle.graph_gates.specs.Graph.{Graph}
 use Rattle.words_layout.proofs.KindLaws.{kind-last}
 use Rattle.graph_gates.proofs.Rules.{controlling-small, forced-small}

@@ -2,7 +2,7 @@
 -- functions.
 --   updated_none, one-new, updated-then   no gate, one that changes, one after the other
 --   updated-done, updated-ready           what was found stays, and what is asked holds on
---   copied_none, copied_next              the values that are copied
+--   copied_next                           the values that are copied
 --   round-first, round-next               the first round, and a further one
 -- Assumes nothing.
 use mathlib.Core.Path.{◌≡◌, refl, sym, ap, ◌∙◌}
@@ -34,7 +34,7 @@ use Rattle.graph_gates.specs.Places.{first_input, first_gate}
 use Rattle.graph_gates.specs.Graph.{slots, network, Graph}
 use Rattle.graph_gates.specs.Fanout.{Chain, Descends, Fanout}
 use Rattle.graph_gates.proofs.Network.{network-count}
-use Rattle.graph_gates.proofs.Chains.{chain-le, chain-step, chain-end, reading-below, reading-found}
+use Rattle.graph_gates.proofs.Chains.{chain-le, chain-step, reading-below, reading-found}
 use Rattle.graph_simulation.specs.State.{Coded, inputs_in, state_in, gate_code}
 use Rattle.graph_simulation.proofs.Codes.{code-most, code_same}
 use Rattle.graph_simulation.proofs.State.{evaluated-at}
@@ -96,11 +96,6 @@ module _ {m : ℕ} {graph values : List ℕ} where
     pub one_kept : (get_or found j 0 ≡ 2 → ⊥) → UpdatedOne m graph values found queue end j found queue end
     one_kept h =
         record { updated = updated_none found queue end; done = ⊎_elim (λ e. absurd (h e)) (λ d. d) (r.steady j l) }
-
-    -- a gate that gets none
-    pub one-undefined : {v : ℕ} → get_or found j 0 ≡ 2 → v ≡ gate_code graph values j → v ≡ 2
-        → UpdatedOne m graph values found queue end j found queue end
-    one-undefined was is none = record { updated = updated_none found queue end; done = was ∙ sym none ∙ is }
 
     module _ (v : ℕ) (was : get_or found j 0 ≡ 2) (some : v ≡ 2 → ⊥) where
       more : defined_from 0 (set found j v) m ≡ suc (defined_from 0 found m)
@@ -259,22 +254,7 @@ module _ {m : ℕ} {graph values found queue : List ℕ} {end : ℕ} {found' que
           (λ ne. inr (s.0, s.1, (s.2.0, omega (arith, s.2.1), s.2.2, s.2.3)))
           (eq-or-ne s.2.0 q)
 
--- at the end of a list, and of the queue
-pub awaiting-end : (graph fanout values found : List ℕ) (from p : ℕ) → Awaiting graph fanout values found from p → p ≤ 0
-    → (e : ℕ) → Chain fanout (suc e) from → Done graph values found (e / slots)
-awaiting-end graph fanout values found from p h z e c = ⊎_elim (λ v. v) (λ r. absurd (chain-end r z)) (h e c)
-
-pub pending-end : (m : ℕ) (graph values found front : List ℕ) (q tail : ℕ) → Pending m graph values found front q tail
-    → tail ≤ q
-    → (j : ℕ) → j < m → Done graph values found j
-pending-end m graph values found front q tail h z j l =
-    ⊎_elim (λ v. v) (λ s. absurd (omega (arith, s.2.1, s.2.2))) (h j l)
-
 -- ---- values copied
-
-pub copied_none : (found queue : List ℕ) (head : ℕ) (values : List ℕ) → Copied found queue head head values values
-copied_none found queue head values =
-    record { long = refl; low = λ p l. refl; each = λ j. inr (λ q. omega (arith, q.1, q.2), refl) }
 
 pub copied_next : {found queue : List ℕ} {head q : ℕ} {values values' : List ℕ}
     → Copied found queue head q values values' → head ≤ q

@@ -12,7 +12,7 @@ use Rattle.netlist.specs.Kinds.{is_kind, arity_fits, gate_value}
 use Rattle.netlist.specs.StoredBlock.{name_size, operand_of}
 use Rattle.words_layout.specs.Bounds.{max_word}
 use Rattle.graph_gates.specs.Places.{first_input, first_gate, place_count, place_of}
-use Rattle.graph_gates.specs.Graph.{node_size, slots, kind_at, count_at, place_at, Graph}
+use Rattle.graph_gates.specs.Graph.{node_size, slots, kind_at, count_at, place_at}
 
 pub record Coded (values : List ℕ) : Type 0 where
   pub long : length values ≡ place_count

@@ -71,10 +71,8 @@ pub fn update_all(
         found.new queue.new result }
 {
     let mut end = 0;
-    let mut j = 0;
-    while j < m {
+    for j in 0..m {
         end = update(table, graph, m, j, values, found, queue, end);
-        j += 1;
     }
     end
 }
@@ -99,8 +97,8 @@ fn update_fanout(
 {
     let mut end = tail;
     let mut p = list.from;
-    while 0 < p {
-        let e = p - 1;
+    // Each entry of the list names the next, so that no index counts them.
+    while let Some(e) = p.checked_sub(1) {
         end = update(
             table,
             graph,
@@ -138,15 +136,13 @@ fn update_changed(
         queue.new result }
 {
     let mut end = changed.tail;
-    let mut q = changed.head;
-    while q < changed.tail {
+    for q in changed.head..changed.tail {
         let k = queue[q] as usize;
         let list = FanoutList {
             gates: m,
             from: fanout[k] as usize,
         };
         end = update_fanout(table, graph, fanout, list, values, found, queue, end);
-        q += 1;
     }
     end
 }
@@ -162,11 +158,9 @@ fn copy_changed(
     ensures { Copied found.now queue.now changed.head changed.tail
         values.old values.new }
 {
-    let mut q = changed.head;
-    while q < changed.tail {
-        let k = queue[q] as usize;
+    for &k in &queue[changed.head..changed.tail] {
+        let k = k as usize;
         values[FIRST_GATE + k] = found[k];
-        q += 1;
     }
 }
 

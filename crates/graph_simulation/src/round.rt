@@ -26,7 +26,7 @@ pub fn prepare(words: &[u16], graph: &mut [u16; GRAPH_WORDS], fanout: &mut [u16;
 }
 
 // Runs rounds from all gates undefined until one changes nothing; gives how many changed something. The queue has the
-// gates that the rounds changed: from `head` to `tail` those of the last round. `found` has their values.
+// gates that the rounds changed: `changed` is where those of the last round stand. `found` has their values.
 fn settle_with(
     table: &[u8; GATE_ENTRIES],
     graph: &[u16; GRAPH_WORDS],
@@ -40,22 +40,16 @@ fn settle_with(
         × ScratchReady found.old queue.old }
     ensures { SettledIn m graph.now values.old values.new result }
 {
-    let mut head = 0;
-    let mut tail = update_all(table, graph, m, values, found, queue);
+    let tail = update_all(table, graph, m, values, found, queue);
+    let mut changed = Stretch { head: 0, tail };
     let mut count = 0;
-    while head < tail {
-        let end = next_round(
-            table,
-            graph,
-            fanout,
-            m,
-            values,
-            found,
-            queue,
-            Stretch { head, tail },
-        );
-        head = tail;
-        tail = end;
+    // How many rounds there are is the answer, known once a round changes nothing.
+    while changed.head < changed.tail {
+        let end = next_round(table, graph, fanout, m, values, found, queue, changed);
+        changed = Stretch {
+            head: changed.tail,
+            tail: end,
+        };
         count += 1;
     }
     count

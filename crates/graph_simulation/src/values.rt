@@ -24,11 +24,7 @@ pub fn put_setting(setting: &[u8], values: &mut [u8; PLACES])
     ensures { Starting (map value_of setting.now) values.new }
 {
     put_constants(values);
-    let mut i = 0;
-    while i < setting.len() {
-        values[FIRST_INPUT + i] = setting[i];
-        i += 1;
-    }
+    values[FIRST_INPUT..FIRST_INPUT + setting.len()].copy_from_slice(setting);
 }
 
 // Copies the bytes of m gates into the first bytes of `out`.
@@ -36,9 +32,5 @@ pub fn take_gates(values: &[u8; PLACES], m: usize, out: &mut [u8])
     requires { (m ≤ max_gates) × (m ≤ length out.old) }
     ensures { out.new ≡ placed (tab (λ j. get_or values.now (first_gate + j) 0) m) out.old }
 {
-    let mut j = 0;
-    while j < m {
-        out[j] = values[FIRST_GATE + j];
-        j += 1;
-    }
+    out[..m].copy_from_slice(&values[FIRST_GATE..FIRST_GATE + m]);
 }

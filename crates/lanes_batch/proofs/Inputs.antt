@@ -15,7 +15,7 @@ use Rattle.prelude.proofs.Tests.{lt-or-le}
 use Rattle.netlist.specs.Limits.{max_inputs}
 use Rattle.netlist.specs.Values.{Value, undefined}
 use Rattle.netlist.specs.Kinds.{gate_value}
-use Rattle.netlist.specs.Netlist.{Operand, input, gate, constant, Block, gate_count}
+use Rattle.netlist.specs.Netlist.{Operand, input, gate, constant, Block}
 use Rattle.netlist.specs.Steps.{step_at, run}
 use Rattle.netlist.specs.Rounds.{operand_value, evaluated, round, after_rounds, is_stable, rounds, settled, setting_of}
 use Rattle.lanes_dual_rail.specs.Pairs.{lane, no_lanes}

@@ -3,33 +3,32 @@
 --   network-gate, part-nodes                the gates of a graph
 --   lanes-one, lanes-swept, lanes-underway  one gate, a list of gates, and what is left on the way
 --   part-among, among-part                  positions of a part of the order
---   advanced-none, -swept, -still, -decided, -then   sweeps over a part
+--   advanced-swept, -still, -decided        sweeps over a part
 --   straight-start, -more, -fixed           a straight block, gate by gate
 --   settled-decoded                         a graph's settled values are the block's
---   fresh-underway, reached-start, reached-one, reached-loop, reached-fixed, lone-before   layers
+--   fresh-underway, reached-start, reached-one, reached-loop, reached-fixed   layers
 --   started-fresh, fixed-batch              a batch of settings
 -- Assumes nothing.
 use mathlib.Core.Path.{◌≡◌, refl, sym, ap, ap₂, ◌∙◌}
 use mathlib.Core.Logic.{inl, ⊎_elim}
 use mathlib.Core.Bool.{Bool, true, false, not, ◌||◌, true≢false, false≢true}
-use mathlib.Core.List.{List, [], ◌∷◌, ◌++◌, map}
-use Prim.Native.Nat.{ℕ, zero, suc, ◌+◌, ◌-◌, ◌*◌, ◌%◌, ◌≤◌, ◌<◌}
+use mathlib.Core.List.{List, [], ◌∷◌, map}
+use Prim.Native.Nat.{ℕ, ◌+◌, ◌-◌, ◌%◌, ◌≤◌, ◌<◌}
 use native.Mathlib.Omega.{arith}
 use borrow.Author.Tests.{eq-eqb, eqb-true}
-use lib.Bits.{bit_or}
 use lib.Dec.{eqb}
-use lib.ListN.{length, get_or, set, replicate, length-set, length-map, length-replicate, get_or-eq_default}
+use lib.ListN.{length, get_or, set, replicate, length-map, length-replicate, get_or-eq_default}
 use lib.Seq.{get_or-set_same, get_or-set_other}
 use Rattle.prelude.specs.Lists.{tab, member}
 use Rattle.prelude.proofs.Tab.{length-tab, get_d-tab}
-use Rattle.prelude.proofs.Tests.{lt-or-le, eq-or-ne}
+use Rattle.prelude.proofs.Tests.{lt-or-le}
 use Rattle.prelude.proofs.Lists.{map-replicate, member-left, member_right, member-head}
 use Rattle.prelude.proofs.Quantifiers.{member-at, member-from}
 use Rattle.netlist.specs.Limits.{max_inputs, max_gates}
 use Rattle.netlist.specs.Values.{Value, undefined, val}
-use Rattle.netlist.specs.Netlist.{Gate, Block, gate_count, gate_of}
+use Rattle.netlist.specs.Netlist.{Block, gate_count, gate_of}
 use Rattle.netlist.specs.Groups.{reads}
-use Rattle.netlist.specs.Rounds.{evaluated, settled, setting_of}
+use Rattle.netlist.specs.Rounds.{evaluated, setting_of}
 use Rattle.netlist.specs.Steps.{step_at, run}
 use Rattle.netlist.specs.Rendering.{is_straight}
 use Rattle.theory_reach.proofs.Straight.{straight-reads}
@@ -38,25 +37,25 @@ use Rattle.theory_fixpoint.proofs.Evaluation.{evaluated-agree}
 use Rattle.theory_fixpoint.proofs.AnyOrder.{start-below-settled, run-elsewhere, fixed-settled}
 use Rattle.theory_fixpoint.proofs.InPlace.{start-rising, run-fixed}
 use Rattle.theory_fixpoint.proofs.ListFacts.{get_d-replicate-default}
-use Rattle.graph_gates.specs.Places.{first_input, first_gate}
+use Rattle.graph_gates.specs.Places.{first_gate}
 use Rattle.graph_gates.specs.Graph.{gate_at, Node, Graph, network, Decoded}
 use Rattle.graph_gates.specs.Graph.{gates_in as gates_of}
 use Rattle.graph_gates.proofs.Network.{network-gates, network-count, count-gates, read_by-gates, settled-gates}
-use Rattle.graph_scc.specs.Layers.{LoopEnd, LayerEnd, Layers}
+use Rattle.graph_scc.specs.Layers.{LoopEnd, Layers}
 use Rattle.lanes_dual_rail.specs.declared.Pair.{Pair}
 use Rattle.lanes_dual_rail.specs.Pairs.{lane, full, no_lanes}
 use Rattle.lanes_dual_rail.specs.PairRounds.{evaluated_pair, LegalGate}
-use Rattle.lanes_dual_rail.specs.Batches.{lanes_of, input_pair}
-use Rattle.lanes_dual_rail.specs.LaneWords.{lane_size, pair_at, put_pair, inputs_in, gates_in, gate_pair_in}
+use Rattle.lanes_dual_rail.specs.Batches.{lanes_of}
+use Rattle.lanes_dual_rail.specs.LaneWords.{pair_at, inputs_in, gates_in, gate_pair_in}
 use Rattle.lanes_dual_rail.proofs.LaneLaws.{nothing-lane, nothing-proper}
 use Rattle.lanes_dual_rail.proofs.RoundLaws.{get_d-lane}
 use Rattle.lanes_dual_rail.proofs.LaneWordLaws.{node-legal, gate_pair_in-evaluated, put-inputs, put-gates, put-filled}
-use Rattle.lanes_batch.specs.Batch.{Underway, Swept, room, place_of}
+use Rattle.lanes_batch.specs.Batch.{place_of}
 use Rattle.lanes_batch.specs.Layered.{is_other, GateStored, GateEvaluated, GatesEvaluated, no_gate, gate_more, Part}
 use Rattle.lanes_batch.specs.Layered.{OrderPart, part, Among}
-use Rattle.lanes_batch.specs.Layered.{LanesUnderway, LanesSwept, room_in, value_at, evaluated_at, Still}
+use Rattle.lanes_batch.specs.Layered.{LanesUnderway, LanesSwept, value_at, evaluated_at, Still}
 use Rattle.lanes_batch.specs.Layered.{PartAdvanced, PartDecided}
-use Rattle.lanes_batch.specs.Layered.{start_inputs, LanesStarted, Reached, LayersSettled, StraightReached}
+use Rattle.lanes_batch.specs.Layered.{start_inputs, LanesStarted, Reached, LayersSettled}
 use Rattle.lanes_batch.specs.Layered.{LanesFresh, LanesFixed}
 use Rattle.lanes_batch.specs.Layered.{StraightUnder, StraightFixed, LanesSettled}
 use Rattle.lanes_batch.proofs.Sweeping.{swept_none, swept-one, swept-then, swept-underway, lane-defined}
@@ -225,16 +224,6 @@ values-long : (m s : ℕ) (w : List ℕ) → length (map (lane s) (gates_in m w)
 values-long m s w = length-map (gates_in m w) (lane s) ∙ gates-long m w
 
 module _ {m n : ℕ} {graph order : List ℕ} {from end : ℕ} where
-  -- nothing yet
-  pub advanced-none : {w : List ℕ} → LanesUnderway m n graph w → PartAdvanced m n graph order from end w w false
-  advanced-none u =
-      record {
-        underway = u;
-        inputs_kept = refl;
-        kept = λ s l j h. refl;
-        still = λ e. absurd (false≢true e);
-      }
-
   -- gates there were evaluated, and nothing is told
   pub advanced-swept : (back : Bool) {w after : List ℕ} {changed : Bool} → LanesUnderway m n graph w
       → LanesSwept m n graph (part back order from end) w after changed
@@ -301,33 +290,6 @@ module _ {m n : ℕ} {graph order : List ℕ} {from end : ℕ} where
           get_d-lane k (gates_in m after) j ∙ rw (gate-pair m after j (p.inside i l h)) defined.1 in
           a.underway.underway.rising k q j defined.0 is ∙ sym is
 
-  -- what is told, and what may be left untold
-  pub advanced-told : {w after : List ℕ} {r : Bool} → PartAdvanced m n graph order from end w after r → r ≡ true
-      → PartAdvanced m n graph order from end w after true
-  advanced-told a e = rw e at a
-
-  pub advanced-on : {w after : List ℕ} {r : Bool} → PartAdvanced m n graph order from end w after r
-      → PartAdvanced m n graph order from end w after false
-  advanced-on a =
-      record {
-        underway = a.underway;
-        inputs_kept = a.inputs_kept;
-        kept = a.kept;
-        still = λ e. absurd (false≢true e);
-      }
-
-  -- one after the other
-  pub advanced-then : {w mid after : List ℕ} {r s : Bool} → PartAdvanced m n graph order from end w mid r
-      → PartAdvanced m n graph order from end mid after s
-      → PartAdvanced m n graph order from end w after s
-  advanced-then a b =
-      record {
-        underway = b.underway;
-        inputs_kept = b.inputs_kept ∙ a.inputs_kept;
-        kept = λ i l j h. b.kept i l j h ∙ a.kept i l j h;
-        still = b.still;
-      }
-
 -- a sweep over a part, from its steps
 pub part-swept : {m n : ℕ} {graph order : List ℕ} {from end : ℕ} {w after : List ℕ} {changed : Bool} (back : Bool)
     → Graph m graph → OrderPart m order from end
@@ -336,20 +298,6 @@ pub part-swept : {m n : ℕ} {graph order : List ℕ} {from end : ℕ} {w after 
 part-swept {m} {n} {graph} {order} {from} {end} back g p u e =
     lanes-swept g (λ j h. let a = part-among back order from end j h in rw a.is at (p.inside a.at a.low
     a.high)) u e
-
--- gates of a part that are decided, one after the other
-pub decided-none : (used : ℕ) (order : List ℕ) (from : ℕ) (w : List ℕ) → PartDecided used order from from w
-decided-none used order from w = record { each = λ i l h. absurd (omega arith) }
-
-pub decided-more : {used : ℕ} {order : List ℕ} {from i : ℕ} {w : List ℕ} {p : Pair} → PartDecided used order from i w
-    → from ≤ i
-    → p ≡ pair_at w (first_gate + get_or order i 0) → bit_or p.zeros p.ones ≡ used
-    → PartDecided used order from (i + 1) w
-decided-more {used} {order} {from} {i} {w} d l e f =
-    record {
-      each =
-          λ k a b. ⊎_elim (λ h. d.each k a h) (λ h. let same : k ≡ i = omega arith in rw (same, ← e) f) (lt-or-le k i);
-    }
 
 -- ---- layers
 
@@ -500,20 +448,6 @@ module _ {m : ℕ} {graph order ends : List ℕ} (layers : Layers m graph order 
   pub loop-end : (i : ℕ) → i < m → (get_or ends i 0 ≡ i → ⊥) → LoopEnd m ends i
   loop-end i l d = ⊎_elim (λ e. absurd (d e)) (λ e. e) (layers.end i l).cases
 
-  -- a layer ends among the gates
-  pub ends-within : (i : ℕ) → i < m → get_or ends i 0 ≤ m
-  ends-within i l = ⊎_elim (λ e. rw e (omega arith)) (λ e. e.within) (layers.end i l).cases
-
-  -- a loop's positions
-  pub loop-part : (i : ℕ) → i < m → (get_or ends i 0 ≡ i → ⊥) → OrderPart m order i (get_or ends i 0)
-  loop-part i l d =
-      let e = loop-end i l d in
-      record {
-        ordered = let b = e.behind in omega arith;
-        within = e.within;
-        inside = λ k a b. layers.inside k (omega (arith, e.within));
-      }
-
   -- a loop
   pub reached-loop : {n : ℕ} {w after : List ℕ} (i : ℕ) → i < m → (get_or ends i 0 ≡ i → ⊥)
       → Reached m n graph order ends i w
@@ -564,11 +498,6 @@ module _ {m : ℕ} {graph order ends : List ℕ} (layers : Layers m graph order 
       fixed s l j h =
           let p = layers.every j (rw (network-count m graph) at h) in
           rw p.2 at (r.still p.0 p.1 s l)
-
--- where a gate on no loop stands at position i, and none at k, some position lies between
-pub lone-before : (ends : List ℕ) (i k : ℕ) → i ≤ k → get_or ends i 0 ≡ i → (get_or ends k 0 ≡ k → ⊥) → i < k
-lone-before ends i k l e d =
-    ⊎_elim (λ h. h) (λ h. let same : k ≡ i = omega arith in absurd (d (rw same e))) (lt-or-le i k)
 
 -- ---- a straight block's gates, as they come
 

@@ -1,5 +1,4 @@
--- The first pairs of a batch: words of 0, the two constants, and the inputs one after the other.
---   cleared-none, cleared_more    words of 0
+-- The first pairs of a batch: the two constants on words of 0, and the inputs one after the other.
 --   constants-started             the two constants
 --   inputs-none, inputs-more      the inputs' pairs
 --   padded-at, padded-proper      the pairs of all inputs, those past the block's own too
@@ -13,8 +12,9 @@ use Prim.Native.Nat.{ℕ, ◌+◌, ◌*◌, ◌≤◌, ◌<◌}
 use native.Mathlib.Omega.{arith}
 use borrow.Author.Tests.{lt-ltb, le-ltb}
 use lib.Dec.{ltb}
-use lib.ListN.{length, get_or, set, replicate, length-set, length-replicate, get_or-eq_default}
-use lib.Seq.{ext_get_or, get_or-set_same, get_or-set_other}
+use lib.ListN.{length, get_or, replicate, length-replicate}
+use lib.ListN.{get_or-eq_default}
+use lib.Seq.{ext_get_or}
 use Rattle.prelude.specs.Lists.{tab}
 use Rattle.prelude.proofs.Tab.{length-tab, get_d-tab, tab-ext}
 use Rattle.prelude.proofs.Tests.{lt-or-le, eq-or-ne}
@@ -29,18 +29,6 @@ use Rattle.lanes_dual_rail.specs.LaneWords.{lane_size, pair_at, put_pair, inputs
 use Rattle.lanes_dual_rail.proofs.LaneLaws.{nothing-proper}
 use Rattle.lanes_dual_rail.proofs.LaneWordLaws.{put-length, put_same, put_other}
 use Rattle.lanes_batch.specs.Layered.{Cleared, ConstantsStarted, InputsPut, padded, start_inputs, LanesStarted}
-
-pub cleared-none : (w : List ℕ) → Cleared 0 w w
-cleared-none w = record { long = refl; none = λ k l. absurd (omega arith) }
-
-pub cleared_more : {k : ℕ} {w mid : List ℕ} → Cleared k w mid → k < length w → Cleared (k + 1) w (set mid k 0)
-cleared_more {k} {w} {mid} c l =
-    record {
-      long = length-set mid k 0 ∙ c.long;
-      none =
-          λ i h. ⊎_elim (λ e. rw e (get_or-set_same mid k 0 0 (rw c.long l)))
-          (λ d. get_or-set_other mid k i 0 0 d ∙ c.none i (omega arith)) (eq-or-ne i k);
-    }
 
 module _ {m : ℕ} (n : ℕ) {used : ℕ} {w a b c : List ℕ} (few_gates : m ≤ max_gates) (long : length w ≡ lane_size)
     (in_use : used ≡ full (lanes_of n))

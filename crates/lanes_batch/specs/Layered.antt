@@ -11,7 +11,7 @@
 --   LanesSettled              the settled values of a batch
 --   PlanRoom, Planned, StraightPlanned   a block's words, decoded and in layers, or straight
 -- Assumes nothing.
-use Rattle.std.specs.Prelude.{◌≡◌, Bool, true, false, cond, not, ◌||◌, List, [], ◌∷◌, ◌++◌, map, ℕ, ◌+◌, ◌-◌, ◌*◌, ◌≤◌, ◌<◌, eqb, ltb, length, get_or, replicate}
+use Rattle.std.specs.Prelude.{◌≡◌, Bool, true, false, cond, not, ◌||◌, List, [], ◌∷◌, ◌++◌, map, ℕ, ◌+◌, ◌-◌, ◌≤◌, ◌<◌, eqb, ltb, length, get_or, replicate}
 use Rattle.std.specs.Int.Bits.{bit_or}
 use Rattle.prelude.specs.Lists.{tab}
 use Rattle.netlist.specs.Limits.{max_inputs, max_gates}
@@ -21,13 +21,13 @@ use Rattle.netlist.specs.Rounds.{evaluated, settled, setting_of}
 use Rattle.graph_gates.specs.Places.{first_input, first_gate}
 use Rattle.netlist.specs.StoredBlock.{decode, is_malformed}
 use Rattle.netlist.specs.Rendering.{is_straight}
-use Rattle.graph_gates.specs.Graph.{graph_size, Node, Graph, network, Decoded}
+use Rattle.graph_gates.specs.Graph.{graph_size, Node, network, Decoded}
 use Rattle.graph_scc.specs.Layers.{Layers}
 use Rattle.lanes_dual_rail.specs.declared.Pair.{Pair}
 use Rattle.lanes_dual_rail.specs.Pairs.{lane, no_lanes, full}
 use Rattle.lanes_dual_rail.specs.PairRounds.{AllProper}
 use Rattle.lanes_dual_rail.specs.Batches.{lanes_of, input_pair}
-use Rattle.lanes_dual_rail.specs.LaneWords.{lane_size, pair_at, put_pair, inputs_in, gates_in, Filled, gate_pair_in}
+use Rattle.lanes_dual_rail.specs.LaneWords.{pair_at, put_pair, inputs_in, gates_in, Filled, gate_pair_in}
 use Rattle.lanes_batch.specs.Batch.{Underway, Swept, room, place_of}
 
 -- ---- one gate, and several one after the other
@@ -110,6 +110,10 @@ pub record PartAdvanced (m n : ℕ) (graph order : List ℕ) (from end : ℕ) (w
   pub inputs_kept : inputs_in after ≡ inputs_in w
   pub kept : (s : ℕ) → s < lanes_of n → (j : ℕ) → (Among order from end j → ⊥) → value_at m after s j ≡ value_at m w s j
   pub still : done ≡ true → (i : ℕ) → from ≤ i → i < end → Still m n graph after (get_or order i 0)
+
+-- every lane in use of gate j is 0 or 1
+unfoldable pub is_decided_at : ℕ → List ℕ → ℕ → Bool
+is_decided_at used w j = let p = pair_at w (first_gate + j) in eqb (bit_or p.zeros p.ones) used
 
 -- every lane in use of these gates is 0 or 1
 pub record PartDecided (used : ℕ) (order : List ℕ) (from end : ℕ) (w : List ℕ) : Type 0 where

@@ -2,7 +2,7 @@
 // loop's gates until nothing in the loop changes (chaotic iteration: any order gives the least fixpoint). The batch of
 // settings starts at `base`; `lanes` has two words for each place (crates/lanes_dual_rail); `order` and `ends` are the
 // gates in layers (crates/graph_scc).
-ghost use Rattle.std.specs.Prelude.{◌≡◌, true, false, ◌+◌, ◌≤◌, ◌<◌, ◌%◌, length};
+ghost use Rattle.std.specs.Prelude.{◌≡◌, true, false, ◌+◌, ◌≤◌, ◌<◌, ◌%◌};
 ghost use Rattle.netlist.specs.Limits.{max_inputs, max_gates};
 ghost use Rattle.netlist.specs.Rendering.{is_straight};
 ghost use Rattle.graph_gates.specs.Graph.{Node, Graph, network};
@@ -11,10 +11,11 @@ ghost use Rattle.lanes_dual_rail.specs.Batches.{input_pair};
 ghost use Rattle.lanes_dual_rail.specs.LaneWords.{lane_size};
 ghost use Rattle.lanes_batch.specs.Batch.{place_of};
 ghost use Rattle.lanes_batch.specs.Layered.{GateStored, GateEvaluated, GatesEvaluated, Part, OrderPart, part};
-ghost use Rattle.lanes_batch.specs.Layered.{LanesUnderway, PartAdvanced, PartDecided, room_in};
-ghost use Rattle.lanes_batch.specs.Layered.{Cleared, ConstantsStarted, InputsPut, LanesStarted, Reached};
-ghost use Rattle.lanes_batch.specs.Layered.{LayersSettled, LanesFresh, LanesFixed, StraightFixed, LanesSettled};
+ghost use Rattle.lanes_batch.specs.Layered.{PartDecided, is_decided_at};
+ghost use Rattle.lanes_batch.specs.Layered.{Cleared, ConstantsStarted, InputsPut, LanesStarted};
+ghost use Rattle.lanes_batch.specs.Layered.{LanesFresh, LanesFixed, StraightFixed, LanesSettled};
 
+use crate::plan::Plan;
 use graph_gates::{FIRST_GATE, FIRST_INPUT, GRAPH_WORDS};
 use lanes_dual_rail::evaluate::{gate_pair, pair_at, put_pair};
 use lanes_dual_rail::inputs::{input_pair, used_lanes};
@@ -23,31 +24,25 @@ use words_layout::limits::MAX_GATES;
 
 // Stores 0 in the words below `end`.
 fn clear_words(end: usize, lanes: &mut [u64; LANE_WORDS])
-    requires { (end ≤ lane_size) × (length lanes.old ≡ lane_size) }
+    requires { end ≤ lane_size }
     ensures { Cleared end lanes.old lanes.new }
 {
-    let mut k = 0;
-    while k < end {
-        lanes[k] = 0;
-        k += 1;
-    }
+    lanes[..end].fill(0);
 }
 
 // Stores every input's pair.
 fn put_inputs(n: usize, base: usize, lanes: &mut [u64; LANE_WORDS])
-    requires { (n ≤ max_inputs) × (length lanes.old ≡ lane_size) }
+    requires { n ≤ max_inputs }
     ensures { InputsPut (input_pair n base) n lanes.old lanes.new }
 {
-    let mut k = 0;
-    while k < n {
+    for k in 0..n {
         put_pair(lanes, FIRST_INPUT + k, input_pair(n, base, k));
-        k += 1;
     }
 }
 
 // Stores the constants' pairs at the lanes of a block of n inputs, and makes every input and every gate undefined.
 pub fn start_constants(m: usize, n: usize, lanes: &mut [u64; LANE_WORDS])
-    requires { (m ≤ max_gates) × (length lanes.old ≡ lane_size) }
+    requires { m ≤ max_gates }
     ensures { ConstantsStarted m n lanes.new }
 {
     clear_words(2 * (FIRST_GATE + m), lanes);
@@ -72,7 +67,7 @@ pub fn start_constants(m: usize, n: usize, lanes: &mut [u64; LANE_WORDS])
 
 // Stores the constants' pairs and every input's, and makes every gate undefined.
 pub fn start_lanes(m: usize, n: usize, base: usize, lanes: &mut [u64; LANE_WORDS])
-    requires { (m ≤ max_gates) × (n ≤ max_inputs) × (length lanes.old ≡ lane_size) }
+    requires { (m ≤ max_gates) × (n ≤ max_inputs) }
     ensures { LanesStarted m n base lanes.new }
 {
     start_constants(m, n, lanes);
@@ -96,10 +91,11 @@ fn step(graph: &[u16; GRAPH_WORDS], j: usize, lanes: &mut [u64; LANE_WORDS]) -> 
     let pair = gate_pair(graph, j, lanes);
     let old = pair_at(lanes, FIRST_GATE + j);
     put_pair(lanes, FIRST_GATE + j, pair);
-    (pair.zeros != old.zeros) | (pair.ones != old.ones)
+    pair != old
 }
 
-// Place `i` of a walk over `count` places, there or back.
+// Place `i` of a walk over `count` places, there or back. A walk turns about between sweeps, so that its direction is a
+// value and no closure.
 fn place_along(back: bool, count: usize, i: usize) -> usize
     requires { i < count }
     ensures { result ≡ place_of back count i }
@@ -123,13 +119,20 @@ pub fn sweep_part(
 {
     let count = end - from;
     let mut changed = false;
-    let mut i = 0;
-    while i < count {
+    for i in 0..count {
         let at = from + place_along(back, count, i);
         changed = step(graph, order[at] as usize, lanes) | changed;
-        i += 1;
     }
     changed
+}
+
+// Is gate `j` 0 or 1 at every lane in use?
+fn is_gate_decided(used: u64, j: usize, lanes: &[u64; LANE_WORDS]) -> bool
+    requires { j < max_gates }
+    ensures { result ≡ is_decided_at used lanes.now j }
+{
+    let pair = pair_at(lanes, FIRST_GATE + j);
+    pair.zeros | pair.ones == used
 }
 
 // Is every gate at the positions from `from` to before `end` 0 or 1 at every lane in use? Then none of them can change
@@ -144,107 +147,94 @@ fn is_decided(
     requires { OrderPart max_gates order.now from end }
     ensures { result ≡ true → PartDecided used order.now from end lanes.now }
 {
-    let mut i = from;
-    while i < end {
-        let pair = pair_at(lanes, FIRST_GATE + order[i] as usize);
-        if pair.zeros | pair.ones != used {
-            return false;
+    order[from..end]
+        .iter()
+        .all(|&j| is_gate_decided(used, j as usize, lanes))
+}
+
+// A plan, and how many gates and inputs its block has: its graph is a legal one of so many gates.
+#[derive(Clone, Copy)]
+struct Circuit<'a> {
+    plan: &'a Plan,
+    gates: usize,
+    inputs: usize,
+    ghost legal: { Graph gates plan.now.graph },
+}
+
+impl<'a> Circuit<'a> {
+    ghost use Rattle.lanes_batch.specs.Circuit.{IsUnderway, room_of, HasPart, Advanced};
+    ghost use Rattle.lanes_batch.specs.Circuit.{InLayers, CircuitReached, CircuitSettled};
+
+    // One sweep over a loop; tells whether nothing in it can change any more, since nothing changed or every lane is
+    // decided.
+    fn sweep_decides(
+        &self,
+        from: usize,
+        end: usize,
+        back: bool,
+        lanes: &mut [u64; LANE_WORDS],
+    ) -> bool
+        requires { HasPart self.now from end × IsUnderway self.now lanes.old }
+        ensures part_advanced { Advanced self.now from end lanes.old lanes.new result }
+        ensures lanes_bound { result ≡ false → room_of self.now lanes.new < room_of self.now lanes.old }
+    {
+        if !sweep_part(&self.plan.graph, &self.plan.order, from, end, back, lanes) {
+            return true;
         }
-        i += 1;
+        is_decided(used_lanes(self.inputs), &self.plan.order, from, end, lanes)
     }
-    true
-}
 
-// One sweep over a loop; tells whether nothing in it can change any more, since nothing changed or every lane is
-// decided.
-fn sweep_decides(
-    graph: &[u16; GRAPH_WORDS],
-    m: usize,
-    n: usize,
-    order: &[u16; MAX_GATES],
-    from: usize,
-    end: usize,
-    back: bool,
-    lanes: &mut [u64; LANE_WORDS],
-) -> bool
-    requires { Graph m graph.now × OrderPart m order.now from end × LanesUnderway m n graph.now lanes.old }
-    ensures part_advanced { PartAdvanced m n graph.now order.now from end lanes.old lanes.new result }
-    ensures lanes_bound { result ≡ false → room_in m n lanes.new < room_in m n lanes.old }
-{
-    if !sweep_part(graph, order, from, end, back, lanes) {
-        return true;
+    // Sweeps over a loop until nothing in it can change any more: twice along its order, since an order that enters a
+    // loop at the wrong gate is right from the second sweep on, and then back and along by turns, since a value that
+    // runs against the order gets through in one sweep back.
+    fn settle_loop(&self, from: usize, end: usize, lanes: &mut [u64; LANE_WORDS])
+        requires { HasPart self.now from end × IsUnderway self.now lanes.old }
+        ensures { Advanced self.now from end lanes.old lanes.new true }
+    {
+        let mut back = false;
+        let mut first = true;
+        // How many sweeps there are is known once one changes nothing.
+        while !self.sweep_decides(from, end, back, lanes) {
+            back = !back & !first;
+            first = false;
+        }
     }
-    is_decided(used_lanes(n), order, from, end, lanes)
-}
 
-// Sweeps over a loop until nothing in it can change any more: twice along its order, since an order that enters a loop
-// at the wrong gate is right from the second sweep on, and then back and along by turns, since a value that runs
-// against the order gets through in one sweep back.
-fn settle_loop(
-    graph: &[u16; GRAPH_WORDS],
-    m: usize,
-    n: usize,
-    order: &[u16; MAX_GATES],
-    from: usize,
-    end: usize,
-    lanes: &mut [u64; LANE_WORDS],
-)
-    requires { Graph m graph.now × OrderPart m order.now from end × LanesUnderway m n graph.now lanes.old }
-    ensures { PartAdvanced m n graph.now order.now from end lanes.old
-        lanes.new true }
-{
-    let mut back = false;
-    let mut first = true;
-    while !sweep_decides(graph, m, n, order, from, end, back, lanes) {
-        back = !back & !first;
-        first = false;
+    // Settles the layer that starts at position `i`, and if that is a gate on no loop, all such gates up to the next
+    // loop; gives the position at which the next layer starts.
+    fn settle_run(&self, i: usize, lanes: &mut [u64; LANE_WORDS]) -> usize
+        requires { InLayers self.now × (i < self.now.gates) × CircuitReached self.now i lanes.old }
+        ensures { CircuitSettled self.now i lanes.old lanes.new result }
+    {
+        let end = self.plan.ends[i] as usize;
+        if end != i {
+            self.settle_loop(i, end, lanes);
+            return end;
+        }
+        for k in i..self.gates {
+            if self.plan.ends[k] as usize != k {
+                return k;
+            }
+            evaluate(&self.plan.graph, self.plan.order[k] as usize, lanes);
+        }
+        self.gates
     }
-}
-
-// Settles the layer that starts at position `i`, and if that is a gate on no loop, all such gates up to the next loop;
-// gives the position at which the next layer starts.
-fn settle_run(
-    graph: &[u16; GRAPH_WORDS],
-    m: usize,
-    n: usize,
-    order: &[u16; MAX_GATES],
-    ends: &[u16; MAX_GATES],
-    i: usize,
-    lanes: &mut [u64; LANE_WORDS],
-) -> usize
-    requires { Graph m graph.now × Layers m graph.now order.now ends.now × (i < m)
-        × Reached m n graph.now order.now ends.now i lanes.old }
-    ensures { LayersSettled m n graph.now order.now ends.now i lanes.old
-        lanes.new result }
-{
-    let end = ends[i] as usize;
-    if end != i {
-        settle_loop(graph, m, n, order, i, end, lanes);
-        return end;
-    }
-    let mut k = i;
-    while k < m && ends[k] as usize == k {
-        evaluate(graph, order[k] as usize, lanes);
-        k += 1;
-    }
-    k
 }
 
 // Settles started lanes layer by layer, whatever the values of their inputs are.
-pub fn settle_layers(
-    graph: &[u16; GRAPH_WORDS],
-    m: usize,
-    n: usize,
-    order: &[u16; MAX_GATES],
-    ends: &[u16; MAX_GATES],
-    lanes: &mut [u64; LANE_WORDS],
-)
-    requires { Graph m graph.now × Layers m graph.now order.now ends.now × LanesFresh m n lanes.old }
-    ensures { LanesFixed (network m graph.now) n lanes.old lanes.new }
+pub fn settle_layers(plan: &Plan, m: usize, n: usize, lanes: &mut [u64; LANE_WORDS])
+    requires { Graph m plan.now.graph × Layers m plan.now.graph plan.now.order plan.now.ends × LanesFresh m n lanes.old }
+    ensures { LanesFixed (network m plan.now.graph) n lanes.old lanes.new }
 {
+    let circuit = Circuit {
+        plan,
+        gates: m,
+        inputs: n,
+    };
     let mut i = 0;
+    // No `for`: each turn goes on where the layers that it settled end.
     while i < m {
-        i = settle_run(graph, m, n, order, ends, i, lanes);
+        i = circuit.settle_run(i, lanes);
     }
 }
 
@@ -254,32 +244,23 @@ pub fn settle_straight(graph: &[u16; GRAPH_WORDS], m: usize, lanes: &mut [u64; L
     requires { Graph m graph.now × (is_straight (network m graph.now) ≡ true) }
     ensures { StraightFixed m graph.now lanes.old lanes.new }
 {
-    let mut j = 0;
-    while j < m {
+    for j in 0..m {
         evaluate(graph, j, lanes);
-        j += 1;
     }
 }
 
 // Finds the settled values of the batch at every lane.
-pub fn decide_batch(
-    graph: &[u16; GRAPH_WORDS],
-    m: usize,
-    n: usize,
-    order: &[u16; MAX_GATES],
-    ends: &[u16; MAX_GATES],
-    base: usize,
-    lanes: &mut [u64; LANE_WORDS],
-)
-    requires graph { Graph m graph.now × Layers m graph.now order.now ends.now }
-    requires n_le_max_inputs { (n ≤ max_inputs) × (base % 64 ≡ 0) × (length lanes.old ≡ lane_size) }
-    ensures { LanesSettled (network m graph.now) n base lanes.new }
+pub fn decide_batch(plan: &Plan, m: usize, n: usize, base: usize, lanes: &mut [u64; LANE_WORDS])
+    requires graph { Graph m plan.now.graph × Layers m plan.now.graph plan.now.order plan.now.ends }
+    requires n_le_max_inputs { (n ≤ max_inputs) × (base % 64 ≡ 0) }
+    ensures { LanesSettled (network m plan.now.graph) n base lanes.new }
 {
     start_lanes(m, n, base, lanes);
-    settle_layers(graph, m, n, order, ends, lanes);
+    settle_layers(plan, m, n, lanes);
 }
 
-// Finds the settled values of a straight block's batch.
+// Finds the settled values of a straight block's batch. One function with `decide_batch` would be no plainer: a closure
+// that settles would stand for one call, and its contract for both of these.
 pub fn decide_straight(
     graph: &[u16; GRAPH_WORDS],
     m: usize,
@@ -288,7 +269,7 @@ pub fn decide_straight(
     lanes: &mut [u64; LANE_WORDS],
 )
     requires graph { Graph m graph.now × (is_straight (network m graph.now) ≡ true) }
-    requires n_le_max_inputs { (n ≤ max_inputs) × (base % 64 ≡ 0) × (length lanes.old ≡ lane_size) }
+    requires n_le_max_inputs { (n ≤ max_inputs) × (base % 64 ≡ 0) }
     ensures { LanesSettled (network m graph.now) n base lanes.new }
 {
     start_lanes(m, n, base, lanes);

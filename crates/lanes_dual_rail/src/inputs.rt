@@ -49,6 +49,6 @@ pub fn input_pair(n: usize, base: usize, i: usize) -> Pair
     let ones = pattern_of(base, i) & used;
     Pair {
         zeros: used ^ ones,
-        ones: ones,
+        ones,
     }
 }

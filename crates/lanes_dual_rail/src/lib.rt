@@ -9,7 +9,7 @@ pub mod inputs;
 pub mod words;
 
 // Bit s of `zeros` marks value 0 under setting s of a batch, bit s of `ones` value 1; neither: undefined.
-#[derive(Clone, Copy)]
+#[derive(Clone, Copy, PartialEq, Eq)]
 pub struct Pair {
     pub zeros: u64,
     pub ones: u64,

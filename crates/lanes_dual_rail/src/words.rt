@@ -6,16 +6,11 @@ ghost use Rattle.lanes_dual_rail.specs.Words.{has_lane};
 
 use crate::inputs::LOW_INPUTS;
 
-const MOST_LANES: usize = 64;
-
 // A lane for each setting, but at most 64.
 pub fn lane_count(n: usize) -> usize
     ensures { result ≡ lanes_of n }
 {
-    if LOW_INPUTS <= n {
-        return MOST_LANES;
-    }
-    1usize << n
+    1usize << n.min(LOW_INPUTS)
 }
 
 // The lowest lane that is marked; 64 where none is.

@@ -1,40 +1,34 @@
 // A batch of a block's settings, decided by the block's plan (crates/lanes_batch).
-ghost use Rattle.std.specs.Prelude.{◌≡◌, ◌%◌, length, get_or};
-ghost use Rattle.lanes_dual_rail.specs.LaneWords.{lane_size};
-ghost use Rattle.lanes_batch.specs.Layered.{Planned, StraightPlanned};
+ghost use Rattle.std.specs.Prelude.{◌≡◌, ◌%◌, get_or};
+ghost use Rattle.lanes_batch.specs.Layered.{StraightPlanned};
+ghost use Rattle.lanes_batch.specs.Plan.{IsPlan};
 ghost use Rattle.lanes_settings.specs.Lanes.{Judged};
 
 use graph_gates::GRAPH_WORDS;
 use lanes_batch::layered::{decide_batch, decide_straight};
+use lanes_batch::plan::Plan;
 use lanes_dual_rail::LANE_WORDS;
-use words_layout::limits::MAX_GATES;
 use words_layout::offsets::{gates_of, inputs_of};
 
 // Finds the settled values of the batch at `base` of a planned block.
-pub fn judge_batch(
-    words: &[u16],
-    graph: &[u16; GRAPH_WORDS],
-    order: &[u16; MAX_GATES],
-    ends: &[u16; MAX_GATES],
-    base: usize,
-    lanes: &mut [u64; LANE_WORDS],
-)
-    requires { Planned words.now graph.now order.now ends.now × (base % 64 ≡ 0) × (length lanes.old ≡ lane_size) }
+pub fn judge_batch(words: &[u16], plan: &Plan, base: usize, lanes: &mut [u64; LANE_WORDS])
+    requires { IsPlan words.now plan.now × (base % 64 ≡ 0) }
     ensures { Judged words.now (get_or words.now 0 0) base lanes.new }
 {
     let m = gates_of(words);
     let n = inputs_of(words);
-    decide_batch(graph, m, n, order, ends, base, lanes);
+    decide_batch(plan, m, n, base, lanes);
 }
 
-// Finds the settled values of the batch at `base` of a straight block, from its graph alone.
+// Finds the settled values of the batch at `base` of a straight block, from its graph alone. One function with
+// `judge_batch` would be no plainer: each is one call, and what they ask of the plan differs.
 pub fn judge_straight(
     words: &[u16],
     graph: &[u16; GRAPH_WORDS],
     base: usize,
     lanes: &mut [u64; LANE_WORDS],
 )
-    requires { StraightPlanned words.now graph.now × (base % 64 ≡ 0) × (length lanes.old ≡ lane_size) }
+    requires { StraightPlanned words.now graph.now × (base % 64 ≡ 0) }
     ensures { Judged words.now (get_or words.now 0 0) base lanes.new }
 {
     let m = gates_of(words);

@@ -36,10 +36,8 @@ fn agreeing_lanes(n: usize, base: usize, fixed: usize, values: usize) -> u64
     ensures { Tells (lanes_of n) base (agrees n (record { fixed = fixed; ones = values })) result }
 {
     let mut agreeing = used_lanes(n);
-    let mut i = 0;
-    while i < n {
-        agreeing = agreeing & agreeing_at(n, base, fixed, values, i);
-        i += 1;
+    for i in 0..n {
+        agreeing &= agreeing_at(n, base, fixed, values, i);
     }
     agreeing
 }
@@ -60,10 +58,8 @@ fn excluded_lanes(words: &[u16], n: usize, base: usize) -> u64
     let lines = nevers_of(words);
     let first = nevers_at(n);
     let mut excluded = 0u64;
-    let mut i = 0;
-    while i < lines {
-        excluded = excluded | line_lanes(words, n, base, first + NEVER_SIZE * i);
-        i += 1;
+    for i in 0..lines {
+        excluded |= line_lanes(words, n, base, first + NEVER_SIZE * i);
     }
     excluded
 }

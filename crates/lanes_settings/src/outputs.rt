@@ -1,6 +1,6 @@
 // What the outputs are at the lanes of a batch, from the pairs of its inputs and gates, in a block of n inputs whose
 // outputs' words start at `at`.
-ghost use Rattle.std.specs.Prelude.{◌≡◌, ◌^◌, ◌<◌};
+ghost use Rattle.std.specs.Prelude.{◌≡◌};
 ghost use Rattle.lanes_settings.specs.Lanes.{output_pair, undefined_word, unsettled_word, OutputThere, OutputsThere};
 
 use graph_gates::place_of;
@@ -46,10 +46,8 @@ pub fn unsettled_lanes(
     ensures { result ≡ unsettled_word words.now at n lanes.now count }
 {
     let mut unsettled = 0u64;
-    let mut o = 0;
-    while o < count {
-        unsettled = unsettled | undefined_lanes(words, at, n, o, lanes);
-        o += 1;
+    for o in 0..count {
+        unsettled |= undefined_lanes(words, at, n, o, lanes);
     }
     unsettled
 }

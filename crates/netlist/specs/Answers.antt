@@ -1,14 +1,15 @@
 -- SPECIFICATION 7.1, 7.2: the numbers of an answer, and what an operation leaves in the lent slice.
 use Rattle.std.specs.Prelude.{ℕ, ◌≡◌, Bool, true, false, List, length, ltb}
 use Rattle.std.proofs.Math.Option.{Option, none, some}
+use Rattle.std.specs.declared.result.Result.{Result}
+use Rattle.std.specs.declared.result.Result.TheVariants.{Ok, Err}
 use Rattle.prelude.specs.Lists.{placed}
 use Rattle.netlist.specs.declared.Refusal.{Refusal}
 use Rattle.netlist.specs.declared.Refusal.TheVariants.{TextTooLong, SyntaxError, OverLimit, DuplicateDeclaration}
 use Rattle.netlist.specs.declared.Refusal.TheVariants.{UndeclaredName, MalformedBlock, BadSetting, TooManyCopies}
 use Rattle.netlist.specs.declared.Refusal.TheVariants.{NotSettled, NotStraight, NoRoom, InterfaceMismatch}
 use Rattle.netlist.specs.declared.Refusal.TheVariants.{NotAPermutation}
-use Rattle.netlist.specs.declared.Answer.{Answer}
-use Rattle.netlist.specs.declared.Answer.TheVariants.{Done, Refused}
+use Rattle.netlist.specs.declared.Done.{Done}
 use Rattle.netlist.specs.declared.Reply.{Reply}
 
 -- the number of a refusal, by the table in SPECIFICATION 7.2
@@ -43,19 +44,23 @@ refusal_detail NoRoom = 0
 refusal_detail InterfaceMismatch = 0
 refusal_detail NotAPermutation = 0
 
+-- what an operation answers: count and detail, or a refusal
+abbrev pub Answer : Type 0
+Answer = Result Done Refusal
+
 -- the number of an answer: its refusal's, or 0 on success
 unfoldable pub number_of : Answer → ℕ
-number_of (Done count detail) = 0
-number_of (Refused r) = refusal_number r
+number_of (Ok d) = 0
+number_of (Err r) = refusal_number r
 
 -- the count of an answer; a refusal counts nothing
 unfoldable pub count_of : Answer → ℕ
-count_of (Done count detail) = count
-count_of (Refused r) = 0
+count_of (Ok d) = d.count
+count_of (Err r) = 0
 
 unfoldable pub detail_of : Answer → ℕ
-detail_of (Done count detail) = detail
-detail_of (Refused r) = refusal_detail r
+detail_of (Ok d) = d.detail
+detail_of (Err r) = refusal_detail r
 
 -- The reply has the three numbers of the answer.
 pub record Shows (a : Answer) (r : Reply) : Type 0 where
@@ -85,8 +90,8 @@ in_room room (done result count detail) = refuse_if (ltb room (length result)) N
 in_room room (refused r) = refused r
 
 unfoldable pub answer_of : Outcome → Answer
-answer_of (done result count detail) = Done count detail
-answer_of (refused r) = Refused r
+answer_of (done result count detail) = Ok (record { count = count; detail = detail })
+answer_of (refused r) = Err r
 
 -- what the slice lent for the result holds in the end: the result in front and what was behind it, or, after a refusal,
 -- all that was there

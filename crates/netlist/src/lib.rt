@@ -34,12 +34,15 @@ pub enum Refusal {
     NotAPermutation,
 }
 
-// What an operation answers.
-#[derive(Drop)]
-pub enum Answer {
-    Done { count: usize, detail: usize },
-    Refused(Refusal),
+// What an operation answers when it refuses nothing.
+#[derive(Clone, Copy)]
+pub struct Done {
+    pub count: usize,
+    pub detail: usize,
 }
+
+// What an operation answers.
+pub type Answer = Result<Done, Refusal>;
 
 // A row of the table of kinds: the least and the greatest operand count, the controlling value, what it forces, and the
 // keyword's bytes, zero behind its end.

@@ -1,7 +1,6 @@
 -- The words of a block stored before there were never lines, and the same with a fourth count. Assumes nothing.
---   length-brought, brought-from       the number of words; all of them, one by one
---   placed-over, placed-again          a longer list over a shorter one, and a list once more
---   word-before, word-four, word_after where each stands
+--   length-brought, brought-put        the number of words; all of them, as they are written
+--   word-before, word-four             where the counts stand
 --   malformed-short, malformed-inputs, malformed-long what the old rules refuse at once
 --   malformed-brought                       what is left: the old rules are today's, of the words with a fourth count
 --   encode-brought, whole_before       the words of today are the old ones with a fourth count; what the old rules say
@@ -11,12 +10,12 @@ use mathlib.Core.Bool.{Bool, true, false, ◌&&◌}
 use mathlib.Core.List.{List, [], ◌∷◌, ◌++◌, map, append-nil}
 use Prim.Native.Nat.{ℕ, zero, suc, ◌+◌, ◌-◌, ◌≤◌, ◌<◌}
 use native.Mathlib.Omega.{arith}
-use lib.ListN.{length, get_or, drop}
-use lib.Seq.{drop-append-add, drop-drop}
+use lib.ListN.{length, get_or, set, take, drop}
+use borrow.Rule.Slice.PartMut.{put_mid}
+use Rattle.std.proofs.lemmas.List.{take_rest}
 use lib.Dec.{leb, ltb}
 use borrow.Author.Tests.{leb-true, le-leb, not-false}
-use Rattle.prelude.specs.Lists.{same, joined, tab, placed}
-use Rattle.prelude.proofs.Tab.{tab-get_d}
+use Rattle.prelude.specs.Lists.{same, joined, placed}
 use Rattle.prelude.proofs.Tests.{and_left, and_right, same_test}
 use Rattle.prelude.proofs.Same.{same-eq, eq-same}
 use Rattle.netlist.specs.Limits.{max_block}
@@ -55,40 +54,21 @@ word-four (a ∷ []) l = absurd (omega arith)
 word-four (a ∷ b ∷ []) l = absurd (omega arith)
 word-four (a ∷ b ∷ c ∷ ws) l = refl
 
-word-behind : (ws : List ℕ) (q : ℕ) → 3 ≤ length ws
-    → get_or ws (suc (suc (suc q))) 0 ≡ get_or (brought ws) (suc (suc (suc (suc q)))) 0
+-- the counts, the fourth, and the words behind them, written one after the other
+pub brought-put : (old block : List ℕ) {first rest : List ℕ} → 3 ≤ length old → length old < length block
+    → first ≡ take 3 old → rest ≡ take (length old - 3) (drop 3 old)
+    → put_mid 4 (length old + 1 - 4) (set (first ++ drop 3 block) 3 0) rest ≡ placed (brought old) block
 unfolding brought
-word-behind [] q l = absurd (omega arith)
-word-behind (a ∷ []) q l = absurd (omega arith)
-word-behind (a ∷ b ∷ []) q l = absurd (omega arith)
-word-behind (a ∷ b ∷ c ∷ ws) q l = refl
-
-pub word_after : (ws : List ℕ) (p : ℕ) → 3 ≤ length ws → 3 < p → get_or ws (p - 1) 0 ≡ get_or (brought ws) p 0
-word_after ws zero l k = absurd (omega arith)
-word_after ws (suc zero) l k = absurd (omega arith)
-word_after ws (suc (suc zero)) l k = absurd (omega arith)
-word_after ws (suc (suc (suc zero))) l k = absurd (omega arith)
-word_after ws (suc (suc (suc (suc q)))) l k =
-    let e : suc (suc (suc (suc q))) - 1 ≡ suc (suc (suc q)) = omega arith in rw e (word-behind ws q l)
-
-pub brought-from : (ws : List ℕ) (count : ℕ) → 3 ≤ length ws → count ≡ length ws + 1
-    → tab (λ p. get_or (brought ws) p 0) count ≡ brought ws
-brought-from ws count l e = tab-get_d 0 (brought ws) count (length-brought ws l ∙ sym e)
-
--- a longer list over a shorter one
-pub placed-over : (xs ys entry : List ℕ) → length xs ≤ length ys → placed ys (placed xs entry) ≡ placed ys entry
-placed-over xs ys entry h =
-    let k = length ys - length xs in
-    let e : length ys ≡ length xs + k = omega arith in
-    ap (λ (behind : List ℕ). ys ++ behind)
-    (ap (λ (n : ℕ). drop n (placed xs entry)) e
-    ∙ drop-append-add xs (drop (length xs) entry) k
-    ∙ drop-drop k (length xs) entry
-    ∙ ap (λ (n : ℕ). drop n entry) (sym e))
-
--- a list placed over the slice that has it already changes nothing
-pub placed-again : (xs entry slice : List ℕ) → slice ≡ placed xs entry → slice ≡ placed xs slice
-placed-again xs entry slice e = e ∙ sym (placed-over xs xs entry (omega arith)) ∙ ap (placed xs) (sym e)
+brought-put [] block l h f r = absurd (omega arith)
+brought-put (a ∷ []) block l h f r = absurd (omega arith)
+brought-put (a ∷ b ∷ []) block l h f r = absurd (omega arith)
+brought-put (a ∷ b ∷ c ∷ ws) [] l h f r = absurd (omega arith)
+brought-put (a ∷ b ∷ c ∷ ws) (x ∷ []) l h f r = absurd (omega arith)
+brought-put (a ∷ b ∷ c ∷ ws) (x ∷ y ∷ []) l h f r = absurd (omega arith)
+brought-put (a ∷ b ∷ c ∷ ws) (x ∷ y ∷ z ∷ []) l h f r = absurd (omega arith)
+brought-put (a ∷ b ∷ c ∷ ws) (x ∷ y ∷ z ∷ w ∷ bs) l h f r =
+    let k : suc (suc (suc (length ws))) + 1 - 4 ≡ length ws = omega arith in
+    rw (f, r, take_rest (a ∷ b ∷ c ∷ ws) 3, k) refl
 
 -- ---- the old rules
 

@@ -17,7 +17,7 @@ use Rattle.prelude.proofs.Tab.{get_d-tab, tab-ext, tab-get_d, map-tab}
 use Rattle.prelude.proofs.Tabled.{Tabled, tabled-none, tabled-more, tabled-all}
 use Rattle.prelude.proofs.Quantifiers.{all-at}
 use Rattle.netlist.specs.Netlist.{Operand, constant, Gate, Block, input_count, gate_count, gate_of}
-use Rattle.netlist.specs.StoredBlock.{gate_size, operand_words, gates_at, node_word, operand_of, gate_at, is_operand, gate_fits}
+use Rattle.netlist.specs.StoredBlock.{operand_words, gates_at, node_word, operand_of, gate_at, is_operand, gate_fits}
 use Rattle.netlist.specs.StoredBlock.{decode, is_well_formed}
 use Rattle.netlist.specs.Cells.{cell_size, truth_word, cell_words, cells_of, Cell, cell_count, cell_at, cells_in}
 use Rattle.theory_encoding.proofs.ListFacts.{length-joined, get_d-joined}

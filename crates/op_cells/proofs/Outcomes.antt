@@ -18,7 +18,7 @@ use Rattle.prelude.specs.Lists.{all, up_to}
 use Rattle.prelude.proofs.Tests.{and_left, and_right, or-neither}
 use Rattle.prelude.proofs.Slices.{take-placed}
 use Rattle.prelude.proofs.Quantifiers.{all_from}
-use Rattle.netlist.specs.declared.Answer.{Answer}
+use Rattle.netlist.specs.Answers.{Answer}
 use Rattle.netlist.specs.declared.Refusal.TheVariants.{MalformedBlock, BadSetting, NotStraight, NoRoom}
 use Rattle.netlist.specs.Limits.{max_inputs, max_gates}
 use Rattle.netlist.specs.Values.{code, value_of}

@@ -3,7 +3,7 @@
 -- that the definitions meet it.
 use Rattle.std.specs.Prelude.{◌≡◌, Bool, true, List, map, ℕ, length, take, leb}
 use Rattle.prelude.specs.Lists.{all}
-use Rattle.netlist.specs.declared.Answer.{Answer}
+use Rattle.netlist.specs.Answers.{Answer}
 use Rattle.netlist.specs.Values.{code, value_of}
 use Rattle.netlist.specs.Netlist.{Block, input_count, gate_count}
 use Rattle.netlist.specs.StoredBlock.{decode}

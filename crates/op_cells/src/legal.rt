@@ -12,7 +12,7 @@ use words_block::gates::is_operand;
 use words_layout::limits::{MAX_GATES, MAX_INPUTS};
 use words_layout::offsets::OPERAND_WORDS;
 use words_layout::read::word_at;
-use words_refusals::{Test, refuse_if};
+use words_refusals::refuse_if;
 
 // Is each operand of cell j an input, a constant or an earlier cell?
 fn reads_earlier(inputs: usize, cells: &[u16], j: usize) -> bool
@@ -20,14 +20,7 @@ fn reads_earlier(inputs: usize, cells: &[u16], j: usize) -> bool
     ensures { result ≡ reads_earlier inputs cells.now j }
 {
     let at = CELL_SIZE * j;
-    let mut i = 0;
-    while i < OPERAND_WORDS {
-        if !is_operand(inputs + j, word_at(cells, at + i)) {
-            return false;
-        }
-        i += 1;
-    }
-    true
+    (0..OPERAND_WORDS).all(|i| is_operand(inputs + j, word_at(cells, at + i)))
 }
 
 // Does each of the first `count` cells read only inputs, constants and earlier cells?
@@ -35,14 +28,7 @@ fn all_read_earlier(inputs: usize, cells: &[u16], count: usize) -> bool
     requires { (inputs ≤ max_inputs) × (count ≤ max_gates) }
     ensures { result ≡ all (reads_earlier inputs cells.now) (up_to count) }
 {
-    let mut j = 0;
-    while j < count {
-        if !reads_earlier(inputs, cells, j) {
-            return false;
-        }
-        j += 1;
-    }
-    true
+    (0..count).all(|j| reads_earlier(inputs, cells, j))
 }
 
 // Are these legal cells: few enough inputs and cells, none of them cut off, and no operand that is not there yet?
@@ -63,7 +49,7 @@ fn are_legal(inputs: usize, cells: &[u16]) -> bool
 }
 
 // Refusal 6 of a run, of any number of inputs and a slice of any length and content: are these cells?
-pub fn check_cells(inputs: usize, cells: &[u16]) -> Test
+pub fn check_cells(inputs: usize, cells: &[u16]) -> Result<(), Refusal>
     ensures { result ≡ test_of (not (are_legal_cells inputs cells.now)) MalformedBlock }
 {
     refuse_if(!are_legal(inputs, cells), Refusal::MalformedBlock)

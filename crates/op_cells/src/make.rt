@@ -9,12 +9,12 @@ ghost use Rattle.op_cells.specs.Promise.{CellsPromise};
 
 use crate::CELL_SIZE;
 use crate::truth::truth_word;
-use netlist::Answer;
+use netlist::{Answer, Done};
 use words_block::{check_straight, check_words};
 use words_layout::nodes::CONSTANT_0;
 use words_layout::offsets::{OPERAND_WORDS, gates_at, gates_of};
 use words_layout::read::word_at;
-use words_refusals::{Test, refusal, test_room};
+use words_refusals::test_room;
 
 // Word i of the cell of the gate whose words start at `at`: an operand as in the block, constant 0 where there is none,
 // or the truth word.
@@ -53,6 +53,7 @@ fn put_cells(words: &[u16], count: usize, cells: &mut [u16])
     ensures { cells.new ≡ placed (cells_of (decode words.now)) cells.old }
 {
     let start = gates_at(words);
+    // A range with step_by would need the same measure, and be no plainer.
     let mut p = 0;
     while p < count {
         put_cell(words, start + p, p, cells);
@@ -65,19 +66,10 @@ fn put_cells(words: &[u16], count: usize, cells: &mut [u16])
 pub fn make_cells(words: &[u16], cells: &mut [u16]) -> Answer
     ensures { CellsPromise words.now cells.old result cells.new }
 {
-    let tested = check_words(words);
-    let Test::Passed = tested else {
-        return refusal(tested);
-    };
-    let tested = check_straight(words);
-    let Test::Passed = tested else {
-        return refusal(tested);
-    };
+    check_words(words)?;
+    check_straight(words)?;
     let count = CELL_SIZE * gates_of(words);
-    let tested = test_room(cells.len(), count);
-    let Test::Passed = tested else {
-        return refusal(tested);
-    };
+    test_room(cells.len(), count)?;
     put_cells(words, count, cells);
-    Answer::Done { count, detail: 0 }
+    Ok(Done { count, detail: 0 })
 }

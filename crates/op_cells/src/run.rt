@@ -9,9 +9,9 @@ ghost use Rattle.op_cells.specs.Runs.{Bits};
 use crate::CELL_SIZE;
 use crate::legal::check_cells;
 use crate::value::cell_value;
-use netlist::Answer;
+use netlist::{Answer, Done};
 use op_settle::setting::test_bytes;
-use words_refusals::{Test, refusal, test_room};
+use words_refusals::test_room;
 
 // The highest byte of a setting: a cell has two values.
 const MOST: u8 = 1;
@@ -23,11 +23,9 @@ fn run_each(inputs: usize, cells: &[u16], count: usize, setting: &[u8], values: 
     ensures { values.new ≡ placed (cell_values inputs cells.now setting.now)
         values.old }
 {
-    let mut j = 0;
-    while j < count {
+    for j in 0..count {
         let found = cell_value(cells, inputs, CELL_SIZE * j, setting, &values[..j]);
         values[j] = found;
-        j += 1;
     }
 }
 
@@ -36,19 +34,10 @@ pub fn run_cells(inputs: usize, cells: &[u16], setting: &[u8], values: &mut [u8]
     ensures { Promise (run_cells inputs cells.now setting.now (length values.old))
         values.old result values.new }
 {
-    let tested = check_cells(inputs, cells);
-    let Test::Passed = tested else {
-        return refusal(tested);
-    };
-    let tested = test_bytes(inputs, MOST, setting);
-    let Test::Passed = tested else {
-        return refusal(tested);
-    };
+    check_cells(inputs, cells)?;
+    test_bytes(inputs, MOST, setting)?;
     let count = cells.len() / CELL_SIZE;
-    let tested = test_room(values.len(), count);
-    let Test::Passed = tested else {
-        return refusal(tested);
-    };
+    test_room(values.len(), count)?;
     run_each(inputs, cells, count, setting, values);
-    Answer::Done { count, detail: 0 }
+    Ok(Done { count, detail: 0 })
 }

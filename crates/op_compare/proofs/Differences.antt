@@ -17,7 +17,7 @@ use lib.ListN.{get_or}
 use borrow.Author.Tests.{lt-ltb, le-ltb}
 use Rattle.prelude.specs.Lists.{any, up_to, least}
 use Rattle.prelude.proofs.Least.{least-le, least-below, least_at, least-is}
-use Rattle.netlist.specs.declared.Answer.TheVariants.{Done}
+use Rattle.std.specs.declared.result.Result.TheVariants.{Ok}
 use Rattle.netlist.specs.Values.{code}
 use Rattle.netlist.specs.Netlist.{Block}
 use Rattle.netlist.specs.Assignments.{bit}
@@ -159,7 +159,7 @@ marked-lowest n t h = let (s, l, p) = tells-some t h in tells-lowest t (lanes_of
 module _ (a b : Block) (s count : ℕ) (e : count ≡ setting_count a)
     (before : (i : ℕ) → i < s → disagrees a b i ≡ false) where
   -- no setting disagrees
-  pub search-accepted : s ≤ count → count ≤ s → Done 0 0 ≡ answer_of (compare_blocks a b)
+  pub search-accepted : s ≤ count → count ≤ s → Ok (record { count = 0; detail = 0 }) ≡ answer_of (compare_blocks a b)
   unfolding compare_blocks judged_at lowest_disagreement answer_of
   search-accepted l m =
       let is : least (disagrees a b) (setting_count a) ≡ setting_count a =
@@ -169,7 +169,7 @@ module _ (a b : Block) (s count : ℕ) (e : count ≡ setting_count a)
 
   -- setting s does, and no lower one
   pub search-found : (o : ℕ) → s < count → disagrees a b s ≡ true → o ≡ lowest_differing a b s
-      → Done (o + 1) s ≡ answer_of (compare_blocks a b)
+      → Ok (record { count = (o + 1); detail = s }) ≡ answer_of (compare_blocks a b)
   unfolding compare_blocks judged_at lowest_disagreement answer_of
   search-found o l d f =
       let below : s < setting_count a = omega arith in
@@ -191,7 +191,7 @@ module _ {ours theirs : List ℕ} {n base : ℕ} {w others : List ℕ} {word : �
   -- some: the lowest lane, and there the lowest output
   pub search-marked : (word ≡ 0 → ⊥) → {count lane o : ℕ} → count ≡ 2 ^ n → Place n base → base < count
       → lane ≡ least (has_lane word) 64 → o ≡ least (differs_at ours theirs n w others lane) (get_or ours 2 0)
-      → Done (o + 1) (base + lane) ≡ answer_of (compare_blocks (decode ours) (decode theirs))
+      → Ok (record { count = (o + 1); detail = (base + lane) }) ≡ answer_of (compare_blocks (decode ours) (decode theirs))
   search-marked h {count} {lane} {o} many place below is lowest =
       let f = marked-lowest (get_or ours 0 0) t h in
       let there : lane < lanes_of (get_or ours 0 0) = rw is f.0 in

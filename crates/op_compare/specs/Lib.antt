@@ -3,3 +3,4 @@
 pub mod Interface
 pub mod Words
 pub mod Ready
+pub mod Compared

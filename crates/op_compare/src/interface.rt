@@ -13,7 +13,7 @@ ghost use Rattle.op_compare.specs.Interface.{same_name_at};
 use netlist::Refusal;
 use words_layout::names::is_same;
 use words_layout::offsets::{INPUTS_AT, NAME_SIZE, OUTPUT_SIZE, inputs_of, outputs_at, outputs_of};
-use words_refusals::{Test, refuse_if};
+use words_refusals::refuse_if;
 
 // Are the first `count` names of ours those of theirs, one by one? Names stand `size` words apart.
 fn are_same(
@@ -30,12 +30,10 @@ fn are_same(
     requires count_le_max_gates { count ≤ max_gates }
     ensures { result ≡ all (same_name_at ours.now at theirs.now other size) (up_to count) }
 {
-    let mut i = 0;
-    while i < count {
+    for i in 0..count {
         if !is_same(ours, at + size * i, theirs, other + size * i) {
             return false;
         }
-        i += 1;
     }
     true
 }
@@ -63,7 +61,7 @@ fn has_interface(ours: &[u16], theirs: &[u16]) -> bool
 }
 
 // Refusal 12, of two blocks that are not torn.
-pub fn check_interface(ours: &[u16], theirs: &[u16]) -> Test
+pub fn check_interface(ours: &[u16], theirs: &[u16]) -> Result<(), Refusal>
     requires ours_value { is_malformed ours.now ≡ false }
     requires theirs_value { is_malformed theirs.now ≡ false }
     ensures { result ≡ test_of (not (same_interface (decode ours.now) (decode theirs.now))) InterfaceMismatch }

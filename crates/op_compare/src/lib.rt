@@ -11,11 +11,10 @@ ghost use Rattle.op_compare.specs.Ready.{BlockPair};
 
 use crate::interface::check_interface;
 use graph_gates::GRAPH_WORDS;
+use lanes_batch::plan::blank_plan;
 use lanes_dual_rail::LANE_WORDS;
 use netlist::Answer;
 use words_block::{check_straight, check_words};
-use words_layout::limits::MAX_GATES;
-use words_refusals::{Test, refusal};
 
 mod interface;
 mod outputs;
@@ -27,18 +26,14 @@ fn compare_pair(ours: &[u16], theirs: &[u16]) -> Answer
     requires { BlockPair ours.now theirs.now }
     ensures { result ≡ answer_of (compare_blocks (decode ours.now) (decode theirs.now)) }
 {
-    let mut graph = [0u16; GRAPH_WORDS];
-    let mut order = [0u16; MAX_GATES];
-    let mut ends = [0u16; MAX_GATES];
+    let mut plan = blank_plan();
     let mut their_graph = [0u16; GRAPH_WORDS];
     let mut lanes = [0u64; LANE_WORDS];
     let mut others = [0u64; LANE_WORDS];
     settings::compare_with(
         ours,
         theirs,
-        &mut graph,
-        &mut order,
-        &mut ends,
+        &mut plan,
         &mut their_graph,
         &mut lanes,
         &mut others,
@@ -50,21 +45,9 @@ fn compare_pair(ours: &[u16], theirs: &[u16]) -> Answer
 pub fn compare(ours: &[u16], theirs: &[u16]) -> Answer
     ensures { Told (compare_of ours.now theirs.now) result }
 {
-    let tested = check_words(ours);
-    let Test::Passed = tested else {
-        return refusal(tested);
-    };
-    let tested = check_words(theirs);
-    let Test::Passed = tested else {
-        return refusal(tested);
-    };
-    let tested = check_straight(theirs);
-    let Test::Passed = tested else {
-        return refusal(tested);
-    };
-    let tested = check_interface(ours, theirs);
-    let Test::Passed = tested else {
-        return refusal(tested);
-    };
+    check_words(ours)?;
+    check_words(theirs)?;
+    check_straight(theirs)?;
+    check_interface(ours, theirs)?;
     compare_pair(ours, theirs)
 }

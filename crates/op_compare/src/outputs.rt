@@ -1,75 +1,73 @@
-// Where the outputs of two blocks of n inputs differ, from the pairs of each block in a batch: `lanes` of ours,
-// `others` of theirs.
+// Where the outputs of two blocks differ in a batch of settings, from the pairs of each block.
 ghost use Rattle.std.specs.Prelude.{◌≡◌, ◌<◌, get_or};
 ghost use Rattle.prelude.specs.Lists.{least};
 ghost use Rattle.op_compare.specs.Ready.{BlockPair};
-ghost use Rattle.op_compare.specs.Words.{differing_word, differing_words, differs_at};
 
 use lanes_dual_rail::LANE_WORDS;
 use lanes_settings::outputs::output_pair;
+use lanes_settings::settled::counted_lanes;
 use words_layout::offsets::{outputs_at, outputs_of};
 
-// The lanes at which output `o` shows another value in theirs.
-fn differing_lanes(
-    ours: &[u16],
-    theirs: &[u16],
-    n: usize,
-    o: usize,
-    lanes: &[u64; LANE_WORDS],
-    others: &[u64; LANE_WORDS],
-) -> u64
-    requires { BlockPair ours.now theirs.now × (n ≡ get_or ours.now 0 0) × (o < get_or ours.now 2 0) }
-    ensures { result ≡ differing_word ours.now theirs.now n lanes.now others.now o }
-{
-    let shown = output_pair(ours, outputs_at(ours), n, o, lanes);
-    let other = output_pair(theirs, outputs_at(theirs), n, o, others);
-    (shown.zeros ^ other.zeros) | (shown.ones ^ other.ones)
+// Two blocks of so many inputs, and their pairs in a batch: `lanes` of ours, `others` of theirs.
+#[derive(Clone, Copy)]
+pub struct Compared<'a> {
+    pub ours: &'a [u16],
+    pub theirs: &'a [u16],
+    pub inputs: usize,
+    pub lanes: &'a [u64; LANE_WORDS],
+    pub others: &'a [u64; LANE_WORDS],
+    ghost pair: { BlockPair ours.now theirs.now },
+    ghost same: { inputs ≡ get_or ours.now 0 0 },
 }
 
-// The lanes at which some output shows another value in theirs.
-pub fn any_differing(
-    ours: &[u16],
-    theirs: &[u16],
-    n: usize,
-    lanes: &[u64; LANE_WORDS],
-    others: &[u64; LANE_WORDS],
-) -> u64
-    requires { BlockPair ours.now theirs.now × (n ≡ get_or ours.now 0 0) }
-    ensures { result ≡ differing_words ours.now theirs.now n lanes.now others.now
-        (get_or ours.now 2 0) }
-{
-    let count = outputs_of(ours);
-    let mut word = 0u64;
-    let mut o = 0;
-    while o < count {
-        word = word | differing_lanes(ours, theirs, n, o, lanes, others);
-        o += 1;
+impl<'a> Compared<'a> {
+    ghost use Rattle.op_compare.specs.Compared.{output_total, differing_of, differing_below, differs_in};
+    ghost use Rattle.op_compare.specs.Compared.{IsJudged, DisagreeingIn};
+
+    // The lanes at which output `o` shows another value in theirs.
+    fn differing_lanes(&self, o: usize) -> u64
+        requires { o < output_total self.now }
+        ensures { result ≡ differing_of self.now o }
+    {
+        let shown = output_pair(self.ours, outputs_at(self.ours), self.inputs, o, self.lanes);
+        let other = output_pair(
+            self.theirs,
+            outputs_at(self.theirs),
+            self.inputs,
+            o,
+            self.others,
+        );
+        (shown.zeros ^ other.zeros) | (shown.ones ^ other.ones)
     }
-    word
-}
 
-// The lowest output that shows another value in theirs at a lane, or the number of outputs.
-pub fn lowest_differing(
-    ours: &[u16],
-    theirs: &[u16],
-    n: usize,
-    lane: usize,
-    lanes: &[u64; LANE_WORDS],
-    others: &[u64; LANE_WORDS],
-) -> usize
-    requires { BlockPair ours.now theirs.now × (n ≡ get_or ours.now 0 0) × (lane < 64) }
-    ensures { result ≡ least
-        (differs_at ours.now theirs.now n lanes.now others.now lane)
-        (get_or ours.now 2 0) }
-{
-    let count = outputs_of(ours);
-    let mut o = 0;
-    while o < count {
-        let word = differing_lanes(ours, theirs, n, o, lanes, others);
-        if (word >> lane) % 2 == 1 {
-            return o;
+    // The lanes at which some output shows another value in theirs.
+    fn any_differing(&self) -> u64
+        ensures { result ≡ differing_below self.now (output_total self.now) }
+    {
+        let count = outputs_of(self.ours);
+        let mut word = 0u64;
+        for o in 0..count {
+            word = word | self.differing_lanes(o);
         }
-        o += 1;
+        word
     }
-    o
+
+    // The lanes of the batch at `base` at which the blocks disagree, when both blocks' settled values are there.
+    pub fn disagreeing_lanes(&self, base: usize) -> u64
+        requires { IsJudged self.now base }
+        ensures { DisagreeingIn self.now base result }
+    {
+        counted_lanes(self.ours, self.inputs, base, self.lanes) & self.any_differing()
+    }
+
+    // The lowest output that shows another value in theirs at a lane, or the number of outputs.
+    pub fn lowest_differing(&self, lane: usize) -> usize
+        requires { lane < 64 }
+        ensures { result ≡ least (differs_in self.now lane) (output_total self.now) }
+    {
+        let count = outputs_of(self.ours);
+        (0..count)
+            .find(|&o| (self.differing_lanes(o) >> lane) % 2 == 1)
+            .unwrap_or(count)
+    }
 }

@@ -18,7 +18,7 @@ use borrow.Author.Tests.{lt-ltb, le-ltb}
 use Rattle.prelude.specs.Lists.{any, up_to, least}
 use Rattle.prelude.proofs.Tests.{lt-or-le}
 use Rattle.prelude.proofs.Least.{least-le, least-below, least_at, least-is}
-use Rattle.netlist.specs.declared.Answer.TheVariants.{Done}
+use Rattle.std.specs.declared.result.Result.TheVariants.{Ok}
 use Rattle.netlist.specs.Limits.{max_inputs, max_gates}
 use Rattle.netlist.specs.Values.{undefined, code}
 use Rattle.netlist.specs.Netlist.{Block, input_count}
@@ -205,7 +205,7 @@ marks-disagreeing ws shown {base} {w} {nodes} {counted} {word} j t is =
 module _ (a : Block) (cells shown : List ℕ) (s count : ℕ) (e : count ≡ setting_count a)
     (before : (i : ℕ) → i < s → cells_disagree a cells shown i ≡ false) where
   -- no setting disagrees
-  pub search-accepted : s ≤ count → count ≤ s → Done 0 0 ≡ answer_of (compare_block_cells a cells shown)
+  pub search-accepted : s ≤ count → count ≤ s → Ok (record { count = 0; detail = 0 }) ≡ answer_of (compare_block_cells a cells shown)
   unfolding compare_block_cells cells_judged_at lowest_cell_disagreement answer_of
   search-accepted l m =
       let is : least (cells_disagree a cells shown) (setting_count a) ≡ setting_count a =
@@ -216,7 +216,7 @@ module _ (a : Block) (cells shown : List ℕ) (s count : ℕ) (e : count ≡ set
   -- setting s does, and no lower one
   pub search-found : (o : ℕ) → s < count → cells_disagree a cells shown s ≡ true
       → o ≡ lowest_cell_differing a cells shown s
-      → Done (o + 1) s ≡ answer_of (compare_block_cells a cells shown)
+      → Ok (record { count = (o + 1); detail = s }) ≡ answer_of (compare_block_cells a cells shown)
   unfolding compare_block_cells cells_judged_at lowest_cell_disagreement answer_of
   search-found o l d f =
       let below : s < setting_count a = omega arith in

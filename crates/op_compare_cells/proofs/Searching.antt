@@ -13,7 +13,7 @@ use native.Mathlib.Nat.{not-suc-le-zero, zero-add}
 use lib.ListN.{length, get_or}
 use Rattle.prelude.specs.Lists.{least}
 use Rattle.prelude.proofs.Least.{least-le}
-use Rattle.netlist.specs.declared.Answer.TheVariants.{Done}
+use Rattle.std.specs.declared.result.Result.TheVariants.{Ok}
 use Rattle.netlist.specs.Limits.{max_inputs, max_gates}
 use Rattle.netlist.specs.StoredBlock.{decode, is_malformed}
 use Rattle.netlist.specs.Rounds.{setting_count}
@@ -53,7 +53,7 @@ agreed-none ws shown table = record { none = λ cells t i l. absurd (not-suc-le-
 -- no batch has a lane
 pub found_none : {ws shown table : List ℕ} {n count base : ℕ} → n ≡ get_or ws 0 0 → count ≡ 2 ^ n
     → Agreed ws shown table base → base ≤ count → count ≤ base
-    → Found ws shown table (Done 0 0)
+    → Found ws shown table (Ok (record { count = 0; detail = 0 }))
 found_none {ws} {shown} {table} {n} {count} {base} e many a l m =
     record {
       told = λ cells t. search-accepted (decode ws) cells shown base count (setting-count ws e many)
@@ -91,11 +91,11 @@ module _ {ws shown table : List ℕ} {n base : ℕ} {nodes : List ℕ} {word : �
   pub found_here : {w : List ℕ} → Judged ws (get_or ws 0 0) base w → (word ≡ 0 → ⊥) → {count lane o : ℕ} → count ≡ 2 ^ n
       → Place n base → base < count
       → lane ≡ least (has_lane word) 64 → o ≡ least (differs_at ws shown w nodes lane) (get_or ws 2 0)
-      → Found ws shown table (Done (o + 1) (base + lane))
+      → Found ws shown table (Ok (record { count = (o + 1); detail = (base + lane) }))
   found_here {w} j h {count} {lane} {o} many place below is lowest = record { told = found }
     where
       found : (cells : List ℕ) → CellTable (get_or ws 0 0) cells table
-          → Done (o + 1) (base + lane) ≡ answer_of (compare_block_cells (decode ws) cells shown)
+          → Ok (record { count = (o + 1); detail = (base + lane) }) ≡ answer_of (compare_block_cells (decode ws) cells shown)
       found cells t =
           let (s, l, p) = tells-some (told cells t) h in
           let f = tells-lowest (told cells t) (lanes_of-most (get_or ws 0 0)) s l p in

@@ -3,7 +3,7 @@
 --   Agreed      no setting below a number disagrees
 --   Found       the answer
 use Rattle.std.specs.Prelude.{◌≡◌, List, false, ℕ, ◌<◌, get_or}
-use Rattle.netlist.specs.declared.Answer.{Answer}
+use Rattle.netlist.specs.Answers.{Answer}
 use Rattle.netlist.specs.StoredBlock.{decode}
 use Rattle.netlist.specs.Answers.{answer_of}
 use Rattle.netlist.specs.CompareCells.{cells_disagree, compare_block_cells}

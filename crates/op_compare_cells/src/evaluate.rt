@@ -1,5 +1,5 @@
 // The words of all places in a batch of settings: the two constants, the inputs, and cell after cell.
-ghost use Rattle.std.specs.Prelude.{◌≡◌, ◌%◌, ◌≤◌, ◌<◌, length, get_or};
+ghost use Rattle.std.specs.Prelude.{◌≡◌, ◌%◌, ◌≤◌, ◌<◌, get_or};
 ghost use Rattle.netlist.specs.Limits.{max_inputs, max_gates};
 ghost use Rattle.lanes_dual_rail.specs.Pairs.{full};
 ghost use Rattle.lanes_dual_rail.specs.Batches.{lanes_of};
@@ -28,15 +28,13 @@ fn input_word(n: usize, base: usize, i: usize) -> u64
 
 // Writes the words of the constants and of the inputs at their places.
 fn put_inputs(n: usize, base: usize, nodes: &mut [u64; PLACES])
-    requires { (n ≤ max_inputs) × (base % 64 ≡ 0) × (length nodes.old ≡ place_count) }
+    requires { (n ≤ max_inputs) × (base % 64 ≡ 0) }
     ensures { InputsIn n base nodes.new }
 {
     nodes[0] = 0;
     nodes[1] = used_lanes(n);
-    let mut i = 0;
-    while i < MAX_INPUTS {
+    for i in 0..MAX_INPUTS {
         nodes[FIRST_INPUT + i] = input_word(n, base, i);
-        i += 1;
     }
 }
 
@@ -63,16 +61,13 @@ fn cell_word_at(used: u64, table: &[u16; TABLE_WORDS], j: usize, nodes: &[u64; P
 
 // Writes the word of every place: the constants, the inputs, and the table's cells under the settings from `base` on.
 pub fn evaluate_cells(n: usize, base: usize, table: &[u16; TABLE_WORDS], nodes: &mut [u64; PLACES])
-    requires n_le_max_inputs { (n ≤ max_inputs) × (base % 64 ≡ 0) × EarlierPlaces table.now }
-    requires nodes_len { length nodes.old ≡ place_count }
+    requires { (n ≤ max_inputs) × (base % 64 ≡ 0) × EarlierPlaces table.now }
     ensures { Evaluated n base (table_cells table.now) (count_in table.now) nodes.new }
 {
     let used = used_lanes(n);
     put_inputs(n, base, nodes);
     let count = table[COUNT_AT] as usize;
-    let mut j = 0;
-    while j < count {
+    for j in 0..count {
         nodes[FIRST_GATE + j] = cell_word_at(used, table, j, nodes);
-        j += 1;
     }
 }

@@ -12,10 +12,10 @@ ghost use Rattle.op_compare_cells.specs.Ready.{is_below};
 use netlist::Refusal;
 use op_cells::CELL_SIZE;
 use words_layout::offsets::{inputs_of, outputs_of};
-use words_refusals::{Test, refuse_if};
+use words_refusals::refuse_if;
 
 // Refusal 12: does the list have a word for each output?
-pub fn check_length(words: &[u16], shown: &[u16]) -> Test
+pub fn check_length(words: &[u16], shown: &[u16]) -> Result<(), Refusal>
     requires { is_malformed words.now ≡ false }
     ensures { result ≡ test_of (not (eqb (length shown.now) (output_count (decode words.now))))
         InterfaceMismatch }
@@ -27,18 +27,11 @@ pub fn check_length(words: &[u16], shown: &[u16]) -> Test
 fn all_below(shown: &[u16], nodes: usize) -> bool
     ensures { result ≡ all (is_below nodes) shown.now }
 {
-    let mut o = 0;
-    while o < shown.len() {
-        if nodes <= shown[o] as usize {
-            return false;
-        }
-        o += 1;
-    }
-    true
+    shown.iter().all(|node| (*node as usize) < nodes)
 }
 
 // Refusal 6: is every word of the list an input or a cell?
-pub fn check_listed(words: &[u16], cells: &[u16], shown: &[u16]) -> Test
+pub fn check_listed(words: &[u16], cells: &[u16], shown: &[u16]) -> Result<(), Refusal>
     requires { (is_malformed words.now ≡ false) × (are_legal_cells (input_count (decode words.now)) cells.now ≡ true) }
     ensures { result ≡ test_of
         (not (all (is_listed (input_count (decode words.now)) cells.now) shown.now))

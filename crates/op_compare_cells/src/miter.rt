@@ -52,10 +52,8 @@ fn any_differing(
 {
     let count = outputs_of(words);
     let mut differing = 0u64;
-    let mut o = 0;
-    while o < count {
+    for o in 0..count {
         differing = differing | differing_lanes(words, shown, o, lanes, nodes);
-        o += 1;
     }
     differing
 }
@@ -73,15 +71,9 @@ pub fn lowest_differing(
         (get_or words.now 2 0) }
 {
     let count = outputs_of(words);
-    let mut o = 0;
-    while o < count {
-        let differing = differing_lanes(words, shown, o, lanes, nodes);
-        if (differing >> lane) % 2 == 1 {
-            return o;
-        }
-        o += 1;
-    }
-    o
+    (0..count)
+        .find(|&o| (differing_lanes(words, shown, o, lanes, nodes) >> lane) % 2 == 1)
+        .unwrap_or(count)
 }
 
 // The lanes of the batch at `base` at which the setting counts and some output differs.

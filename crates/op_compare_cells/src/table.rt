@@ -2,7 +2,7 @@
 // truth word, and behind them all the number of cells.
 ghost use Rattle.std.specs.Prelude.{◌≡◌, true, ◌<◌, length};
 ghost use Rattle.netlist.specs.Cells.{are_legal_cells};
-ghost use Rattle.op_compare_cells.specs.Table.{table_size, table_word, CellTable};
+ghost use Rattle.op_compare_cells.specs.Table.{table_word, CellTable};
 
 use graph_gates::place_of;
 use op_cells::CELL_SIZE;
@@ -28,13 +28,11 @@ fn table_word(n: usize, cells: &[u16], p: usize) -> u16
 
 // The table of legal cells.
 pub fn decode_cells(n: usize, cells: &[u16], table: &mut [u16; TABLE_WORDS])
-    requires { (are_legal_cells n cells.now ≡ true) × (length table.old ≡ table_size) }
+    requires { are_legal_cells n cells.now ≡ true }
     ensures { CellTable n cells.now table.new }
 {
-    let mut p = 0;
-    while p < cells.len() {
+    for p in 0..cells.len() {
         table[p] = table_word(n, cells, p);
-        p += 1;
     }
     table[COUNT_AT] = (cells.len() / CELL_SIZE) as u16;
 }

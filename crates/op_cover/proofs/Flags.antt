@@ -1,13 +1,17 @@
 -- A byte for each setting, written batch by batch, and the table that these bytes are. Assumes nothing.
-use mathlib.Core.Path.{◌≡◌, refl, ap, ◌∙◌}
-use mathlib.Core.Bool.{Bool, true, false, cond}
-use mathlib.Core.List.{List}
+use mathlib.Core.Path.{◌≡◌, refl, sym, ap, ◌∙◌}
+use mathlib.Core.Bool.{Bool, true, false, cond, ◌&&◌}
+use mathlib.Core.List.{List, [], ◌∷◌}
 use Prim.Native.Nat.{ℕ, zero, suc, ◌+◌, ◌^◌, ◌≤◌, ◌<◌}
 use native.Mathlib.Nat.{add-zero, add-suc}
 use native.Mathlib.Omega.{arith}
-use lib.ListN.{length, get_or}
+use lib.ListN.{length, get_or, take}
 use lib.Dec.{eqb}
-use Rattle.prelude.specs.Lists.{tab, placed}
+use lib.Seq.{take-suc}
+use Rattle.std.specs.List.{list_all}
+use Rattle.prelude.specs.Lists.{tab, placed, all, up_to}
+use Rattle.prelude.proofs.Quantifiers.{all_append}
+use Rattle.prelude.proofs.Ranges.{list_all-all}
 use Rattle.prelude.proofs.Tab.{set-placed-tab}
 use Rattle.netlist.specs.Netlist.{Block, input_count}
 use Rattle.netlist.specs.Assignments.{bit}
@@ -55,3 +59,18 @@ tabulated b n entry table e r t =
 pub table-room : {b : Block} {table : List ℕ} {n : ℕ} → Tabulated b table → n ≡ input_count b → 2 ^ n ≤ length table
 unfolding setting_count
 table-room t e = rw e t.long
+
+-- a test of the first n items, by their places
+all-front : (p : ℕ → Bool) (xs : List ℕ) (n : ℕ) → n ≤ length xs
+    → all p (take n xs) ≡ all (λ k. p (get_or xs k 0)) (up_to n)
+all-front p xs zero h = refl
+all-front p xs (suc n) h =
+    ap (all p) (take-suc xs n 0 (omega arith)) ∙ all_append p (take n xs) (get_or xs n 0 ∷ [])
+    ∙ ap (λ (b : Bool). b && all p (get_or xs n 0 ∷ [])) (all-front p xs n (omega arith))
+    ∙ sym (all_append (λ k. p (get_or xs k 0)) (up_to n) (n ∷ []))
+
+pub settled-front : (settled : List ℕ) (n : ℕ) → n ≤ length settled
+    → list_all (λ byte. eqb byte 1) (take n settled) ≡ all (settled_by settled) (up_to n)
+unfolding settled_by
+settled-front settled n h =
+    list_all-all (λ byte. eqb byte 1) (take n settled) ∙ all-front (λ byte. eqb byte 1) settled n h

@@ -1,6 +1,6 @@
 -- Cover's outcome, as a chain of conditions, and what `cover_entries` leaves in the slice. Cited by `whole_cover` and
 -- `cover`. Assumes nothing.
-use mathlib.Core.Path.{◌≡◌, refl, ap, ◌∙◌}
+use mathlib.Core.Path.{◌≡◌, refl, sym, ap, ◌∙◌}
 use mathlib.Core.Bool.{Bool, true, false}
 use mathlib.Core.List.{List}
 use Prim.Native.Nat.{ℕ, ◌*◌, ◌/◌, ◌≤◌, ◌<◌}
@@ -9,18 +9,19 @@ use lib.ListN.{length}
 use lib.Dec.{ltb}
 use borrow.Author.Tests.{lt-ltb, le-ltb, le-leb, lt-leb, ltb-true, ltb-false}
 use Rattle.prelude.specs.Lists.{placed}
+use Rattle.netlist.specs.declared.Refusal.{Refusal}
+use Rattle.std.specs.Result.{IsErrAnd}
 use Rattle.netlist.specs.declared.Refusal.TheVariants.{MalformedBlock, NoRoom}
-use Rattle.words_refusals.specs.declared.Test.{Test}
-use Rattle.words_refusals.specs.declared.Test.TheVariants.{Passed}
-use Rattle.netlist.specs.declared.Answer.{Answer}
-use Rattle.netlist.specs.declared.Answer.TheVariants.{Done}
+use Rattle.words_refusals.specs.Tests.{Test}
+use Rattle.std.specs.declared.result.Result.TheVariants.{Ok, Err}
+use Rattle.netlist.specs.Answers.{Answer}
 use Rattle.netlist.specs.Netlist.{Block, input_count}
 use Rattle.netlist.specs.StoredBlock.{decode, is_malformed}
 use Rattle.netlist.specs.Cover.{cover, cover_entries}
 use Rattle.netlist.specs.Answers.{done, refuse_if, in_room, Promise}
-use Rattle.words_refusals.specs.Tests.{test_of, refusal_of}
+use Rattle.words_refusals.specs.Tests.{test_of}
 use Rattle.netlist.specs.Operations.{cover_block, cover_of}
-use Rattle.words_refusals.proofs.Promised.{IsFailed, passed, passed-false, failed, failed-true, bare, keeps-bare}
+use Rattle.words_refusals.proofs.Promised.{not-err, passed, passed-false, failed, failed-true, bare, keeps-bare}
 use Rattle.words_refusals.proofs.Promised.{finished}
 use Rattle.theory_cover.specs.Over.{cover_over}
 use Rattle.theory_cover.specs.Tables.{settled_by}
@@ -82,13 +83,15 @@ module _ (ws : List ℕ) {table entry exit : List ℕ} {n count room : ℕ} {tes
   tested : test ≡ test_of (ltb (length entry / 2) (length (cover (decode ws)))) NoRoom
   tested = rw (kept, count-is t e w) at answer
 
-  pub cover-short : {r : Answer} → IsFailed test → r ≡ refusal_of test → Promise (cover_of ws (length entry)) entry r exit
+  pub cover-short : {why : Refusal} {r : Answer} → test ≡ Err why → IsErrAnd r (λ e. e ≡ why)
+      → Promise (cover_of ws (length entry)) entry r exit
   cover-short k f =
-      let short = ltb-true (length entry / 2) (length (cover (decode ws))) (failed-true _ NoRoom tested k) in
+      let short = ltb-true (length entry / 2) (length (cover (decode ws)))
+      (failed-true _ NoRoom tested (λ p. not-err (sym k ∙ p))) in
       rw (kept-short t e w (omega arith))
       (failed bare keeps-bare _ _ NoRoom (cover-room ws (length entry) whole) tested entry k f)
 
-  pub cover-done : test ≡ Passed → Promise (cover_of ws (length entry)) entry (Done count 0) exit
+  pub cover-done : test ≡ Ok tt → Promise (cover_of ws (length entry)) entry (Ok (record { count = count; detail = 0 })) exit
   cover-done f =
       let enough = ltb-false (length entry / 2) (length (cover (decode ws))) (passed-false _ NoRoom tested f) in
       finished (passed bare keeps-bare _ _ NoRoom (cover-room ws (length entry) whole) tested f) (count-is t e w)

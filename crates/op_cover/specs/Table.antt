@@ -1,19 +1,9 @@
--- The arrays that Cover lends to its inner functions, and the table of settings that never come or are settled. Cited
--- by the contracts of this crate. Assumes nothing.
-use Rattle.std.specs.Prelude.{◌≡◌, List, cond, ℕ, zero, suc, ◌+◌, ◌^◌, ◌≤◌, ◌<◌, length, set}
-use Rattle.netlist.specs.Limits.{max_inputs}
+-- The table of settings that never come or are settled. Cited by the contracts of this crate. Assumes nothing.
+use Rattle.std.specs.Prelude.{◌≡◌, List, cond, ℕ, zero, suc, ◌+◌, ◌≤◌, ◌<◌, length, set}
 use Rattle.netlist.specs.Netlist.{Block}
 use Rattle.netlist.specs.Assignments.{bit}
 use Rattle.netlist.specs.Rounds.{setting_count, is_sound_at}
-use Rattle.lanes_dual_rail.specs.LaneWords.{lane_size}
-use Rattle.lanes_batch.specs.Layered.{PlanRoom}
 use Rattle.theory_cover.specs.Tables.{settled_by}
-
--- room for a plan, two words for each place, and a byte for each setting of the most inputs
-pub record CoverRoom (graph order ends lanes settled : List ℕ) : Type 0 where
-  pub plan_room : PlanRoom graph order ends
-  pub lane_room : length lanes ≡ lane_size
-  pub settled_room : length settled ≡ 2 ^ max_inputs
 
 -- the table has a byte for each setting, 1 exactly where it never comes or is settled
 pub record Tabulated (b : Block) (table : List ℕ) : Type 0 where

@@ -51,8 +51,10 @@ fn list_row(
 {
     let fixed = first.fixed;
     let end = 1usize << n;
+    // A walk over the subsets of a mask, which are no range.
     let mut count = before;
     let mut ones = 0;
+    // The next subset is no number more, so that no range counts them.
     while ones < end {
         if is_left(marks, weights, n, first, ones) {
             out[2 * count] = fixed as u16;
@@ -70,8 +72,10 @@ fn list_entries(marks: &[u8], weights: &[u32], n: usize, size: usize, total: usi
     requires total_value { (total ≡ length (entries_by marks.now n)) × (2 * length (entries_by marks.now n) ≤ length out.old) }
     ensures { out.new ≡ placed (assignment_words (entries_by marks.now n)) out.old }
 {
+    // The walk ends with the last entry, mostly long before the last mask, so that it is no range of masks.
     let mut count: usize = 0;
     let mut fixed = 0;
+    // The walk ends with the last entry, which no range of masks tells.
     while count < total {
         let base = row_base(weights, n, size, fixed);
         let first = FirstMask { fixed, base };

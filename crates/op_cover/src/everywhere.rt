@@ -11,15 +11,7 @@ pub fn are_all_settled(settled: &[u8], n: usize) -> bool
     requires { (n ≤ max_inputs) × (2 ^ n ≤ length settled.now) }
     ensures { result ≡ all (settled_by settled.now) (up_to (2 ^ n)) }
 {
-    let count = 1usize << n;
-    let mut setting = 0;
-    while setting < count {
-        if settled[setting] != 1 {
-            return false;
-        }
-        setting += 1;
-    }
-    true
+    settled[..1 << n].iter().all(|byte| *byte == 1)
 }
 
 // The words of the one entry that fixes nothing, where `out` has room for them.

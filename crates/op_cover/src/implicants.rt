@@ -4,7 +4,7 @@
 ghost use Rattle.std.specs.Prelude.{◌^◌, ◌≤◌, length};
 ghost use Rattle.netlist.specs.Limits.{max_inputs};
 ghost use Rattle.theory_cover.specs.Over.{cover_over};
-ghost use Rattle.theory_cover.specs.Tables.{settled_by, few_inputs};
+ghost use Rattle.theory_cover.specs.Tables.{settled_by};
 ghost use Rattle.theory_cover.specs.Entries.{EntriesWritten};
 
 use crate::entries::write_entries;
@@ -30,35 +30,21 @@ pub fn cover_entries(settled: &[u8], n: usize, out: &mut [u16]) -> usize
         return write_nothing(out);
     }
     if n <= FEW_INPUTS {
-        return cover_few(settled, n, out);
+        return cover_with::<FEW_ASSIGNMENTS, FEW_SETTINGS>(settled, n, out);
     }
-    let mut sound = [0u8; MAX_ASSIGNMENTS];
-    let mut weights = [0u32; MAX_SETTINGS];
-    cover_many(settled, n, &mut sound, &mut weights, out)
+    cover_with::<MAX_ASSIGNMENTS, MAX_SETTINGS>(settled, n, out)
 }
 
-// `cover_entries` with tables for the most inputs. It stands between the function that makes them and the one on
-// slices, so that no proof computes the length of half a million elements.
-fn cover_many(
-    settled: &[u8],
-    n: usize,
-    sound: &mut [u8; MAX_ASSIGNMENTS],
-    weights: &mut [u32; MAX_SETTINGS],
-    out: &mut [u16],
-) -> usize
-    requires { (n ≤ max_inputs) × (2 ^ n ≤ length settled.now) }
+// `cover_entries` with tables of A assignments and S settings. Their lengths stay parameters, so that no proof computes
+// the length of half a million elements.
+fn cover_with<const A: usize, const S: usize>(settled: &[u8], n: usize, out: &mut [u16]) -> usize
+    requires settings { (n ≤ max_inputs) × (2 ^ n ≤ length settled.now) }
+    requires many { (3 ^ n ≤ A) × (2 ^ n ≤ S) }
+    requires fits { (A ≤ 3 ^ max_inputs) × (S ≤ 2 ^ max_inputs) }
     ensures { EntriesWritten (cover_over (settled_by settled.now) n) out.old out.new result }
 {
-    cover_within(settled, n, sound, weights, out)
-}
-
-// `cover_entries` for few inputs, with small tables.
-fn cover_few(settled: &[u8], n: usize, out: &mut [u16]) -> usize
-    requires { (n ≤ few_inputs) × (2 ^ n ≤ length settled.now) }
-    ensures { EntriesWritten (cover_over (settled_by settled.now) n) out.old out.new result }
-{
-    let mut sound = [0u8; FEW_ASSIGNMENTS];
-    let mut weights = [0u32; FEW_SETTINGS];
+    let mut sound = [0u8; A];
+    let mut weights = [0u32; S];
     cover_within(settled, n, &mut sound, &mut weights, out)
 }
 

@@ -3,21 +3,21 @@
 // decided once, into a table (`table`); `implicants` and the modules that it calls find the entries in it.
 #![tactic(auto)]
 
-ghost use Rattle.std.specs.Prelude.{◌≡◌, false, length};
+ghost use Rattle.std.specs.Prelude.{◌≡◌, false, ◌^◌, length};
+ghost use Rattle.netlist.specs.Limits.{max_inputs};
 ghost use Rattle.netlist.specs.Answers.{Promise};
 ghost use Rattle.netlist.specs.StoredBlock.{is_malformed};
 ghost use Rattle.netlist.specs.Operations.{cover_of};
-ghost use Rattle.op_cover.specs.Table.{CoverRoom};
 
 use crate::implicants::cover_entries;
-use graph_gates::GRAPH_WORDS;
+use lanes_batch::plan::{Plan, blank_plan};
 use lanes_dual_rail::LANE_WORDS;
-use netlist::Answer;
+use netlist::{Answer, Done};
 use table::tabulate;
 use words_block::check_words;
-use words_layout::limits::{MAX_GATES, MAX_SETTINGS};
+use words_layout::limits::MAX_SETTINGS;
 use words_layout::offsets;
-use words_refusals::{Test, refusal, test_room};
+use words_refusals::test_room;
 
 mod entries;
 mod everywhere;
@@ -31,26 +31,21 @@ mod tables;
 // setting. `cover_entries` alters nothing where the entries' words, two an entry, do not fit.
 fn whole_cover(
     words: &[u16],
-    graph: &mut [u16; GRAPH_WORDS],
-    order: &mut [u16; MAX_GATES],
-    ends: &mut [u16; MAX_GATES],
+    plan: &mut Plan,
     lanes: &mut [u64; LANE_WORDS],
     settled: &mut [u8],
     entries: &mut [u16],
 ) -> Answer
     requires words_value { is_malformed words.now ≡ false }
-    requires cover_room { CoverRoom graph.old order.old ends.old lanes.old settled.old }
+    requires settled_room { length settled.old ≡ 2 ^ max_inputs }
     ensures { Promise (cover_of words.now (length entries.old)) entries.old result
         entries.new }
 {
-    tabulate(words, graph, order, ends, lanes, settled);
+    tabulate(words, plan, lanes, settled);
     let n = offsets::inputs_of(words);
     let count = cover_entries(settled, n, entries);
-    let tested = test_room(entries.len() / 2, count);
-    let Test::Passed = tested else {
-        return refusal(tested);
-    };
-    Answer::Done { count, detail: 0 }
+    test_room(entries.len() / 2, count)?;
+    Ok(Done { count, detail: 0 })
 }
 
 // Cover (6, 11): two words an entry; count: entries.
@@ -58,22 +53,9 @@ pub fn cover(words: &[u16], entries: &mut [u16]) -> Answer
     ensures { Promise (cover_of words.now (length entries.old)) entries.old result
         entries.new }
 {
-    let tested = check_words(words);
-    let Test::Passed = tested else {
-        return refusal(tested);
-    };
-    let mut graph = [0u16; GRAPH_WORDS];
-    let mut order = [0u16; MAX_GATES];
-    let mut ends = [0u16; MAX_GATES];
+    check_words(words)?;
+    let mut plan = blank_plan();
     let mut lanes = [0u64; LANE_WORDS];
     let mut settled = [0u8; MAX_SETTINGS];
-    whole_cover(
-        words,
-        &mut graph,
-        &mut order,
-        &mut ends,
-        &mut lanes,
-        &mut settled,
-        entries,
-    )
+    whole_cover(words, &mut plan, &mut lanes, &mut settled, entries)
 }

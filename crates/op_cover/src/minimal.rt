@@ -12,8 +12,7 @@ fn is_minimal(sound: &[u8], n: usize, k: usize) -> bool
 {
     let mut rest = k;
     let mut power: usize = 1;
-    let mut i = 0;
-    while i < n {
+    for i in 0..n {
         let digit = rest % 3;
         if digit != 2 {
             if sound[k + (2 - digit) * power] == 1 {
@@ -22,7 +21,6 @@ fn is_minimal(sound: &[u8], n: usize, k: usize) -> bool
         }
         rest /= 3;
         power *= 3;
-        i += 1;
     }
     true
 }
@@ -34,8 +32,7 @@ pub fn keep_minimal(n: usize, size: usize, sound: &mut [u8]) -> usize
     ensures { OnlyMinimal sound.old sound.new n (3 ^ n) result }
 {
     let mut count: usize = 0;
-    let mut k = 0;
-    while k < size {
+    for k in 0..size {
         if sound[k] == 1 {
             if is_minimal(sound, n, k) {
                 count += 1;
@@ -43,7 +40,6 @@ pub fn keep_minimal(n: usize, size: usize, sound: &mut [u8]) -> usize
                 sound[k] = 0;
             }
         }
-        k += 1;
     }
     count
 }

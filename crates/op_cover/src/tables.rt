@@ -11,10 +11,8 @@ pub fn fill_weights(n: usize, weights: &mut [u32])
 {
     let count = 1usize << n;
     weights[0] = 0;
-    let mut mask = 1;
-    while mask < count {
+    for mask in 1..count {
         weights[mask] = 3 * weights[mask / 2] + (mask % 2) as u32;
-        mask += 1;
     }
 }
 
@@ -24,10 +22,8 @@ fn join_halves(sound: &mut [u8], k: usize, power: usize)
     requires { (2 * power ≤ k) × (k + power ≤ length sound.old) }
     ensures { HalvesJoined sound.old sound.new k power power }
 {
-    let mut j = 0;
-    while j < power {
+    for j in 0..power {
         sound[k + j] = sound[k - power + j] & sound[k - 2 * power + j];
-        j += 1;
     }
 }
 
@@ -38,6 +34,7 @@ fn add_setting(settled: &[u8], n: usize, setting: usize, k: usize, sound: &mut [
     ensures { Filled settled.now sound.new n (setting + 1) result }
 {
     sound[k] = if settled[setting] == 1 { 1 } else { 0 };
+    // The walk ends at the lowest input at 0; three numbers go on in it.
     let mut end = k + 1;
     let mut power: usize = 1;
     let mut i: usize = 0;
@@ -57,10 +54,8 @@ pub fn fill_sound(settled: &[u8], n: usize, sound: &mut [u8]) -> usize
 {
     let count = 1usize << n;
     let mut k = 0;
-    let mut setting = 0;
-    while setting < count {
+    for setting in 0..count {
         k = add_setting(settled, n, setting, k, sound);
-        setting += 1;
     }
     k
 }

@@ -1,7 +1,7 @@
 -- Gather's promise, which is on two slices (SPECIFICATION 7.17), and what its and Scatter's inner functions need.
 -- Assumes nothing.
 use Rattle.std.specs.Prelude.{ℕ, ◌≤◌, ◌≡◌, false, List, length, get_or}
-use Rattle.netlist.specs.declared.Answer.{Answer}
+use Rattle.netlist.specs.Answers.{Answer}
 use Rattle.netlist.specs.StoredBlock.{is_malformed}
 use Rattle.netlist.specs.Answers.{left_in, Promise}
 use Rattle.netlist.specs.Gather.{gather, gather_list}

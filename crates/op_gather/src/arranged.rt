@@ -19,10 +19,8 @@ fn fill_table(nodes: Nodes, numbers: &[u16], table: &mut [u16])
     ensures { table.new
         ≡ placed (tab (new_word nodes.inputs numbers.now) nodes.gates) table.old }
 {
-    let mut j = 0;
-    while j < nodes.gates {
+    for j in 0..nodes.gates {
         table[j] = (nodes.inputs + numbers[j] as usize) as u16;
-        j += 1;
     }
 }
 
@@ -33,10 +31,8 @@ fn move_gates(words: &[u16], nodes: Nodes, order: &[u16], table: &[u16], out: &m
     ensures { out.new ≡ sets out.old nodes.start
         (joined (tab (moved_at words.now nodes order.now table.now) nodes.gates)) }
 {
-    let mut t = 0;
-    while t < nodes.gates {
+    for t in 0..nodes.gates {
         write_gate(words, nodes, order[t] as usize, t, table, out);
-        t += 1;
     }
 }
 

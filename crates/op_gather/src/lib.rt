@@ -9,11 +9,10 @@ ghost use Rattle.netlist.specs.Answers.{Promise};
 ghost use Rattle.netlist.specs.Gather.{gathered_words, gathered_order, scatter as scatter_of};
 ghost use Rattle.op_gather.specs.Promise.{GatherPromise, BlockRoom};
 
-use netlist::Answer;
+use netlist::{Answer, Done};
 use words_block::check_words;
 use words_layout::limits::MAX_GATES;
 use words_layout::offsets::gates_of;
-use words_refusals::{Test, refusal};
 
 pub mod arranged;
 pub mod places;
@@ -43,19 +42,13 @@ pub fn gather(words: &[u16], gathered: &mut [u16], order: &mut [u16]) -> Answer
     ensures { GatherPromise words.now gathered.old order.old result
         gathered.new order.new }
 {
-    let tested = check_words(words);
-    let Test::Passed = tested else {
-        return refusal(tested);
-    };
-    let tested = steps::check_rooms(gathered.len(), words.len(), order.len(), gates_of(words));
-    let Test::Passed = tested else {
-        return refusal(tested);
-    };
+    check_words(words)?;
+    steps::check_rooms(gathered.len(), words.len(), order.len(), gates_of(words))?;
     gather_block(words, gathered, order);
-    Answer::Done {
+    Ok(Done {
         count: words.len(),
         detail: 0,
-    }
+    })
 }
 
 // Scatter of a block that is not malformed; makes the arrays that this needs.
@@ -75,9 +68,6 @@ pub fn scatter(words: &[u16], order: &[u16], original: &mut [u16]) -> Answer
     ensures { Promise (scatter_of words.now order.now (length original.old))
         original.old result original.new }
 {
-    let tested = check_words(words);
-    let Test::Passed = tested else {
-        return refusal(tested);
-    };
+    check_words(words)?;
     scatter_block(words, order, original)
 }

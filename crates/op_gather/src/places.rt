@@ -10,8 +10,7 @@ fn mark_places(order: &[u16], m: usize, places: &mut [u16]) -> bool
     requires { MarkReady m order.now places.old }
     ensures { Places m order.now result places.new }
 {
-    let mut t = 0;
-    while t < m {
+    for t in 0..m {
         let j = order[t] as usize;
         if m <= j {
             return false;
@@ -20,7 +19,6 @@ fn mark_places(order: &[u16], m: usize, places: &mut [u16]) -> bool
             return false;
         }
         places[j] = t as u16;
-        t += 1;
     }
     true
 }

@@ -10,19 +10,19 @@ ghost use Rattle.op_gather.specs.Promise.{GatherReady, ScatterReady};
 
 use crate::arranged::write_arranged;
 use crate::places::find_places;
-use netlist::{Answer, Refusal};
+use netlist::{Answer, Done, Refusal};
 use op_groups::assign::assign;
 use unroll_order::list_members;
 use words_layout::limits::MAX_GATES;
 use words_layout::offsets::gates_of;
-use words_refusals::{Test, refusal, refuse_if, test_room};
+use words_refusals::{refuse_if, test_room};
 
 // Refusal 11 of Gather: is the slice for the block or the one for the list too small?
-pub fn check_rooms(room: usize, needed: usize, list: usize, gates: usize) -> Test
+pub fn check_rooms(room: usize, needed: usize, list: usize, gates: usize) -> Result<(), Refusal>
     ensures { result ≡ test_of (ltb room needed || ltb list gates) NoRoom }
 {
     if room < needed {
-        return Test::Failed(Refusal::NoRoom);
+        return Err(Refusal::NoRoom);
     }
     test_room(list, gates)
 }
@@ -60,17 +60,11 @@ pub fn scatter_with(
         original.old result original.new }
 {
     let listed = find_places(order, gates_of(words), places);
-    let tested = refuse_if(!listed, Refusal::NotAPermutation);
-    let Test::Passed = tested else {
-        return refusal(tested);
-    };
-    let tested = test_room(original.len(), words.len());
-    let Test::Passed = tested else {
-        return refusal(tested);
-    };
+    refuse_if(!listed, Refusal::NotAPermutation)?;
+    test_room(original.len(), words.len())?;
     write_arranged(words, places, order, table, original);
-    Answer::Done {
+    Ok(Done {
         count: words.len(),
         detail: 0,
-    }
+    })
 }

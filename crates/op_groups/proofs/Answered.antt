@@ -1,8 +1,8 @@
 -- Groups' outcome as a chain of conditions, and the numbers of a block from those of its graph. Cited by `assign_with`
 -- and `groups`. Assumes nothing.
-use mathlib.Core.Path.{◌≡◌, refl, sym, ◌∙◌}
+use mathlib.Core.Path.{◌≡◌, refl, ◌∙◌}
 use mathlib.Core.List.{List}
-use Prim.Native.Nat.{ℕ, ◌≤◌, ◌<◌}
+use Prim.Native.Nat.{ℕ}
 use lib.ListN.{length, get_or}
 use lib.Dec.{ltb}
 use Rattle.prelude.specs.Lists.{tab, placed}

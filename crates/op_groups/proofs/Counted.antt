@@ -6,8 +6,8 @@
 --   taken_out, taken_in                       a group is taken out of the set, and has its number
 --   set_next, lowest-next, none-next          the set holds the groups that may be next
 -- Assumes nothing.
-use mathlib.Core.Path.{◌≡◌, refl, sym, ap, ◌∙◌, subst}
-use mathlib.Core.Logic.{◌⊎◌, inl, inr, ⊎_elim}
+use mathlib.Core.Path.{◌≡◌, refl, sym, ◌∙◌, subst}
+use mathlib.Core.Logic.{inl, inr, ⊎_elim}
 use mathlib.Core.Bool.{Bool, true, false, not, cond, ◌&&◌, ◌||◌, or-true, or-false, and-true, and-false}
 use mathlib.Core.List.{List}
 use Prim.Native.Nat.{ℕ, zero, suc, ◌+◌, ◌-◌, ◌*◌, ◌/◌, ◌%◌, ◌≤◌, ◌<◌}
@@ -17,10 +17,10 @@ use native.Mathlib.Numerals.{add-one}
 use lib.ListN.{length, get_or, set, length-set}
 use lib.Seq.{get_or-set_same, get_or-set_other}
 use lib.Dec.{eqb, ltb, leb}
-use borrow.Author.Tests.{eqb-true, eqb-false, eq-eqb, ne_eqb, leb-true, le-leb, lt-leb, lt-ltb, le-ltb, ltb-true}
+use borrow.Author.Tests.{eqb-true, eqb-false, eq-eqb, ne_eqb, leb-true, le-leb, lt-leb, lt-ltb, le-ltb}
 use borrow.Author.Tests.{not-true, not-false}
 use Rattle.prelude.specs.Lists.{count_below, least}
-use Rattle.prelude.proofs.Tests.{bool_cases, and_left, and_right, and_intro, or_cases, not-both, lt-or-le, eq-or-ne}
+use Rattle.prelude.proofs.Tests.{and_left, and_right, and_intro, or_cases, not-both, lt-or-le, eq-or-ne}
 use Rattle.prelude.proofs.Tests.{not-true-false, same_test}
 use Rattle.prelude.proofs.Counting.{count_below-ext, count_below-one, count_below-le, count_below-less}
 use Rattle.prelude.proofs.Least.{least-below, least_at, least-is}
@@ -28,14 +28,14 @@ use Rattle.netlist.specs.Limits.{max_gates}
 use Rattle.netlist.specs.Groups.{reads, may_be_next}
 use Rattle.theory_reach.proofs.Next.{may_be_next-left}
 use Rattle.graph_gates.specs.Places.{first_gate}
-use Rattle.graph_gates.specs.Graph.{slots, place_at, network, Graph}
+use Rattle.graph_gates.specs.Graph.{slots, network}
 use Rattle.graph_gates.specs.Fanout.{slot_place, Chain, at, behind, Fanout}
 use Rattle.graph_gates.proofs.Chains.{chain-le, slot_of, slot-inside}
 use Rattle.graph_scc.proofs.Slots.{read-slot, slot_read}
 use Rattle.op_groups.specs.Numbering.{no_number, unnumbered, numbered_gates, leads_next, NumberReady}
 use Rattle.op_groups.specs.Ready.{in_set, Added, Removed}
 use Rattle.op_groups.specs.Waiting.{slot_gate, crosses, is_open, all_open, count_of, IsReady, Waiting, Counting}
-use Rattle.op_groups.specs.Waiting.{ReadyBelow, CountDownReady, CountDownAllReady}
+use Rattle.op_groups.specs.Waiting.{ReadyBelow, CountDownReady}
 use Rattle.op_groups.proofs.Leading.{done-member, lead-le, lead-self, waits, free}
 
 -- ---- counts

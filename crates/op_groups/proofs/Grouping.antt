@@ -4,8 +4,8 @@
 --   group-next      they are
 --   group-end       all have it
 use mathlib.Core.Path.{◌≡◌, refl, sym, ◌∙◌}
-use mathlib.Core.Logic.{◌⊎◌, inl, inr, ⊎_elim}
-use mathlib.Core.Bool.{Bool, true, false, cond, ◌&&◌, and-true, and-false}
+use mathlib.Core.Logic.{⊎_elim}
+use mathlib.Core.Bool.{true, false, cond, ◌&&◌, and-true, and-false}
 use mathlib.Core.List.{List}
 use Prim.Native.Nat.{ℕ, ◌+◌, ◌≤◌, ◌<◌}
 use native.Mathlib.Omega.{arith}
@@ -20,7 +20,7 @@ use Rattle.op_groups.proofs.Linking.{next-above}
 use Rattle.op_groups.specs.Numbering.{no_number, unnumbered}
 use Rattle.op_groups.specs.Ready.{Removed}
 use Rattle.op_groups.specs.Waiting.{all_open, Waiting, CountDownAllReady, NumberGroupReady, GroupNumbered}
-use Rattle.op_groups.proofs.Leading.{lead-le, lowest}
+use Rattle.op_groups.proofs.Leading.{lowest}
 use Rattle.op_groups.proofs.Counted.{has-number, number-one, taken_out, taken_in}
 
 -- the gates of the group below k have the number, and k is the next of them
@@ -40,13 +40,14 @@ module _ {m leader g : ℕ} {graph leaders nexts fanout numbers₀ counts₀ rea
   leads : get_or leaders leader 0 ≡ leader
   leads = (s.waiting.sound leader s.chosen).leads
 
-  pub group-first : {ready : List ℕ} → length ready ≡ length ready₀ → Removed leader ready₀ ready
+  pub group-first : {ready : List ℕ} → length numbers₀ ≡ max_gates → length ready ≡ length ready₀
+      → Removed leader ready₀ ready
       → Under m leader g graph leaders numbers₀ numbers₀ counts₀ ready leader
-  group-first long out =
+  group-first room long out =
       record {
         led = λ l. leads;
         above = omega arith;
-        room = s.room;
+        room = room;
         each = each;
         waiting = taken_out s.waiting leader s.chosen long out;
       }

@@ -1,17 +1,17 @@
 -- Leaders: each is its group's lowest gate, and when a group that a gate leads may be next. Assumes nothing.
 use mathlib.Core.Path.{◌≡◌, refl, sym, ap, ◌∙◌}
 use mathlib.Core.Logic.{inl, inr, ⊎_elim}
-use mathlib.Core.Bool.{Bool, true, false, not}
+use mathlib.Core.Bool.{true, false, not}
 use mathlib.Core.List.{List}
 use Prim.Native.Nat.{ℕ, ◌≤◌, ◌<◌}
 use native.Mathlib.Omega.{arith}
-use lib.ListN.{length, get_or}
+use lib.ListN.{get_or}
 use lib.Dec.{eqb}
-use borrow.Author.Tests.{eqb-true, eq-eqb, not-true, not-false}
+use borrow.Author.Tests.{eqb-true, eq-eqb, not-false}
 use Rattle.prelude.specs.Lists.{up_to, member}
-use Rattle.prelude.proofs.Tests.{bool_cases, same_test, and_left, and_right, and_intro, not-both, not-true-false}
+use Rattle.prelude.proofs.Tests.{bool_cases, same_test, and_left, not-both, not-true-false}
 use Rattle.netlist.specs.Netlist.{gate_count}
-use Rattle.netlist.specs.Groups.{read_by, reads, same_group, group_of, may_be_next}
+use Rattle.netlist.specs.Groups.{reads, same_group, group_of, may_be_next}
 use Rattle.theory_reach.specs.Inside.{Inside}
 use Rattle.theory_reach.proofs.Reach.{reads-below}
 use Rattle.theory_reach.proofs.ListFacts.{member-keep, member-up_to, up_to-below}

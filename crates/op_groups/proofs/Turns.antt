@@ -1,24 +1,22 @@
 -- The numbers before, during and after the numbering loop. Cited by `number_groups`. Assumes nothing.
-use mathlib.Core.Path.{◌≡◌, refl, sym, ap, ◌∙◌}
+use mathlib.Core.Path.{◌≡◌, refl, sym, ◌∙◌}
 use mathlib.Core.Logic.{⊎_elim}
 use mathlib.Core.Bool.{Bool, true, false, cond}
-use mathlib.Core.List.{List, [], ◌++◌}
-use Prim.Native.Nat.{ℕ, zero, suc, ◌+◌, ◌*◌, ◌≤◌, ◌<◌}
+use mathlib.Core.List.{List, []}
+use Prim.Native.Nat.{ℕ, ◌+◌, ◌≤◌, ◌<◌}
 use native.Mathlib.Nat.{le_antisymm}
 use native.Mathlib.Numerals.{add-one}
 use native.Mathlib.Omega.{arith}
-use lib.ListN.{length, get_or, take, drop, replicate, length-replicate, get_or-replicate, replicate-append-replicate}
-use lib.ListN.{get_or-append}
-use lib.Seq.{take_all, drop_at}
+use lib.ListN.{length, get_or, take}
+use lib.Seq.{take_all}
 use lib.Dec.{eqb, ltb}
 use borrow.Author.Tests.{eq-eqb, lt-ltb, le-ltb}
-use Rattle.prelude.specs.Lists.{tab, placed, joined, member, least}
+use Rattle.prelude.specs.Lists.{joined, member, least}
 use Rattle.prelude.proofs.Tests.{not-both, lt-or-le}
-use Rattle.prelude.proofs.Tab.{tab-ext, length-tab, get_d-tab, placed-tab}
 use Rattle.op_groups.specs.Links.{Linked}
 use Rattle.netlist.specs.Limits.{max_gates}
 use Rattle.netlist.specs.Netlist.{Block, gate_count}
-use Rattle.netlist.specs.Groups.{same_group, group_of, groups, group_number, group_numbers}
+use Rattle.netlist.specs.Groups.{same_group, group_of, groups, group_number}
 use Rattle.theory_reach.specs.Inside.{Inside}
 use Rattle.theory_reach.specs.Numbering.{next_gate}
 use Rattle.theory_reach.proofs.SameGroup.{member-group_of, same_group-sym}

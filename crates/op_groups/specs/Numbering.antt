@@ -4,7 +4,7 @@
 --   NumberedUpTo      the numbers when the first g groups have theirs
 --   NumbersOf         the numbers of all groups
 --   GroupsNumbered    the numbers of all groups in a slice, for a block
-use Rattle.std.specs.Prelude.{ℕ, ◌≤◌, ◌<◌, ◌≡◌, Bool, cond, not, ◌&&◌, List, length, get_or, eqb, ltb}
+use Rattle.std.specs.Prelude.{ℕ, ◌<◌, ◌≡◌, Bool, cond, not, ◌&&◌, List, length, get_or, eqb, ltb}
 use Rattle.prelude.specs.Lists.{keep, placed, up_to}
 use Rattle.netlist.specs.Limits.{max_gates}
 use Rattle.netlist.specs.Netlist.{Block}

@@ -6,7 +6,7 @@
 --   count_of       the slots that a group waits for
 --   Waiting       all counts are right, and the set holds the groups that are ready
 -- Assumes nothing.
-use Rattle.std.specs.Prelude.{ℕ, ◌+◌, ◌-◌, ◌*◌, ◌/◌, ◌≤◌, ◌<◌, ◌≡◌, Bool, true, false, cond, not, ◌&&◌, ◌||◌, List, length, get_or, eqb, ltb, leb}
+use Rattle.std.specs.Prelude.{ℕ, ◌+◌, ◌-◌, ◌*◌, ◌/◌, ◌<◌, ◌≡◌, Bool, true, false, cond, not, ◌&&◌, ◌||◌, List, length, get_or, eqb, ltb, leb}
 use Rattle.prelude.specs.Lists.{count_below}
 use Rattle.netlist.specs.Limits.{max_gates}
 use Rattle.op_groups.specs.Links.{FirstFrom}
@@ -108,7 +108,6 @@ pub record NumberGroupReady (m leader g : ℕ) (graph leaders nexts fanout numbe
   pub linked : AllLinked m graph leaders nexts fanout
   pub below : leader < m
   pub number_fits : g < max_gates
-  pub room : length numbers ≡ max_gates
   pub bare : (j : ℕ) → j < m → get_or leaders j 0 ≡ leader → unnumbered numbers j ≡ true
   pub chosen : in_set ready leader ≡ true
   pub waiting : Waiting m leaders numbers m (all_open graph leaders numbers) counts ready
@@ -125,13 +124,8 @@ pub record AllReady (m : ℕ) (graph leaders nexts fanout numbers counts ready :
   pub numbers_are : NumberedUpTo m graph 0 numbers
   pub waiting : Waiting m leaders numbers m (all_open graph leaders numbers) counts ready
 
--- room for each array, with empty lists and an empty set
-pub record NumberRooms (m : ℕ) (graph leaders nexts fanout numbers counts ready : List ℕ) : Type 0 where
+-- a graph, with empty lists and an empty set
+pub record NumberRooms (m : ℕ) (graph fanout ready : List ℕ) : Type 0 where
   pub legal : Graph m graph
-  pub leader_room : length leaders ≡ max_gates
-  pub next_room : length nexts ≡ max_gates
   pub unlinked : Empty fanout
-  pub number_room : length numbers ≡ max_gates
-  pub count_room : length counts ≡ max_gates
-  pub ready_room : length ready ≡ ready_words
   pub none : (l : ℕ) → in_set ready l ≡ false

@@ -3,12 +3,10 @@ ghost use Rattle.std.specs.Prelude.{◌≡◌, false, ◌≤◌, length, get_or}
 ghost use Rattle.prelude.specs.Lists.{tab, placed};
 ghost use Rattle.netlist.specs.Limits.{max_gates};
 ghost use Rattle.netlist.specs.StoredBlock.{decode, is_malformed};
-ghost use Rattle.graph_gates.specs.Graph.{graph_size};
 ghost use Rattle.op_groups.specs.Numbering.{number_at, GroupsNumbered};
 
 use crate::numbering::number_groups;
 use graph_gates::{GRAPH_WORDS, decode_gates};
-use graph_scc::words::word_of;
 use words_layout::limits::MAX_GATES;
 use words_layout::offsets::gates_of;
 
@@ -17,11 +15,7 @@ fn copy_numbers(m: usize, found: &[u16; MAX_GATES], numbers: &mut [u16])
     requires { (m ≤ max_gates) × (m ≤ length numbers.old) }
     ensures { numbers.new ≡ placed (tab (number_at found.now) m) numbers.old }
 {
-    let mut j = 0;
-    while j < m {
-        numbers[j] = word_of(found, j);
-        j += 1;
-    }
+    numbers[..m].copy_from_slice(&found[..m]);
 }
 
 // Numbers the groups of a block, with room lent for its graph and the numbers.
@@ -31,8 +25,7 @@ fn assign_with(
     found: &mut [u16; MAX_GATES],
     numbers: &mut [u16],
 ) -> usize
-    requires words_value { (is_malformed words.now ≡ false) × (get_or words.now 1 0 ≤ length numbers.old) }
-    requires graph_len { (length graph.old ≡ graph_size) × (length found.old ≡ max_gates) }
+    requires { (is_malformed words.now ≡ false) × (get_or words.now 1 0 ≤ length numbers.old) }
     ensures { GroupsNumbered (decode words.now) numbers.old numbers.new result }
 {
     decode_gates(words, graph);

@@ -8,10 +8,10 @@ ghost use Rattle.netlist.specs.Answers.{Promise};
 ghost use Rattle.netlist.specs.Operations.{groups_of};
 
 use crate::assign::assign;
-use netlist::Answer;
+use netlist::{Answer, Done};
 use words_block::check_words;
 use words_layout::offsets::gates_of;
-use words_refusals::{Test, refusal, test_room};
+use words_refusals::test_room;
 
 pub mod assign;
 pub mod links;
@@ -24,14 +24,8 @@ pub fn groups(words: &[u16], numbers: &mut [u16]) -> Answer
     ensures { Promise (groups_of words.now (length numbers.old)) numbers.old result
         numbers.new }
 {
-    let tested = check_words(words);
-    let Test::Passed = tested else {
-        return refusal(tested);
-    };
-    let tested = test_room(numbers.len(), gates_of(words));
-    let Test::Passed = tested else {
-        return refusal(tested);
-    };
+    check_words(words)?;
+    test_room(numbers.len(), gates_of(words))?;
     let count = assign(words, numbers);
-    Answer::Done { count, detail: 0 }
+    Ok(Done { count, detail: 0 })
 }

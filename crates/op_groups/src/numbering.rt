@@ -1,18 +1,15 @@
 // Topological order of the strongly connected groups by Kahn's algorithm ("Topological sorting of large networks",
 // 1962): of the groups that read no gate without a number outside themselves, the one with the lowest gate is next.
-ghost use Rattle.std.specs.Prelude.{◌≡◌, length};
-ghost use Rattle.netlist.specs.Limits.{max_gates};
 ghost use Rattle.graph_gates.specs.Graph.{network, Graph};
 ghost use Rattle.op_groups.specs.Numbering.{NumbersOf};
 ghost use Rattle.op_groups.specs.Waiting.{NumberGroupReady, GroupNumbered, AllReady, NumberRooms};
 
 use crate::links::link;
-use crate::ready::{READY_WORDS, lowest, remove};
+use crate::ready::{READY_WORDS, ReadySet};
 use crate::waiting::{add_all_ready, count_down, count_slots};
 use graph_gates::GRAPH_WORDS;
 use graph_gates::fanout::{FANOUT_WORDS, link_slots};
 use graph_scc::leaders::lead;
-use graph_scc::words::word_of;
 use words_layout::fill::fill_words;
 use words_layout::limits::MAX_GATES;
 use words_layout::nodes::NONE;
@@ -34,23 +31,24 @@ fn number_group(
     fanout: &[u16; FANOUT_WORDS],
     numbers: &mut [u16; MAX_GATES],
     counts: &mut [u16; MAX_GATES],
-    ready: &mut [u64; READY_WORDS],
+    ready: &mut ReadySet,
 )
     requires { NumberGroupReady turn.gates turn.leader turn.number graph.now leaders.now nexts.now fanout.now
         numbers.old counts.old
-        ready.old }
+        ready.old.words }
     ensures { GroupNumbered turn.gates turn.leader turn.number graph.now leaders.now
         numbers.old
-        numbers.new counts.new ready.new }
+        numbers.new counts.new ready.new.words }
 {
-    remove(turn.leader, ready);
+    ready.remove(turn.leader);
     let mut k = turn.leader;
+    // Each gate of the list names the next, so that no index counts them.
     while k < turn.gates {
         numbers[k] = turn.number as u16;
         count_down(
             graph, turn.gates, k, leaders, numbers, fanout, counts, ready,
         );
-        k = word_of(nexts, k) as usize;
+        k = nexts[k] as usize;
     }
 }
 
@@ -63,15 +61,14 @@ fn number_all(
     fanout: &[u16; FANOUT_WORDS],
     numbers: &mut [u16; MAX_GATES],
     counts: &mut [u16; MAX_GATES],
-    ready: &mut [u64; READY_WORDS],
+    ready: &mut ReadySet,
 ) -> usize
     requires { AllReady m graph.now leaders.now nexts.now fanout.now numbers.old
-        counts.old ready.old }
+        counts.old ready.old.words }
     ensures { NumbersOf (network m graph.now) m numbers.new result }
 {
-    let mut g = 0;
-    while g < m {
-        let leader = lowest(ready);
+    for g in 0..m {
+        let leader = ready.lowest();
         if m <= leader {
             return g;
         }
@@ -81,9 +78,8 @@ fn number_all(
             number: g,
         };
         number_group(graph, turn, leaders, nexts, fanout, numbers, counts, ready);
-        g += 1;
     }
-    g
+    m
 }
 
 // Prepares numbering: the leaders, the lists of each group's gates and of each gate's fan-out, the count of slots that
@@ -96,13 +92,12 @@ fn prepare(
     fanout: &mut [u16; FANOUT_WORDS],
     numbers: &mut [u16; MAX_GATES],
     counts: &mut [u16; MAX_GATES],
-    ready: &mut [u64; READY_WORDS],
+    ready: &mut ReadySet,
 )
-    requires { NumberRooms m graph.now leaders.old nexts.old fanout.old numbers.old
-        counts.old ready.old }
+    requires { NumberRooms m graph.now fanout.old ready.old.words }
     ensures { AllReady m graph.now leaders.new nexts.new fanout.new
         numbers.new counts.new
-        ready.new }
+        ready.new.words }
 {
     lead(graph, m, leaders);
     link_slots(graph, m, fanout);
@@ -123,10 +118,9 @@ fn number_with(
     fanout: &mut [u16; FANOUT_WORDS],
     numbers: &mut [u16; MAX_GATES],
     counts: &mut [u16; MAX_GATES],
-    ready: &mut [u64; READY_WORDS],
+    ready: &mut ReadySet,
 ) -> usize
-    requires { NumberRooms m graph.now leaders.old nexts.old fanout.old numbers.old
-        counts.old ready.old }
+    requires { NumberRooms m graph.now fanout.old ready.old.words }
     ensures { NumbersOf (network m graph.now) m numbers.new result }
 {
     prepare(graph, m, leaders, nexts, fanout, numbers, counts, ready);
@@ -135,14 +129,16 @@ fn number_with(
 
 // Writes each gate's group number; how many groups there are.
 pub fn number_groups(graph: &[u16; GRAPH_WORDS], m: usize, numbers: &mut [u16; MAX_GATES]) -> usize
-    requires { Graph m graph.now × (length numbers.old ≡ max_gates) }
+    requires { Graph m graph.now }
     ensures { NumbersOf (network m graph.now) m numbers.new result }
 {
     let mut leaders = [0u16; MAX_GATES];
     let mut nexts = [0u16; MAX_GATES];
     let mut fanout = [0u16; FANOUT_WORDS];
     let mut counts = [0u16; MAX_GATES];
-    let mut ready = [0u64; READY_WORDS];
+    let mut ready = ReadySet {
+        words: [0; READY_WORDS],
+    };
     number_with(
         graph,
         m,

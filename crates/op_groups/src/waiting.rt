@@ -4,23 +4,13 @@
 ghost use Rattle.std.specs.Prelude.{◌≡◌, ◌+◌, ◌*◌, ◌≤◌, ◌<◌, get_or};
 ghost use Rattle.netlist.specs.Limits.{max_gates};
 ghost use Rattle.graph_gates.specs.Graph.{slots};
-ghost use Rattle.graph_gates.specs.Fanout.{fanout_size};
 ghost use Rattle.op_groups.specs.Waiting.{is_open, all_open, Waiting, Counting, ReadyBelow, CountDownReady};
 ghost use Rattle.op_groups.specs.Waiting.{CountDownAllReady};
 
-use crate::ready::{READY_WORDS, add};
+use crate::ready::ReadySet;
 use graph_gates::fanout::{FANOUT_WORDS, NEXT_AT};
 use graph_gates::{FIRST_GATE, GRAPH_WORDS, SLOTS};
-use graph_scc::words::{graph_word, word_of};
 use words_layout::limits::MAX_GATES;
-
-// Word i of the fan-out.
-fn fanout_word(fanout: &[u16; FANOUT_WORDS], i: usize) -> u16
-    requires { i < fanout_size }
-    ensures { result ≡ get_or fanout.now i 0 }
-{
-    fanout[i]
-}
 
 // Counts slot e for its gate's group, if it reads a gate of another group.
 fn count_slot(
@@ -33,15 +23,15 @@ fn count_slot(
     requires { Counting m graph.now leaders.now e counts.old × (e < slots * m) }
     ensures { Counting m graph.now leaders.now (e + 1) counts.new }
 {
-    let place = graph_word(graph, e + e / SLOTS + 1) as usize;
+    let place = graph[e + e / SLOTS + 1] as usize;
     if place < FIRST_GATE {
         return;
     }
-    let leader = word_of(leaders, e / SLOTS) as usize;
-    if word_of(leaders, place - FIRST_GATE) as usize == leader {
+    let leader = leaders[e / SLOTS] as usize;
+    if leaders[place - FIRST_GATE] as usize == leader {
         return;
     }
-    counts[leader] = (word_of(counts, leader) as usize + 1) as u16;
+    counts[leader] += 1;
 }
 
 // Counts for each group the slots that it waits for while no gate has a number.
@@ -54,30 +44,23 @@ pub fn count_slots(
     requires { Counting m graph.now leaders.now 0 counts.old }
     ensures { Counting m graph.now leaders.now (slots * m) counts.new }
 {
-    let mut e = 0;
-    while e < SLOTS * m {
+    for e in 0..SLOTS * m {
         count_slot(graph, m, e, leaders, counts);
-        e += 1;
     }
 }
 
 // Adds gate l to the ready set, if it leads a group that waits for nothing.
-fn add_ready(
-    l: usize,
-    leaders: &[u16; MAX_GATES],
-    counts: &[u16; MAX_GATES],
-    ready: &mut [u64; READY_WORDS],
-)
-    requires { ReadyBelow l leaders.now counts.now ready.old × (l < max_gates) }
-    ensures { ReadyBelow (l + 1) leaders.now counts.now ready.new }
+fn add_ready(l: usize, leaders: &[u16; MAX_GATES], counts: &[u16; MAX_GATES], ready: &mut ReadySet)
+    requires { ReadyBelow l leaders.now counts.now ready.old.words × (l < max_gates) }
+    ensures { ReadyBelow (l + 1) leaders.now counts.now ready.new.words }
 {
-    if word_of(leaders, l) as usize != l {
+    if leaders[l] as usize != l {
         return;
     }
-    if word_of(counts, l) != 0 {
+    if counts[l] != 0 {
         return;
     }
-    add(l, ready);
+    ready.add(l);
 }
 
 // Adds all groups that wait for nothing to the ready set.
@@ -85,15 +68,13 @@ pub fn add_all_ready(
     m: usize,
     leaders: &[u16; MAX_GATES],
     counts: &[u16; MAX_GATES],
-    ready: &mut [u64; READY_WORDS],
+    ready: &mut ReadySet,
 )
-    requires { ReadyBelow 0 leaders.now counts.now ready.old × (m ≤ max_gates) }
-    ensures { ReadyBelow m leaders.now counts.now ready.new }
+    requires { ReadyBelow 0 leaders.now counts.now ready.old.words × (m ≤ max_gates) }
+    ensures { ReadyBelow m leaders.now counts.now ready.new.words }
 {
-    let mut l = 0;
-    while l < m {
+    for l in 0..m {
         add_ready(l, leaders, counts, ready);
-        l += 1;
     }
 }
 
@@ -106,21 +87,21 @@ fn count_down_slot(
     leaders: &[u16; MAX_GATES],
     numbers: &[u16; MAX_GATES],
     counts: &mut [u16; MAX_GATES],
-    ready: &mut [u64; READY_WORDS],
+    ready: &mut ReadySet,
 )
-    requires { CountDownReady m graph.now e k leaders.now numbers.now counts.old ready.old }
+    requires { CountDownReady m graph.now e k leaders.now numbers.now counts.old ready.old.words }
     ensures { Waiting m leaders.now numbers.now (get_or leaders.now k 0)
         (is_open graph.now leaders.now numbers.now k e) counts.new
-        ready.new }
+        ready.new.words }
 {
-    let leader = word_of(leaders, e / SLOTS) as usize;
-    if word_of(leaders, k) as usize == leader {
+    let leader = leaders[e / SLOTS] as usize;
+    if leaders[k] as usize == leader {
         return;
     }
-    let left = word_of(counts, leader) as usize - 1;
-    counts[leader] = left as u16;
+    let left = counts[leader] - 1;
+    counts[leader] = left;
     if left == 0 {
-        add(leader, ready);
+        ready.add(leader);
     }
 }
 
@@ -133,17 +114,18 @@ pub fn count_down(
     numbers: &[u16; MAX_GATES],
     fanout: &[u16; FANOUT_WORDS],
     counts: &mut [u16; MAX_GATES],
-    ready: &mut [u64; READY_WORDS],
+    ready: &mut ReadySet,
 )
-    requires { CountDownAllReady m graph.now k leaders.now numbers.now fanout.now counts.old ready.old }
+    requires { CountDownAllReady m graph.now k leaders.now numbers.now fanout.now counts.old ready.old.words }
     ensures { Waiting m leaders.now numbers.now (get_or leaders.now k 0)
         (all_open graph.now leaders.now numbers.now) counts.new
-        ready.new }
+        ready.new.words }
 {
-    let mut at = fanout_word(fanout, k) as usize;
+    let mut at = fanout[k] as usize;
+    // Each entry of the list names the next, so that no index counts them.
     while 0 < at {
         let e = at - 1;
         count_down_slot(graph, m, e, k, leaders, numbers, counts, ready);
-        at = fanout_word(fanout, NEXT_AT + e) as usize;
+        at = fanout[NEXT_AT + e] as usize;
     }
 }

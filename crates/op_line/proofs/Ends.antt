@@ -5,10 +5,15 @@ use mathlib.Core.Bool.{Bool, true, false, cond, ◌||◌, true≢false}
 use mathlib.Core.List.{List, [], ◌∷◌}
 use Prim.Native.Nat.{ℕ, zero, suc, ◌+◌, ◌-◌, ◌≤◌, ◌<◌}
 use native.Mathlib.Omega.{arith}
-use lib.ListN.{length, drop, get_or, length-drop, drop_of_length-le}
+use lib.ListN.{length, drop, get_or, length-drop}
 use lib.Seq.{drop-cons}
-use lib.Dec.{eqb}
-use borrow.Author.Tests.{eq-eqb, ne_eqb, eqb-false}
+use lib.Dec.{eqb, ltb}
+use borrow.Author.Tests.{eq-eqb, ne_eqb, eqb-false, ltb-false}
+use Rattle.std.specs.declared.option.Option.{Option}
+use Rattle.std.specs.declared.option.Option.TheVariants.{None, Some}
+use Rattle.std.specs.Option.{unwrap_or}
+use Rattle.std.specs.List.{position_or_len}
+use Rattle.std.proofs.lemmas.List.Recursion.{is_position_or_len}
 use borrow.Author.Count.{below_more}
 use Rattle.netlist.specs.Line.{lf, clamped, start_before, until_lf, line_start, line_end}
 
@@ -62,10 +67,6 @@ module _ (text : List ℕ) where
 
   -- ---- the end
 
-  pub end-at : (at : ℕ) → at < length text → get_or text at 0 ≡ lf → at ≡ at + until_lf (drop at text)
-  unfolding until_lf
-  end-at at h e = rw (drop-cons text at 0 h, eq-eqb (get_or text at 0) lf e) (omega arith)
-
   pub end-behind : (at : ℕ) → at < length text → (get_or text at 0 ≡ lf → ⊥)
       → at + until_lf (drop at text) ≡ suc at + until_lf (drop (suc at) text)
   unfolding until_lf
@@ -81,11 +82,7 @@ module _ (text : List ℕ) where
       ∙ end-behind (at + n) (omega arith) (none n (omega arith))
       ∙ ap (λ (k : ℕ). k + until_lf (drop k text)) e
 
-  pub end-over : (at : ℕ) → length text ≤ at → at ≡ at + until_lf (drop at text)
-  unfolding until_lf
-  end-over at h = rw (drop_of_length-le text h) (omega arith)
-
-until-le : (s : List ℕ) → until_lf s ≤ length s
+pub until-le : (s : List ℕ) → until_lf s ≤ length s
 unfolding until_lf
 until-le [] = omega arith
 until-le (c ∷ s) = go (eqb c lf) (until-le s)
@@ -93,6 +90,23 @@ until-le (c ∷ s) = go (eqb c lf) (until-le s)
     go : (b : Bool) → until_lf s ≤ length s → cond b 0 (suc (until_lf s)) ≤ suc (length s)
     go true h = omega arith
     go false h = omega arith
+
+-- the first LF, as the library's `position` gives it
+until-position : (s : List ℕ) → position_or_len (λ b. eqb b lf) s ≡ until_lf s
+unfolding until_lf
+until-position s = sym (is_position_or_len until_lf (λ b. eqb b lf) refl more s)
+  where
+    more : (x : ℕ) (xs : List ℕ) → until_lf (x ∷ xs) ≡ cond (eqb x lf) 0 (1 + until_lf xs)
+    more x xs = let e : suc (until_lf xs) ≡ 1 + until_lf xs = omega arith in ap (λ (k : ℕ). cond (eqb x lf) 0 k) e
+
+pub until-found : (s : List ℕ) (r : Option ℕ)
+    → r ≡ cond (ltb (position_or_len (λ b. eqb b lf) s) (length s)) (Some (position_or_len (λ b. eqb b lf) s)) None
+    → unwrap_or r (length s) ≡ until_lf s
+until-found s r e = rw e (rw (until-position s) (go (ltb (until_lf s) (length s)) refl))
+  where
+    go : (b : Bool) → ltb (until_lf s) (length s) ≡ b → unwrap_or (cond b (Some (until_lf s)) None) (length s) ≡ until_lf s
+    go true h = refl
+    go false h = omega (arith, ltb-false (until_lf s) (length s) h, until-le s)
 
 -- ---- both
 

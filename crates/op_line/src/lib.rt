@@ -14,23 +14,18 @@ const PART: usize = 64;
 fn clamp(text: &[u8], place: usize) -> usize
     ensures { result ≡ clamped text.now place }
 {
-    if place < text.len() {
-        place
-    } else {
-        text.len()
-    }
+    place.min(text.len())
 }
 
 // Does an LF stand in the part from `at` on? The loop has no early end, so that it is compiled to vector instructions.
+// Not that of text_lines, whose parts are shorter: this crate stands on netlist alone, and no crate below holds both.
 fn has_lf(text: &[u8], at: usize) -> bool
     requires { at + part_size ≤ length text.now }
     ensures { result ≡ false → (k : ℕ) → k < part_size → get_or text.now (at + k) 0 ≡ lf → ⊥ }
 {
     let mut found = false;
-    let mut i = 0;
-    while i < PART {
+    for i in 0..PART {
         found = found | (text[at + i] == b'\n');
-        i += 1;
     }
     found
 }
@@ -41,11 +36,9 @@ fn skip_before(text: &[u8], at: usize) -> usize
     ensures { (result ≤ length text.now)
         × (start_before text.now at ≡ start_before text.now result) }
 {
+    // Steps of PART down from any place: a reversed range with step_by would be no plainer.
     let mut start = at;
-    while PART <= start {
-        if has_lf(text, start - PART) {
-            return start;
-        }
+    while PART <= start && !has_lf(text, start - PART) {
         start -= PART;
     }
     start
@@ -57,11 +50,9 @@ fn skip_behind(text: &[u8], at: usize) -> usize
     ensures { (result ≤ length text.now)
         × (at + until_lf (drop at text.now) ≡ result + until_lf (drop result text.now)) }
 {
+    // Steps of PART up from any place: a range with step_by would be no plainer.
     let mut end = at;
-    while PART <= text.len() - end {
-        if has_lf(text, end) {
-            return end;
-        }
+    while PART <= text.len() - end && !has_lf(text, end) {
         end += PART;
     }
     end
@@ -71,28 +62,31 @@ fn skip_behind(text: &[u8], at: usize) -> usize
 pub fn line_start(text: &[u8], place: usize) -> usize
     ensures { result ≡ line_start text.now place }
 {
-    let mut at = skip_before(text, clamp(text, place));
-    while 0 < at {
-        if text[at - 1] == b'\n' {
-            return at;
+    let end = skip_before(text, clamp(text, place));
+    for i in (0..end).rev() {
+        if text[i] == b'\n' {
+            return i + 1;
         }
-        at -= 1;
     }
     0
+}
+
+// How many bytes stand before the first LF.
+fn until_lf(bytes: &[u8]) -> usize
+    ensures { result ≡ until_lf bytes.now }
+{
+    bytes
+        .iter()
+        .position(|b| *b == b'\n')
+        .unwrap_or(bytes.len())
 }
 
 // The place of the first LF at or behind the place, or the end.
 fn line_end(text: &[u8], place: usize) -> usize
     ensures { result ≡ line_end text.now place }
 {
-    let mut at = skip_behind(text, clamp(text, place));
-    while at < text.len() {
-        if text[at] == b'\n' {
-            return at;
-        }
-        at += 1;
-    }
-    at
+    let from = skip_behind(text, clamp(text, place));
+    from + until_lf(&text[from..])
 }
 
 // How many bytes the line has, without its LF, once its start is known.

@@ -12,7 +12,7 @@ use Rattle.netlist.specs.Netlist.{Block, gate_count}
 use Rattle.netlist.specs.StoredBlock.{decode, is_malformed}
 use Rattle.netlist.specs.Rounds.{rounds, settled}
 use Rattle.netlist.specs.Rendering.{is_straight, sweep}
-use Rattle.netlist.specs.declared.Answer.{Answer}
+use Rattle.netlist.specs.Answers.{Answer}
 use Rattle.netlist.specs.Answers.{refusal_number, number_of, Outcome, done, refuse_if, in_room, answer_of, left_in, Promise}
 use Rattle.netlist.specs.Operations.{is_bad_setting, settle_block, settle, pass_block, pass}
 use Rattle.theory_encoding.proofs.Decoded.{decode-gate_count}

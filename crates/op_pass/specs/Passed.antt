@@ -1,7 +1,7 @@
 -- Pass's promise: its own outcome, and whenever it answers 0, the slice holds what Settle would leave there. Assumes
 -- nothing.
 use Rattle.std.specs.Prelude.{◌≡◌, List, ℕ, length}
-use Rattle.netlist.specs.declared.Answer.{Answer}
+use Rattle.netlist.specs.Answers.{Answer}
 use Rattle.netlist.specs.Answers.{number_of, left_in, Promise}
 use Rattle.netlist.specs.Operations.{settle, pass}
 

@@ -4,11 +4,11 @@
 ghost use Rattle.op_pass.specs.Passed.{PassPromise};
 
 use crate::sweep::sweep_into;
-use netlist::Answer;
+use netlist::{Answer, Done};
 use op_settle::setting::test_setting;
 use words_block::{check_straight, check_words};
 use words_layout::offsets::gates_of;
-use words_refusals::{Test, refusal, test_room};
+use words_refusals::test_room;
 
 pub mod sweep;
 
@@ -16,22 +16,10 @@ pub mod sweep;
 pub fn pass(words: &[u16], setting: &[u8], values: &mut [u8]) -> Answer
     ensures { PassPromise words.now setting.now values.old result values.new }
 {
-    let tested = check_words(words);
-    let Test::Passed = tested else {
-        return refusal(tested);
-    };
-    let tested = check_straight(words);
-    let Test::Passed = tested else {
-        return refusal(tested);
-    };
-    let tested = test_setting(words, setting);
-    let Test::Passed = tested else {
-        return refusal(tested);
-    };
-    let tested = test_room(values.len(), gates_of(words));
-    let Test::Passed = tested else {
-        return refusal(tested);
-    };
+    check_words(words)?;
+    check_straight(words)?;
+    test_setting(words, setting)?;
+    test_room(values.len(), gates_of(words))?;
     let count = sweep_into(words, setting, values);
-    Answer::Done { count, detail: 0 }
+    Ok(Done { count, detail: 0 })
 }

@@ -25,11 +25,9 @@ pub fn sweep_gates(
     requires { (table.now ≡ gate_table) × Graph m graph.now × Unsettled values.old }
     ensures { SweptIn m graph.now values.old values.new }
 {
-    let mut j = 0;
-    while j < m {
+    for j in 0..m {
         let found = gate_value(table, graph, j, values);
         values[FIRST_GATE + j] = found;
-        j += 1;
     }
 }
 

@@ -12,11 +12,12 @@ use borrow.Author.Tests.{ltb-false}
 use Rattle.prelude.specs.Lists.{placed, joined}
 use Rattle.prelude.proofs.Elements.{rest-is-drop}
 use Rattle.prelude.proofs.Slices.{sets-placed, placed-room}
-use Rattle.netlist.specs.declared.Answer.{Answer}
-use Rattle.netlist.specs.declared.Answer.TheVariants.{Done}
+use Rattle.netlist.specs.Answers.{Answer}
+use Rattle.std.specs.declared.result.Result.TheVariants.{Ok, Err}
+use Rattle.std.specs.Result.{IsErrAnd}
+use Rattle.netlist.specs.declared.Refusal.{Refusal}
 use Rattle.netlist.specs.declared.Refusal.TheVariants.{OverLimit, DuplicateDeclaration, UndeclaredName, NoRoom}
-use Rattle.words_refusals.specs.declared.Test.{Test}
-use Rattle.words_refusals.specs.declared.Test.TheVariants.{Passed}
+use Rattle.words_refusals.specs.Tests.{Test}
 use Rattle.netlist.specs.Limits.{max_text, max_inputs, max_nevers, max_gates, max_outputs}
 use Rattle.netlist.specs.StoredBlock.{outputs_at, never_words, gate_words, output_words, encode}
 use Rattle.netlist.specs.Syntax.{Tree, is_legal_tree}
@@ -24,7 +25,7 @@ use Rattle.netlist.specs.Reading.{gate_lines_at, output_lines_at, never_lines_at
 use Rattle.netlist.specs.Reading.{excluded_names, first_outside}
 use Rattle.netlist.specs.Reading.{is_over_limit, first_duplicate, first_undeclared, block_of}
 use Rattle.netlist.specs.Answers.{done, refuse_if, in_room, Promise}
-use Rattle.words_refusals.specs.Tests.{test_of, test_at, refusal_of}
+use Rattle.words_refusals.specs.Tests.{test_of, test_at}
 use Rattle.netlist.specs.Operations.{read}
 use Rattle.theory_grammar.proofs.Places.{print-measure}
 use Rattle.theory_grammar.proofs.Limits.{limits-within}
@@ -43,7 +44,7 @@ use Rattle.text_constraints.specs.Places.{never_lines, lines_words, Told}
 use Rattle.text_constraints.specs.Ready.{NeversReady}
 use Rattle.text_constraints.proofs.LineWalk.{failed-first}
 use Rattle.text_expressions.specs.Resolution.{TreeAt, first_unknown, ResolveReady, Resolved}
-use Rattle.words_refusals.proofs.Promised.{IsFailed, passed_none, passed-false, failed, failed-at, passed, keeps-room}
+use Rattle.words_refusals.proofs.Promised.{IsFailed, not-err, passed_none, passed-false, failed, failed-at, passed, keeps-room}
 use Rattle.words_refusals.proofs.Promised.{bare, keeps-bare, finished}
 use Rattle.text_block.specs.Words.{tree_block_words, word_count, PutReady}
 use Rattle.op_read.specs.Steps.{TreeText, Limited, TablesReady, TermsReady, WriteReady}
@@ -92,13 +93,13 @@ module _ {text : List ℕ} (a : TreeText text) {lines : NeverLines}
     counts-are =
         counted tree text a.is inputs-is count-is (rest-is-drop text lines.end ∙ ap (λ k. drop k text) end_is)
 
-    pub over : (entry : List ℕ) → IsFailed r → {answer : Answer} → answer ≡ refusal_of r
+    pub over : (entry : List ℕ) {why : Refusal} → r ≡ Err why → {answer : Answer} → IsErrAnd answer (λ e. e ≡ why)
         → Promise (read text (length entry)) entry answer entry
     over entry k e =
         failed (in_room _) (keeps-room _) _ _ OverLimit (read-tree tree text (length entry) a.is a.short)
         (tested tree counts-are) entry k e
 
-    pub limited : r ≡ Passed → Limited tree text lines.end c
+    pub limited : r ≡ Ok tt → Limited tree text lines.end c
     limited e =
         record {
           is = a.is;
@@ -108,7 +109,7 @@ module _ {text : List ℕ} (a : TreeText text) {lines : NeverLines}
           counted = counts-are;
         }
 
-    pub nevers-ready : r ≡ Passed → NeversReady text lines
+    pub nevers-ready : r ≡ Ok tt → NeversReady text lines
     nevers-ready e =
         let w = limits-within tree (limited e).within in
         record {
@@ -120,7 +121,7 @@ module _ {text : List ℕ} (a : TreeText text) {lines : NeverLines}
           few_lines = omega (arith, count-is, w.nevers);
         }
 
-    pub tables-ready : r ≡ Passed → {masks masks' : List ℕ} {told : NeverTold}
+    pub tables-ready : r ≡ Ok tt → {masks masks' : List ℕ} {told : NeverTold}
         → ((t : Tree) → TextOf t text → lines ≡ never_lines t → Told t masks masks' told)
         → TablesReady text lines.end c told masks'
     tables-ready e {masks} told =
@@ -178,17 +179,17 @@ module _ {text : List ℕ} {end : ℕ} {c : Counts} {told : NeverTold} {masks : 
     unfolding first_duplicate declared_twice
     repeat-is = earlier _ _ a.nevers.repeats outside-is
 
-    pub twice : (entry : List ℕ) → IsFailed r → {answer : Answer} → answer ≡ refusal_of r
+    pub twice : (entry : List ℕ) {why : Refusal} → r ≡ Err why → {answer : Answer} → IsErrAnd answer (λ e. e ≡ why)
         → Promise (read text (length entry)) entry answer entry
     twice entry k e =
         failed-at (in_room _) (keeps-room _) _ _ DuplicateDeclaration
         (read-within t text (length entry) l.is l.short l.within) repeat-is entry k e
 
-    module _ (once : r ≡ Passed) where
+    module _ (once : r ≡ Ok tt) where
       single : first_duplicate t ≡ none
       single = passed_none (first_duplicate t) DuplicateDeclaration repeat-is once
 
-      outside-passed : outside ≡ Passed
+      outside-passed : outside ≡ Ok tt
       unfolding first_duplicate declared_twice test_at
       outside-passed =
           rw (lesser-none (first_repeat_in t.nevers (never_lines_at t)) (declared_twice t) single) at outside-is
@@ -200,14 +201,14 @@ module _ {text : List ℕ} {end : ℕ} {c : Counts} {told : NeverTold} {masks : 
           failed-first (first_outside t.inputs (excluded_names t)) (first_unknown t) UndeclaredName
           a.nevers.outsides k
 
-      pub outsider : (entry : List ℕ) → IsFailed told.outside → {answer : Answer}
-          → answer ≡ refusal_of told.outside
+      pub outsider : (entry : List ℕ) {why : Refusal} → told.outside ≡ Err why → {answer : Answer}
+          → IsErrAnd answer (λ e. e ≡ why)
           → Promise (read text (length entry)) entry answer entry
       outsider entry k e =
           failed-at (in_room _) (keeps-room _) _ _ UndeclaredName
-          (read-single t text (length entry) l.is l.short l.within single) (outsider-is k) entry k e
+          (read-single t text (length entry) l.is l.short l.within single) (outsider-is (λ p. not-err (sym k ∙ p))) entry k e
 
-      pub terms-ready : told.outside ≡ Passed → TermsReady text end c names nodes index masks
+      pub terms-ready : told.outside ≡ Ok tt → TermsReady text end c names nodes index masks
       unfolding block_of
       terms-ready e =
           record {
@@ -246,7 +247,7 @@ module _ {text : List ℕ} {end : ℕ} {c : Counts} {names nodes index masks : L
     unknown-is : r ≡ test_at (first_undeclared a.tree) UndeclaredName
     unknown-is = rw unknown-whole (d.done a.tree a.here).answer
 
-    pub unknown : (entry : List ℕ) → IsFailed r → {answer : Answer} → answer ≡ refusal_of r
+    pub unknown : (entry : List ℕ) {why : Refusal} → r ≡ Err why → {answer : Answer} → IsErrAnd answer (λ e. e ≡ why)
         → Promise (read text (length entry)) entry answer entry
     unknown entry k e =
         let l = a.limited in
@@ -254,7 +255,7 @@ module _ {text : List ℕ} {end : ℕ} {c : Counts} {names nodes index masks : L
         (read-single a.tree text (length entry) l.is l.short l.within a.single)
         unknown-is entry k e
 
-    pub write-ready : r ≡ Passed → WriteReady text c names masks gates' outputs'
+    pub write-ready : r ≡ Ok tt → WriteReady text c names masks gates' outputs'
     write-ready e =
         let l = a.limited in
         let x = d.done a.tree a.here in
@@ -344,15 +345,15 @@ module _ {text : List ℕ} {c : Counts} {names masks gates outputs : List ℕ}
         ∙ ap (λ (n : ℕ). refuse_if (ltb (length entry) n) NoRoom (done (encode (block_of w.tree)) n 0))
         (size ∙ sym all')
 
-    pub no_room : IsFailed r → {answer : Answer} → answer ≡ refusal_of r
+    pub no_room : {why : Refusal} → r ≡ Err why → {answer : Answer} → IsErrAnd answer (λ e. e ≡ why)
         → Promise (read text (length entry)) entry answer entry
     no_room k e = failed bare keeps-bare _ _ NoRoom chain tested entry k e
 
-    pub fits : r ≡ Passed → word_count c ≤ length entry
+    pub fits : r ≡ Ok tt → word_count c ≤ length entry
     fits e = rw (← all') (ltb-false _ _ (passed-false _ NoRoom tested e))
 
-    pub all-written : r ≡ Passed → (exit : List ℕ) → exit ≡ sets entry 0 (tree_block_words c names masks gates outputs)
-        → Promise (read text (length entry)) entry (Done count 0) exit
+    pub all-written : r ≡ Ok tt → (exit : List ℕ) → exit ≡ sets entry 0 (tree_block_words c names masks gates outputs)
+        → Promise (read text (length entry)) entry (Ok (record { count = count; detail = 0 })) exit
     all-written e exit x =
         finished (passed bare keeps-bare _ _ NoRoom chain tested e) refl
         (x ∙ rw (words_are w) (sets-placed (encode (block_of w.tree)) entry (rw size (fits e))))

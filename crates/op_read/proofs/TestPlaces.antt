@@ -12,16 +12,15 @@ use denote.Enum.Declared.{tag_of}
 use borrow.Author.Tests.{le-leb, lt-leb}
 use Rattle.netlist.specs.declared.Refusal.{Refusal}
 use Rattle.netlist.specs.declared.Refusal.TheVariants.{DuplicateDeclaration}
-use Rattle.words_refusals.specs.declared.Test.{Test}
-use Rattle.words_refusals.specs.contracts.Test.{the_type}
-use Rattle.words_refusals.specs.declared.Test.TheVariants.{Passed, Failed}
+use Rattle.words_refusals.specs.Tests.{Test}
+use Rattle.std.specs.declared.result.Result.TheVariants.{Ok, Err}
 use Rattle.netlist.specs.Reading.{lesser}
 use Rattle.netlist.specs.Answers.{refusal_detail}
 use Rattle.words_refusals.specs.Tests.{test_at}
 
--- the way behind `let Test::Failed(why) = t else`
+-- the way behind `let Err(why) = t else`
 abbrev IsPassed : Test → Type 0
-IsPassed t = (r : Refusal) → t ≡ Failed r → ⊥
+IsPassed t = (r : Refusal) → t ≡ Err r → ⊥
 
 pub repeat-tells : (q : ℕ) → refusal_detail (DuplicateDeclaration q) ≡ q
 unfolding refusal_detail
@@ -33,12 +32,12 @@ module _ (why : ℕ → Refusal) (tells : (q : ℕ) → refusal_detail (why q) �
   none_told none e k = refl
   none_told (some q) e k = absurd (k (why q) e)
 
-  some-told : (p : Option ℕ) {t : Test} {r : Refusal} → t ≡ test_at p why → t ≡ Failed r → p ≡ some (refusal_detail r)
+  some-told : (p : Option ℕ) {t : Test} {r : Refusal} → t ≡ test_at p why → t ≡ Err r → p ≡ some (refusal_detail r)
   unfolding test_at
   some-told none e f = let z : ◌≡◌ {A = ℕ} 0 1 = cc in absurd (omega arith)
   some-told (some q) {t} {r} e f = let z : why q ≡ r = cc in ap some (sym (tells q) ∙ ap refusal_detail z)
 
-  why-told : (p : Option ℕ) {t : Test} {r : Refusal} → t ≡ test_at p why → t ≡ Failed r → r ≡ why (refusal_detail r)
+  why-told : (p : Option ℕ) {t : Test} {r : Refusal} → t ≡ test_at p why → t ≡ Err r → r ≡ why (refusal_detail r)
   unfolding test_at
   why-told none e f = let z : ◌≡◌ {A = ℕ} 0 1 = cc in absurd (omega arith)
   why-told (some q) {t} {r} e f = let z : why q ≡ r = cc in sym z ∙ ap why (sym (tells q) ∙ ap refusal_detail z)
@@ -51,22 +50,22 @@ module _ (why : ℕ → Refusal) (tells : (q : ℕ) → refusal_detail (why q) �
     unfolding lesser
     other-alone k p q e f = rw (none_told p e k) f
 
-    pub one-alone : {r : Refusal} → one ≡ Failed r → IsPassed other → (p q : Option ℕ) → one ≡ test_at p why
+    pub one-alone : {r : Refusal} → one ≡ Err r → IsPassed other → (p q : Option ℕ) → one ≡ test_at p why
         → other ≡ test_at q why
-        → Failed r ≡ test_at (lesser p q) why
+        → Err r ≡ test_at (lesser p q) why
     unfolding lesser test_at
-    one-alone d k p q e f = rw (some-told p e d, none_told q f k) (ap Failed (why-told p e d))
+    one-alone d k p q e f = rw (some-told p e d, none_told q f k) (ap Err (why-told p e d))
 
-    module _ {r s : Refusal} {a b : ℕ} (first : one ≡ Failed r) (second : other ≡ Failed s) (x : a ≡ refusal_detail r)
+    module _ {r s : Refusal} {a b : ℕ} (first : one ≡ Err r) (second : other ≡ Err s) (x : a ≡ refusal_detail r)
         (y : b ≡ refusal_detail s) where
       pub one-first : a ≤ b → (p q : Option ℕ) → one ≡ test_at p why → other ≡ test_at q why
-          → Failed r ≡ test_at (lesser p q) why
+          → Err r ≡ test_at (lesser p q) why
       unfolding lesser test_at
       one-first l p q e f =
-          rw (some-told p e first, some-told q f second, ← x, ← y, le-leb a b l) (ap Failed (why-told p e first) ∙ rw x)
+          rw (some-told p e first, some-told q f second, ← x, ← y, le-leb a b l) (ap Err (why-told p e first) ∙ rw x)
 
       pub other-first : b < a → (p q : Option ℕ) → one ≡ test_at p why → other ≡ test_at q why
-          → Failed s ≡ test_at (lesser p q) why
+          → Err s ≡ test_at (lesser p q) why
       unfolding lesser test_at
       other-first l p q e f =
           rw (
@@ -75,4 +74,4 @@ module _ (why : ℕ → Refusal) (tells : (q : ℕ) → refusal_detail (why q) �
             ← x,
             ← y,
             lt-leb a b l,
-          ) (ap Failed (why-told q f second) ∙ rw y)
+          ) (ap Err (why-told q f second) ∙ rw y)

@@ -14,7 +14,7 @@ use text_constraints::read::{NEVER_WORDS, read_nevers};
 use text_lines::counts::{limits, tally};
 use text_recogniser::form;
 use words_layout::limits::MAX_TEXT;
-use words_refusals::{Test, refusal, refuse_if};
+use words_refusals::refuse_if;
 
 mod steps;
 
@@ -27,10 +27,7 @@ fn read_legal(text: &[u8], block: &mut [u16]) -> Answer
     let lines = never_lines(text);
     let end = lines.end;
     let c = tally(&text[end..], lines.inputs, lines.count);
-    let tested = limits(c);
-    let Test::Passed = tested else {
-        return refusal(tested);
-    };
+    limits(c)?;
     let mut masks = [0u16; NEVER_WORDS];
     let told = read_nevers(text, lines, &mut masks);
     read_tables(text, end, c, told, &masks, block)
@@ -41,13 +38,7 @@ pub fn read(text: &[u8], block: &mut [u16]) -> Answer
     ensures { Promise (read text.now (length block.old)) block.old result
         block.new }
 {
-    let tested = refuse_if(MAX_TEXT < text.len(), Refusal::TextTooLong);
-    let Test::Passed = tested else {
-        return refusal(tested);
-    };
-    let tested = form(text);
-    let Test::Passed = tested else {
-        return refusal(tested);
-    };
+    refuse_if(MAX_TEXT < text.len(), Refusal::TextTooLong)?;
+    form(text)?;
     read_legal(text, block)
 }

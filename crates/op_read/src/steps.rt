@@ -9,7 +9,7 @@ ghost use Rattle.words_refusals.specs.Tests.{test_at};
 ghost use Rattle.netlist.specs.Operations.{read};
 ghost use Rattle.op_read.specs.Steps.{TablesReady, TermsReady, WriteReady};
 
-use netlist::Answer;
+use netlist::{Answer, Done, Refusal};
 use text_block::put_block;
 use text_constraints::NeverTold;
 use text_constraints::read::NEVER_WORDS;
@@ -20,26 +20,22 @@ use text_symbols::duplicates::duplicate;
 use text_symbols::table::{NAMES, declare};
 use words_layout::limits::{MAX_GATES, MAX_OUTPUTS};
 use words_layout::offsets::{GATE_SIZE, OUTPUT_SIZE, outputs_behind};
-use words_refusals::{Test, detail_of, refusal, test_room};
+use words_refusals::{detail_of, test_room};
 
 // Of two answers of refusal 4, the one with the lesser place; a test that passed is no refusal.
-fn earlier_repeat(one: Test, other: Test) -> Test
+fn earlier_repeat(one: Result<(), Refusal>, other: Result<(), Refusal>) -> Result<(), Refusal>
     ensures { (p q : Option ℕ) → one ≡ test_at p DuplicateDeclaration → other ≡ test_at q DuplicateDeclaration
         → result ≡ test_at (lesser p q) DuplicateDeclaration }
 {
-    let Test::Failed(first) = one else {
+    let Err(first) = one else {
         return other;
     };
-    let Test::Failed(second) = other else {
+    let Err(second) = other else {
         return one;
     };
     let p = detail_of(first);
     let q = detail_of(second);
-    if p <= q {
-        Test::Failed(first)
-    } else {
-        Test::Failed(second)
-    }
+    if p <= q { Err(first) } else { Err(second) }
 }
 
 // The last step of Read: refusal 11, and then the block's words.
@@ -57,12 +53,9 @@ fn finish(
         block.new }
 {
     let count = outputs_behind(c.inputs, c.nevers, c.gates) + OUTPUT_SIZE * c.outputs;
-    let tested = test_room(block.len(), count);
-    let Test::Passed = tested else {
-        return refusal(tested);
-    };
+    test_room(block.len(), count)?;
     put_block(c, names, masks, gates, outputs, block);
-    Answer::Done { count, detail: 0 }
+    Ok(Done { count, detail: 0 })
 }
 
 // Read from the expressions on: refusal 5 behind never lines, then the words.
@@ -82,10 +75,7 @@ fn read_terms(
 {
     let mut gates = [0u16; GATE_SIZE * MAX_GATES];
     let mut outputs = [0u16; OUTPUT_SIZE * MAX_OUTPUTS];
-    let tested = resolve(text, end, c, names, nodes, index, &mut gates, &mut outputs);
-    let Test::Passed = tested else {
-        return refusal(tested);
-    };
+    resolve(text, end, c, names, nodes, index, &mut gates, &mut outputs)?;
     finish(text, c, names, masks, &gates, &outputs, block)
 }
 
@@ -108,13 +98,7 @@ pub fn read_tables(
     let mut index = [0u16; INDEX_SIZE];
     declare(text, end, c, &mut names, &mut places, &mut nodes);
     let inside = told.repeat;
-    let tested = earlier_repeat(inside, duplicate(c, &names, &places, &mut index));
-    let Test::Passed = tested else {
-        return refusal(tested);
-    };
-    let tested = told.outside;
-    let Test::Passed = tested else {
-        return refusal(tested);
-    };
+    earlier_repeat(inside, duplicate(c, &names, &places, &mut index))?;
+    told.outside?;
     read_terms(text, end, c, &names, &nodes, &index, masks, block)
 }

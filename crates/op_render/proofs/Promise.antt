@@ -14,7 +14,7 @@ use borrow.Author.Tests.{ltb-false, not-true, not-false}
 use Rattle.prelude.specs.Lists.{least}
 use Rattle.prelude.proofs.Tests.{lt-or-le, not-both}
 use Rattle.prelude.proofs.Least.{least-le, least-below, least_at}
-use Rattle.netlist.specs.declared.Answer.{Answer}
+use Rattle.netlist.specs.Answers.{Answer}
 use Rattle.netlist.specs.Limits.{max_copies}
 use Rattle.netlist.specs.Netlist.{Block}
 use Rattle.netlist.specs.StoredBlock.{encode, decode, is_malformed, is_well_formed}

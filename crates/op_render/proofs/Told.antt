@@ -14,7 +14,7 @@ use Rattle.prelude.specs.Lists.{placed}
 use Rattle.prelude.proofs.Lists.{length-joined}
 use Rattle.prelude.proofs.Tests.{lt-or-le, not-both}
 use Rattle.prelude.proofs.Least.{least-le}
-use Rattle.words_refusals.specs.declared.Test.{Test}
+use Rattle.words_refusals.specs.Tests.{Test}
 use Rattle.netlist.specs.declared.Refusal.TheVariants.{NotSettled}
 use Rattle.netlist.specs.Limits.{max_gates}
 use Rattle.netlist.specs.Netlist.{Block}

@@ -1,7 +1,7 @@
 -- Render's promise (SPECIFICATION 6 and 7.9), as one record over every slice of words and every slice for the result.
 -- `promise-holds` in proofs/Promise.antt shows that the definition of Render meets it.
 use Rattle.std.specs.Prelude.{ℕ, ◌<◌, ◌≡◌, true, false, cond, not, List, map, length, take, eqb, ltb}
-use Rattle.netlist.specs.declared.Answer.{Answer}
+use Rattle.netlist.specs.Answers.{Answer}
 use Rattle.netlist.specs.Limits.{max_copies}
 use Rattle.netlist.specs.Netlist.{Name, Output, Block, input_count, gate_count}
 use Rattle.netlist.specs.StoredBlock.{encode, decode, is_malformed}

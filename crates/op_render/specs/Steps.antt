@@ -1,21 +1,13 @@
 -- What the steps of Render need and leave. Cited by this crate's contracts. Assumes nothing.
-use Rattle.std.specs.Prelude.{ℕ, ◌+◌, ◌≤◌, ◌≡◌, true, false, List, length}
+use Rattle.std.specs.Prelude.{ℕ, ◌≤◌, ◌≡◌, true, false, List}
 use Rattle.netlist.specs.Limits.{max_gates, max_copies}
 use Rattle.netlist.specs.Netlist.{Block}
 use Rattle.netlist.specs.StoredBlock.{decode, is_malformed}
 use Rattle.netlist.specs.Cover.{is_sound}
 use Rattle.netlist.specs.Passes.{copy_count}
 use Rattle.netlist.specs.Rendering.{schedule}
-use Rattle.lanes_batch.specs.Layered.{PlanRoom}
 use Rattle.unroll_order.specs.Listing.{PassesAre, parts_of}
 use Rattle.unroll_depth.specs.Passes.{Listing}
-
--- arrays for a plan, and for the groups one after the other
-pub record ListRoom (ws graph order ends members starts : List ℕ) : Type 0 where
-  pub whole : is_malformed ws ≡ false
-  pub plan_room : PlanRoom graph order ends
-  pub member_room : length members ≡ max_gates
-  pub start_room : length starts ≡ max_gates + 1
 
 -- a block's groups, which with the passes that they need are the order of its copies
 pub record Listed (b : Block) (count : ℕ) (members starts : List ℕ) : Type 0 where

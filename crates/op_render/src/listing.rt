@@ -1,13 +1,12 @@
 // The plan of a block, and its groups one after the other.
-ghost use Rattle.std.specs.Prelude.{◌≡◌, ◌+◌, length, get_or};
-ghost use Rattle.netlist.specs.Limits.{max_gates};
-ghost use Rattle.netlist.specs.StoredBlock.{decode};
+ghost use Rattle.std.specs.Prelude.{◌≡◌, false, get_or};
+ghost use Rattle.netlist.specs.StoredBlock.{decode, is_malformed};
 ghost use Rattle.graph_gates.specs.Graph.{Decoded};
-ghost use Rattle.lanes_batch.specs.Layered.{Planned};
-ghost use Rattle.op_render.specs.Steps.{ListRoom, Listed};
+ghost use Rattle.lanes_batch.specs.Plan.{IsPlan};
+ghost use Rattle.op_render.specs.Steps.{Listed};
 
 use graph_gates::GRAPH_WORDS;
-use lanes_batch::plan::plan_block;
+use lanes_batch::plan::{Plan, plan_block};
 use op_groups::numbering::number_groups;
 use unroll_order::list_groups;
 use words_layout::limits::MAX_GATES;
@@ -22,8 +21,7 @@ fn list_numbered(
     members: &mut [u16; MAX_GATES],
     starts: &mut [u16; MAX_GATES + 1],
 ) -> usize
-    requires decoded { Decoded (decode words.now) (get_or words.now 1 0) graph.now }
-    requires numbers_len { (length numbers.old ≡ max_gates) × (length members.old ≡ max_gates) × (length starts.old ≡ max_gates + 1) }
+    requires { Decoded (decode words.now) (get_or words.now 1 0) graph.now }
     ensures { Listed (decode words.now) result members.new starts.new }
 {
     let m = gates_of(words);
@@ -35,17 +33,15 @@ fn list_numbered(
 // Makes the block's plan, and lists its groups one after the other; gives how many groups there are.
 pub fn list_block(
     words: &[u16],
-    graph: &mut [u16; GRAPH_WORDS],
-    order: &mut [u16; MAX_GATES],
-    ends: &mut [u16; MAX_GATES],
+    plan: &mut Plan,
     members: &mut [u16; MAX_GATES],
     starts: &mut [u16; MAX_GATES + 1],
 ) -> usize
-    requires { ListRoom words.now graph.old order.old ends.old members.old starts.old }
-    ensures planned { Planned words.now graph.new order.new ends.new }
+    requires { is_malformed words.now ≡ false }
+    ensures planned { IsPlan words.now plan.new }
     ensures listed { Listed (decode words.now) result members.new starts.new }
 {
     let mut numbers = [0u16; MAX_GATES];
-    plan_block(words, graph, order, ends);
-    list_numbered(words, graph, &mut numbers, members, starts)
+    plan_block(words, plan);
+    list_numbered(words, &plan.graph, &mut numbers, members, starts)
 }

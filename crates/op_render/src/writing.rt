@@ -12,12 +12,12 @@ ghost use Rattle.netlist.specs.Operations.{render};
 ghost use Rattle.op_render.specs.Steps.{CopiesReady, RenderingReady};
 
 use lanes_settings::setting_count;
-use netlist::{Answer, Refusal};
+use netlist::{Answer, Done, Refusal};
 use unroll_emission::rendered::write_rendering;
 use unroll_order::append_parts;
 use words_layout::limits::MAX_GATES;
 use words_layout::offsets::{OUTPUT_SIZE, inputs_of, nevers_of, outputs_behind, outputs_of};
-use words_refusals::{Test, refusal, refuse_if, test_room};
+use words_refusals::{refuse_if, test_room};
 
 // Writes the rendered block, for which there is room.
 fn write_copies(
@@ -56,19 +56,16 @@ pub fn finish(
     let n = inputs_of(words);
     let k = outputs_of(words);
     let size = outputs_behind(n, nevers_of(words), total) + OUTPUT_SIZE * k;
-    let tested = test_room(rendered.len(), size);
-    let Test::Passed = tested else {
-        return refusal(tested);
-    };
+    test_room(rendered.len(), size)?;
     write_copies(words, count, members, starts, passes, total, rendered);
-    Answer::Done {
+    Ok(Done {
         count: size,
         detail: 0,
-    }
+    })
 }
 
 // 9: is the lowest setting that may come and is not settled below 2^n? Tells it.
-pub fn test_settings(words: &[u16], lowest: usize) -> Test
+pub fn test_settings(words: &[u16], lowest: usize) -> Result<(), Refusal>
     requires { (is_malformed words.now ≡ false) × (lowest ≡ lowest_unsettled (decode words.now)) }
     ensures { result ≡ test_of (not (is_sound (decode words.now)))
         (NotSettled (lowest_unsettled (decode words.now))) }

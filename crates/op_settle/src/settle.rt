@@ -12,10 +12,10 @@ use graph_gates::{GRAPH_WORDS, PLACES};
 use graph_simulation::round::{UNDEFINED, prepare, settle_prepared};
 use graph_simulation::table::gate_table;
 use graph_simulation::values::{put_setting, take_gates};
-use netlist::Answer;
+use netlist::{Answer, Done};
 use words_block::check_words;
 use words_layout::offsets::gates_of;
-use words_refusals::{Test, refusal, test_room};
+use words_refusals::test_room;
 
 // Writes the settled values into the first bytes of `out`; gives how many rounds change something.
 fn settle_into(words: &[u16], setting: &[u8], out: &mut [u8]) -> usize
@@ -39,18 +39,9 @@ pub fn settle(words: &[u16], setting: &[u8], values: &mut [u8]) -> Answer
     ensures { Promise (settle words.now setting.now (length values.old))
         values.old result values.new }
 {
-    let tested = check_words(words);
-    let Test::Passed = tested else {
-        return refusal(tested);
-    };
-    let tested = test_setting(words, setting);
-    let Test::Passed = tested else {
-        return refusal(tested);
-    };
-    let tested = test_room(values.len(), gates_of(words));
-    let Test::Passed = tested else {
-        return refusal(tested);
-    };
+    check_words(words)?;
+    test_setting(words, setting)?;
+    test_room(values.len(), gates_of(words))?;
     let count = settle_into(words, setting, values);
-    Answer::Done { count, detail: 0 }
+    Ok(Done { count, detail: 0 })
 }

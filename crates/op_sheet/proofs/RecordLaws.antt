@@ -4,7 +4,7 @@ use mathlib.Core.Bool.{Bool, true, false, not}
 use mathlib.Core.List.{List, []}
 use Prim.Native.Nat.{ℕ}
 use lib.ListN.{get_or}
-use Rattle.netlist.specs.declared.Answer.TheVariants.{Done, Refused}
+use Rattle.std.specs.declared.result.Result.TheVariants.{Ok, Err}
 use Rattle.netlist.specs.declared.Refusal.TheVariants.{MalformedBlock}
 use Rattle.netlist.specs.StoredBlock.{decode, is_malformed}
 use Rattle.netlist.specs.Assignments.{are_masks}
@@ -20,11 +20,11 @@ module _ (ws : List ℕ) (count : ℕ) where
   unfolding sheet
   sheet-chain = refl
 
-  pub sheet-malformed : is_malformed ws ≡ true → answer_of (sheet ws count) ≡ Refused MalformedBlock
+  pub sheet-malformed : is_malformed ws ≡ true → answer_of (sheet ws count) ≡ Err MalformedBlock
   unfolding sheet refuse_if answer_of
   sheet-malformed t = rw t
 
-  pub sheet-done : is_malformed ws ≡ false → answer_of (sheet ws count) ≡ Done count 0
+  pub sheet-done : is_malformed ws ≡ false → answer_of (sheet ws count) ≡ Ok (record { count = count; detail = 0 })
   unfolding sheet refuse_if answer_of
   sheet-done t = rw t
 

@@ -20,7 +20,7 @@ use Rattle.prelude.proofs.Tab.{length-tab, get_d-tab, map-tab}
 use Rattle.prelude.proofs.Tests.{lt-or-le}
 use Rattle.netlist.specs.Limits.{max_inputs, max_gates}
 use Rattle.netlist.specs.Values.{Value, undefined, val, value_of}
-use Rattle.netlist.specs.Assignments.{bit, mask_of, is_one}
+use Rattle.netlist.specs.Assignments.{mask_of, is_one}
 use Rattle.netlist.specs.Sheet.{input_byte, setting_bytes}
 use Rattle.words_layout.proofs.Gathered.{mask_below, mask_next}
 use Rattle.theory_grammar.proofs.Masks.{mask-bit}

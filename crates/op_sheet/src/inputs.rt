@@ -1,11 +1,10 @@
 // The inputs of up to 64 records in lanes: lane s has the setting of record s, whose masks are entry s of `fixed` and
 // `ones`.
-ghost use Rattle.std.specs.Prelude.{◌≡◌, cond, ◌≤◌, ◌<◌, length};
+ghost use Rattle.std.specs.Prelude.{◌≡◌, cond, ◌≤◌, ◌<◌};
 ghost use Rattle.netlist.specs.Limits.{max_inputs, max_gates};
 ghost use Rattle.netlist.specs.Values.{value_of};
 ghost use Rattle.netlist.specs.Assignments.{is_one};
 ghost use Rattle.netlist.specs.Sheet.{input_byte};
-ghost use Rattle.lanes_dual_rail.specs.LaneWords.{lane_size};
 ghost use Rattle.lanes_batch.specs.Layered.{InputsPut};
 ghost use Rattle.op_sheet.specs.Records.{is_zero, record_pair, RecordsStarted};
 
@@ -47,9 +46,7 @@ fn record_pair(fixed: &[u16; LANES], ones: &[u16; LANES], count: usize, i: usize
 {
     let mut zeros: u64 = 0;
     let mut marked: u64 = 0;
-    let mut s = count;
-    while 0 < s {
-        s -= 1;
+    for s in (0..count).rev() {
         let f = fixed[s];
         let v = ones[s];
         zeros = 2 * zeros + zero_bit(f, v, i);
@@ -69,13 +66,11 @@ fn put_records(
     ones: &[u16; LANES],
     lanes: &mut [u64; LANE_WORDS],
 )
-    requires { (n ≤ max_inputs) × (count ≤ 64) × (length lanes.old ≡ lane_size) }
+    requires { (n ≤ max_inputs) × (count ≤ 64) }
     ensures { InputsPut (record_pair count fixed.now ones.now) n lanes.old lanes.new }
 {
-    let mut k = 0;
-    while k < n {
+    for k in 0..n {
         put_pair(lanes, FIRST_INPUT + k, record_pair(fixed, ones, count, k));
-        k += 1;
     }
 }
 
@@ -89,7 +84,7 @@ pub fn start_records(
     ones: &[u16; LANES],
     lanes: &mut [u64; LANE_WORDS],
 )
-    requires { (m ≤ max_gates) × (n ≤ max_inputs) × (count ≤ 64) × (length lanes.old ≡ lane_size) }
+    requires { (m ≤ max_gates) × (n ≤ max_inputs) × (count ≤ 64) }
     ensures { RecordsStarted m n count fixed.now ones.now lanes.new }
 {
     start_constants(m, LOW_INPUTS, lanes);

@@ -4,12 +4,13 @@
 // crates/exports.
 #![tactic(auto)]
 
+ghost use Rattle.std.specs.Prelude.{◌≡◌};
 ghost use Rattle.netlist.specs.Answers.{answer_of, Shows};
 ghost use Rattle.netlist.specs.Sheet.{sheet};
 
-use netlist::{Answer, Reply};
+use netlist::{Answer, Done, Reply};
 use words_block::check_words;
-use words_refusals::{Test, refusal, reply_of};
+use words_refusals::reply_of;
 
 mod inputs;
 mod outputs;
@@ -17,13 +18,17 @@ mod records;
 mod settling;
 pub mod turns;
 
+// The answer of the call: refusal 6, or the records' number as the count.
+fn answer_to_sheet(words: &[u16], count: usize) -> Answer
+    ensures { result ≡ answer_of (sheet words.now count) }
+{
+    check_words(words)?;
+    Ok(Done { count, detail: 0 })
+}
+
 // The reply of the call. Its count is also how many records are to be answered: none with refusal 6.
 pub fn reply_to_sheet(words: &[u16], count: usize) -> Reply
     ensures { Shows (answer_of (sheet words.now count)) result }
 {
-    let tested = check_words(words);
-    let Test::Passed = tested else {
-        return reply_of(refusal(tested));
-    };
-    reply_of(Answer::Done { count, detail: 0 })
+    reply_of(answer_to_sheet(words, count))
 }

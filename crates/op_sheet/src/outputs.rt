@@ -1,5 +1,5 @@
 // What the outputs show at the lanes, two words for each output, and a record's two masks from them.
-ghost use Rattle.std.specs.Prelude.{◌≡◌, false, cond, ◌<◌, length, get_or};
+ghost use Rattle.std.specs.Prelude.{◌≡◌, false, cond, ◌<◌, get_or};
 ghost use Rattle.netlist.specs.StoredBlock.{is_malformed};
 ghost use Rattle.netlist.specs.Values.{is_defined};
 ghost use Rattle.netlist.specs.Assignments.{is_one};
@@ -19,18 +19,16 @@ pub const SHOWN_WORDS: usize = 2 * MAX_OUTPUTS;
 
 // Stores the pair of each output.
 pub fn put_outputs(words: &[u16], lanes: &[u64; LANE_WORDS], shown: &mut [u64; SHOWN_WORDS])
-    requires { (is_malformed words.now ≡ false) × (length shown.old ≡ 32) }
+    requires { is_malformed words.now ≡ false }
     ensures { OutputsPut words.now lanes.now (get_or words.now 2 0) shown.new }
 {
     let n = inputs_of(words);
     let at = outputs_at(words);
     let count = outputs_of(words);
-    let mut o = 0;
-    while o < count {
+    for o in 0..count {
         let pair = output_pair(words, at, n, o, lanes);
         shown[2 * o] = pair.zeros;
         shown[2 * o + 1] = pair.ones;
-        o += 1;
     }
 }
 
@@ -71,9 +69,7 @@ pub fn show_lane(
 {
     let mut defined: u16 = 0;
     let mut values: u16 = 0;
-    let mut o = outputs_of(words);
-    while 0 < o {
-        o -= 1;
+    for o in (0..outputs_of(words)).rev() {
         defined = 2 * defined + defined_bit(shown, o, s);
         values = 2 * values + one_bit(shown, o, s);
     }

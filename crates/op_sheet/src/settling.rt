@@ -1,7 +1,7 @@
 // Up to 64 records of a block settled side by side. What the block needs for it is made once for them.
-ghost use Rattle.std.specs.Prelude.{◌≡◌, false, ◌≤◌, length, get_or};
+ghost use Rattle.std.specs.Prelude.{◌≡◌, true, false, ◌≤◌, get_or};
 ghost use Rattle.netlist.specs.StoredBlock.{decode, is_malformed};
-ghost use Rattle.graph_gates.specs.Graph.{graph_size};
+ghost use Rattle.netlist.specs.Rendering.{is_straight};
 ghost use Rattle.lanes_batch.specs.Layered.{LanesFresh, LanesFixed};
 ghost use Rattle.op_sheet.specs.Records.{SettledLanes};
 
@@ -10,24 +10,31 @@ use crate::outputs::{SHOWN_WORDS, put_outputs};
 use crate::records::LANES;
 use graph_gates::{GRAPH_WORDS, decode_gates};
 use lanes_batch::layered::{settle_layers, settle_straight};
-use lanes_batch::plan::plan_block;
+use lanes_batch::plan::{blank_plan, plan_block};
 use lanes_dual_rail::LANE_WORDS;
 use lanes_dual_rail::inputs::LOW_INPUTS;
 use words_block::check_straight;
-use words_layout::limits::MAX_GATES;
 use words_layout::offsets::{gates_of, inputs_of};
-use words_refusals::Test;
 
-// Settles the lanes of a block that may have loops; `graph` is room for its graph.
-fn settle_looped(words: &[u16], graph: &mut [u16; GRAPH_WORDS], lanes: &mut [u64; LANE_WORDS])
-    requires { (is_malformed words.now ≡ false) × (length graph.old ≡ graph_size)
-        × LanesFresh (get_or words.now 1 0) 6 lanes.old }
+// Settles the lanes of a block that may have loops.
+fn settle_looped(words: &[u16], lanes: &mut [u64; LANE_WORDS])
+    requires { (is_malformed words.now ≡ false) × LanesFresh (get_or words.now 1 0) 6 lanes.old }
     ensures { LanesFixed (decode words.now) 6 lanes.old lanes.new }
 {
-    let mut order = [0u16; MAX_GATES];
-    let mut ends = [0u16; MAX_GATES];
-    plan_block(words, graph, &mut order, &mut ends);
-    settle_layers(graph, gates_of(words), LOW_INPUTS, &order, &ends, lanes);
+    let mut plan = blank_plan();
+    plan_block(words, &mut plan);
+    settle_layers(&plan, gates_of(words), LOW_INPUTS, lanes);
+}
+
+// Settles the lanes of a straight block in one sweep.
+fn settle_ordered(words: &[u16], lanes: &mut [u64; LANE_WORDS])
+    requires whole { (is_malformed words.now ≡ false) × (is_straight (decode words.now) ≡ true) }
+    requires fresh { LanesFresh (get_or words.now 1 0) 6 lanes.old }
+    ensures { LanesFixed (decode words.now) 6 lanes.old lanes.new }
+{
+    let mut graph = [0u16; GRAPH_WORDS];
+    decode_gates(words, &mut graph);
+    settle_straight(&graph, gates_of(words), lanes);
 }
 
 // Settles the lanes of a block; in a straight block one sweep does it.
@@ -35,13 +42,10 @@ fn settle_lanes(words: &[u16], lanes: &mut [u64; LANE_WORDS])
     requires { (is_malformed words.now ≡ false) × LanesFresh (get_or words.now 1 0) 6 lanes.old }
     ensures { LanesFixed (decode words.now) 6 lanes.old lanes.new }
 {
-    let mut graph = [0u16; GRAPH_WORDS];
-    let Test::Passed = check_straight(words) else {
-        settle_looped(words, &mut graph, lanes);
-        return;
-    };
-    decode_gates(words, &mut graph);
-    settle_straight(&graph, gates_of(words), lanes);
+    match check_straight(words) {
+        Ok(()) => settle_ordered(words, lanes),
+        Err(_) => settle_looped(words, lanes),
+    }
 }
 
 // Settles `count` records, and stores what the outputs show at each lane.
@@ -52,7 +56,7 @@ pub fn settle_records(
     ones: &[u16; LANES],
     shown: &mut [u64; SHOWN_WORDS],
 )
-    requires { (is_malformed words.now ≡ false) × (count ≤ 64) × (length shown.old ≡ 32) }
+    requires { (is_malformed words.now ≡ false) × (count ≤ 64) }
     ensures { SettledLanes words.now count fixed.now ones.now shown.new }
 {
     let mut lanes = [0u64; LANE_WORDS];

@@ -4,7 +4,7 @@ use mathlib.Core.Bool.{false}
 use mathlib.Core.List.{List, []}
 use Prim.Native.Nat.{ℕ}
 use Rattle.netlist.specs.declared.Refusal.TheVariants.{MalformedBlock}
-use Rattle.netlist.specs.declared.Answer.TheVariants.{Done}
+use Rattle.std.specs.declared.result.Result.TheVariants.{Ok}
 use Rattle.netlist.specs.Answers.{done, refuse_if, answer_of}
 use Rattle.netlist.specs.StoredBlock.{decode, is_malformed}
 use Rattle.netlist.specs.Rounds.{settled_settings, lowest_unsettled}
@@ -17,6 +17,6 @@ module _ (ws : List ℕ) where
   verdict-chain = refl
 
   pub answer-whole : is_malformed ws ≡ false
-      → Done (settled_settings (decode ws)) (lowest_unsettled (decode ws)) ≡ answer_of (verdict ws)
+      → Ok (record { count = settled_settings (decode ws); detail = lowest_unsettled (decode ws) }) ≡ answer_of (verdict ws)
   unfolding verdict refuse_if answer_of
   answer-whole h = rw h refl

@@ -1,12 +1,11 @@
 -- How many settings of a batch are settled. Cited by the contracts of `settings`. Assumes nothing.
-use Rattle.std.specs.Prelude.{ℕ, ◌+◌, ◌%◌, ◌≤◌, ◌<◌, ◌≡◌, Bool, true, List, length, get_or}
+use Rattle.std.specs.Prelude.{ℕ, ◌+◌, ◌%◌, ◌≤◌, ◌<◌, ◌≡◌, Bool, true, List, get_or}
 use Rattle.prelude.specs.Lists.{count_below}
 use Rattle.netlist.specs.Netlist.{Block}
 use Rattle.netlist.specs.StoredBlock.{decode}
 use Rattle.netlist.specs.Rounds.{is_counted, is_sound_at}
 use Rattle.words_layout.specs.Bounds.{count_room}
 use Rattle.lanes_dual_rail.specs.Batches.{lanes_of}
-use Rattle.lanes_dual_rail.specs.LaneWords.{lane_size}
 use Rattle.lanes_settings.specs.Lanes.{Judged}
 
 -- no setting below `first` may come and is not settled, and where the batch at `base` is the one at `first`, the lanes
@@ -25,4 +24,3 @@ counted_from b base s = is_counted b (base + s)
 pub record BatchCounted (ws : List ℕ) (first base : ℕ) (w after : List ℕ) (r : ℕ) : Type 0 where
   pub count : r ≡ count_below (counted_from (decode ws) base) (lanes_of (get_or ws 0 0))
   pub kept : base + lanes_of (get_or ws 0 0) ≤ first → after ≡ w
-  pub long : length after ≡ lane_size

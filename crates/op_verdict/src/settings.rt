@@ -1,18 +1,17 @@
 // How many settings that may come are settled, a batch of up to 64 at a time, by a block's plan: its graph and its
 // gates in layers (crates/lanes_batch).
-ghost use Rattle.std.specs.Prelude.{◌≡◌, length, get_or};
+ghost use Rattle.std.specs.Prelude.{◌≡◌, get_or};
 ghost use Rattle.prelude.specs.Lists.{count_below};
-ghost use Rattle.netlist.specs.declared.Answer.TheVariants.{Done};
+ghost use Rattle.std.specs.declared.result.Result.TheVariants.{Ok};
 ghost use Rattle.netlist.specs.StoredBlock.{decode};
 ghost use Rattle.netlist.specs.Rounds.{settled_settings, lowest_unsettled};
 ghost use Rattle.lanes_dual_rail.specs.Batches.{lanes_of};
-ghost use Rattle.lanes_dual_rail.specs.LaneWords.{lane_size};
-ghost use Rattle.lanes_batch.specs.Layered.{Planned};
+ghost use Rattle.lanes_batch.specs.Plan.{IsPlan};
 ghost use Rattle.lanes_settings.specs.Lanes.{Judged};
 ghost use Rattle.lanes_settings.specs.Batches.{FirstBatch};
 ghost use Rattle.op_verdict.specs.Counts.{FirstReached, BatchCounted, counted_from};
 
-use graph_gates::GRAPH_WORDS;
+use lanes_batch::plan::Plan;
 use lanes_dual_rail::LANE_WORDS;
 use lanes_dual_rail::words::{count_lanes, lane_count};
 use lanes_settings::decided::judge_batch;
@@ -20,8 +19,7 @@ use lanes_settings::lowest::{lowest_in, unsettled_batch};
 use lanes_settings::nevers::coming_lanes;
 use lanes_settings::setting_count;
 use lanes_settings::settled::counted_lanes;
-use netlist::Answer;
-use words_layout::limits::MAX_GATES;
+use netlist::{Answer, Done};
 use words_layout::offsets::inputs_of;
 
 // How many settings of the batch at `base` may come and are settled, when `lanes` holds its settled values.
@@ -36,14 +34,12 @@ fn count_held(words: &[u16], base: usize, lanes: &[u64; LANE_WORDS]) -> usize
 // below it none is decided, and at it `lanes` holds the settled values.
 fn count_batch(
     words: &[u16],
-    graph: &[u16; GRAPH_WORDS],
-    order: &[u16; MAX_GATES],
-    ends: &[u16; MAX_GATES],
+    plan: &Plan,
     base: usize,
     first: usize,
     lanes: &mut [u64; LANE_WORDS],
 ) -> usize
-    requires planned { Planned words.now graph.now order.now ends.now × (length lanes.old ≡ lane_size) }
+    requires planned { IsPlan words.now plan.now }
     requires first_reached { FirstReached words.now first base lanes.old }
     ensures { BatchCounted words.now first base lanes.old lanes.new result }
 {
@@ -54,20 +50,13 @@ fn count_batch(
     if base == first {
         return count_held(words, base, lanes);
     }
-    judge_batch(words, graph, order, ends, base, lanes);
+    judge_batch(words, plan, base, lanes);
     count_held(words, base, lanes)
 }
 
 // How many settings that may come are settled, when `first` is the first batch with another.
-fn count_settled(
-    words: &[u16],
-    graph: &[u16; GRAPH_WORDS],
-    order: &[u16; MAX_GATES],
-    ends: &[u16; MAX_GATES],
-    first: usize,
-    lanes: &mut [u64; LANE_WORDS],
-) -> usize
-    requires { Planned words.now graph.now order.now ends.now × FirstBatch words.now first lanes.old }
+fn count_settled(words: &[u16], plan: &Plan, first: usize, lanes: &mut [u64; LANE_WORDS]) -> usize
+    requires { IsPlan words.now plan.now × FirstBatch words.now first lanes.old }
     ensures { result ≡ settled_settings (decode words.now) }
 {
     let n = inputs_of(words);
@@ -75,29 +64,24 @@ fn count_settled(
     let batch = lane_count(n);
     let mut settled = 0;
     let mut base = 0;
+    // A range with step_by would need the same measure, and be no plainer.
     while base < count {
-        settled += count_batch(words, graph, order, ends, base, first, lanes);
+        settled += count_batch(words, plan, base, first, lanes);
         base += batch;
     }
     settled
 }
 
 // Verdict's two numbers: how many settings that may come are settled, and the lowest other.
-pub fn search_settings(
-    words: &[u16],
-    graph: &[u16; GRAPH_WORDS],
-    order: &[u16; MAX_GATES],
-    ends: &[u16; MAX_GATES],
-    lanes: &mut [u64; LANE_WORDS],
-) -> Answer
-    requires { Planned words.now graph.now order.now ends.now × (length lanes.old ≡ lane_size) }
-    ensures { result ≡ Done (settled_settings (decode words.now)) (lowest_unsettled (decode words.now)) }
+pub fn search_settings(words: &[u16], plan: &Plan, lanes: &mut [u64; LANE_WORDS]) -> Answer
+    requires { IsPlan words.now plan.now }
+    ensures { result ≡ Ok (record { count = settled_settings (decode words.now); detail = lowest_unsettled (decode words.now) }) }
 {
-    let first = unsettled_batch(words, graph, order, ends, lanes);
+    let first = unsettled_batch(words, plan, lanes);
     let lowest = lowest_in(words, first, lanes);
-    let count = count_settled(words, graph, order, ends, first, lanes);
-    Answer::Done {
+    let count = count_settled(words, plan, first, lanes);
+    Ok(Done {
         count: count,
         detail: lowest,
-    }
+    })
 }

@@ -16,7 +16,7 @@ use Rattle.netlist.specs.Operations.{counted, write_words, write}
 use Rattle.theory_encoding.proofs.Decoded.{decode-input_count}
 use Rattle.theory_encoding.proofs.WellFormed.{well_formed-parts}
 use Rattle.theory_grammar.proofs.WritingLength.{written-length}
-use Rattle.words_refusals.specs.declared.Test.TheVariants.{Passed}
+use Rattle.std.specs.declared.result.Result.TheVariants.{Ok}
 use Rattle.words_refusals.specs.Tests.{test_of}
 use Rattle.text_pieces.specs.Pieces.{Short, pieces}
 use Rattle.op_write.specs.Lines.{input_text, never_line_text, gate_text, output_text, block_text}
@@ -60,7 +60,7 @@ block-longest ws whole = rw (← written-pieces ws whole) (written-length (decod
 
 -- room for the longest text is room enough
 pub room-enough : (ws : List ℕ) (room : ℕ) → is_malformed ws ≡ false → max_written ≤ room
-    → Passed ≡ test_of (ltb room (length (block_text ws))) NoRoom
+    → Ok tt ≡ test_of (ltb room (length (block_text ws))) NoRoom
 unfolding test_of
 room-enough ws room whole h = rw (le-ltb room (length (block_text ws)) (omega (arith, block-longest ws whole))) refl
 

@@ -11,22 +11,22 @@ ghost use Rattle.words_refusals.specs.Tests.{test_of};
 ghost use Rattle.op_write.specs.Lines.{block_text};
 
 use lines::put_block;
-use netlist::Answer;
+use netlist::{Answer, Done, Refusal};
 use words_block::check_words;
 use words_layout::limits::WRITTEN_BYTES;
-use words_refusals::{Test, refusal, test_room};
+use words_refusals::test_room;
 
 mod lines;
 mod nevers;
 
 // Refusal 11, of a block that is not malformed. Where there is room for the longest text of all blocks, nothing is
 // measured; else the text is written once into a slice of one byte, which counts its bytes.
-fn check_room(words: &[u16], room: usize) -> Test
+fn check_room(words: &[u16], room: usize) -> Result<(), Refusal>
     requires { is_malformed words.now ≡ false }
     ensures { result ≡ test_of (ltb room (length (block_text words.now))) NoRoom }
 {
     if WRITTEN_BYTES <= room {
-        return Test::Passed;
+        return Ok(());
     }
     let mut small = [0u8; 1];
     test_room(room, put_block(&mut small, 0, words))
@@ -36,14 +36,8 @@ fn check_room(words: &[u16], room: usize) -> Test
 pub fn write(words: &[u16], text: &mut [u8]) -> Answer
     ensures { Promise (write words.now (length text.old)) text.old result text.new }
 {
-    let tested = check_words(words);
-    let Test::Passed = tested else {
-        return refusal(tested);
-    };
-    let tested = check_room(words, text.len());
-    let Test::Passed = tested else {
-        return refusal(tested);
-    };
+    check_words(words)?;
+    check_room(words, text.len())?;
     let count = put_block(text, 0, words);
-    Answer::Done { count, detail: 0 }
+    Ok(Done { count, detail: 0 })
 }

@@ -7,6 +7,7 @@ ghost use Rattle.text_pieces.specs.Pieces.{Appended, Short, pieces};
 ghost use Rattle.op_write.specs.Lines.{item_text, expression_text, input_text, gate_text, output_text, block_text};
 
 use crate::nevers::put_nevers;
+use text_pieces::each::put_each;
 use text_pieces::{put, put_all, put_gate_name, put_keyword, put_name, put_operand};
 use words_layout::offsets::{
     GATE_SIZE, INPUTS_AT, NAME_SIZE, OUTPUT_SIZE, gates_at, gates_of, inputs_of, nevers_at,
@@ -29,13 +30,12 @@ fn put_items(text: &mut [u8], at: usize, words: &[u16], from: usize, count: usiz
     requires short { Short (pieces (item_text words.now from) count) at }
     ensures { Appended (pieces (item_text words.now from) count) text.old at text.new result }
 {
-    let mut end = at;
-    let mut i = 0;
-    while i < count {
-        end = put_item(text, end, words, from, i);
-        i += 1;
-    }
-    end
+    put_each(
+        text,
+        at,
+        count,
+        |text, end, i| put_item(text, end, words, from, i),
+    )
 }
 
 // Appends `(KIND OPERAND ...)`: the expression of the gate whose first word is at `from`.
@@ -69,13 +69,12 @@ fn put_gates(text: &mut [u8], at: usize, words: &[u16], from: usize, m: usize) -
     requires short { Short (pieces (gate_text words.now from) m) at }
     ensures { Appended (pieces (gate_text words.now from) m) text.old at text.new result }
 {
-    let mut end = at;
-    let mut j = 0;
-    while j < m {
-        end = put_gate(text, end, words, from, j);
-        j += 1;
-    }
-    end
+    put_each(
+        text,
+        at,
+        m,
+        |text, end, j| put_gate(text, end, words, from, j),
+    )
 }
 
 // Appends `(in NAME)` and its LF.
@@ -94,13 +93,7 @@ fn put_inputs(text: &mut [u8], at: usize, words: &[u16], n: usize) -> usize
     requires short { Short (pieces (input_text words.now) n) at }
     ensures { Appended (pieces (input_text words.now) n) text.old at text.new result }
 {
-    let mut end = at;
-    let mut i = 0;
-    while i < n {
-        end = put_input(text, end, words, i);
-        i += 1;
-    }
-    end
+    put_each(text, at, n, |text, end, i| put_input(text, end, words, i))
 }
 
 // Appends `(out PORT NAME)` and its LF: output o of those from `from` on.
@@ -122,13 +115,12 @@ fn put_outputs(text: &mut [u8], at: usize, words: &[u16], from: usize, k: usize)
     requires short { Short (pieces (output_text words.now from) k) at }
     ensures { Appended (pieces (output_text words.now from) k) text.old at text.new result }
 {
-    let mut end = at;
-    let mut o = 0;
-    while o < k {
-        end = put_output(text, end, words, from, o);
-        o += 1;
-    }
-    end
+    put_each(
+        text,
+        at,
+        k,
+        |text, end, o| put_output(text, end, words, from, o),
+    )
 }
 
 // Appends the lines of all inputs, never lines, gates and outputs.

@@ -6,6 +6,7 @@ ghost use Rattle.words_layout.specs.Bounds.{written_room, max_word, line_room};
 ghost use Rattle.text_pieces.specs.Pieces.{Appended, Short, pieces};
 ghost use Rattle.op_write.specs.Lines.{fixed_text, never_text, never_line_text};
 
+use text_pieces::each::put_each;
 use text_pieces::{put_all, put_pair};
 use words_layout::offsets::{INPUTS_AT, NAME_SIZE, NEVER_SIZE, inputs_of};
 use words_layout::read::word_at;
@@ -44,13 +45,12 @@ fn put_pairs(
     ensures { Appended (pieces (fixed_text words.now fixed ones) n)
         text.old at text.new result }
 {
-    let mut end = at;
-    let mut i = 0;
-    while i < n {
-        end = put_fixed(text, end, words, fixed, ones, i);
-        i += 1;
-    }
-    end
+    put_each(
+        text,
+        at,
+        n,
+        move |text, end, i| put_fixed(text, end, words, fixed, ones, i),
+    )
 }
 
 // Appends `(never`, pairs, and `)` with its LF: the line whose masks are at `from`.
@@ -67,17 +67,17 @@ fn put_never(text: &mut [u8], at: usize, words: &[u16], from: usize) -> usize
 }
 
 // Appends `count` never lines, the masks of which stand from `from` on.
+#[tactic(auto, unfolding(crate::specs::Lines::never_line_text))]
 pub fn put_nevers(text: &mut [u8], at: usize, words: &[u16], from: usize, count: usize) -> usize
     requires words_bound { (get_or words.now 0 0 ≤ max_inputs) × (from ≤ line_room) × (count ≤ max_word) }
     requires short { Short (pieces (never_line_text words.now from) count) at }
     ensures { Appended (pieces (never_line_text words.now from) count)
         text.old at text.new result }
 {
-    let mut end = at;
-    let mut i = 0;
-    while i < count {
-        end = put_never(text, end, words, from + NEVER_SIZE * i);
-        i += 1;
-    }
-    end
+    put_each(
+        text,
+        at,
+        count,
+        move |text, end, i| put_never(text, end, words, from + NEVER_SIZE * i),
+    )
 }

@@ -12,3 +12,5 @@ pub mod Filling
 pub mod Tabled
 pub mod Tested
 pub mod Counting
+pub mod Ranges
+pub mod Places

@@ -1,9 +1,14 @@
 -- The five parts of a block, stored one behind the other. Assumes nothing.
-use mathlib.Core.Path.{◌≡◌, refl, ◌∙◌}
+use borrow.Rule.Slice.PartMut.{put_mid}
+use Rattle.std.proofs.lemmas.Slice.{put_mid-paste}
+use Rattle.std.proofs.lemmas.List.Edits.{sets-eq}
+use Rattle.prelude.proofs.Tab.{tab-ext, tab-get_d}
+use lib.Seq.{take_all, get_or-take, length-take-le}
+use mathlib.Core.Path.{◌≡◌, refl, sym, ◌∙◌}
 use mathlib.Core.List.{List, [], ◌∷◌, ◌++◌}
-use Prim.Native.Nat.{ℕ, suc, ◌+◌, ◌*◌}
+use Prim.Native.Nat.{ℕ, suc, ◌+◌, ◌*◌, ◌≤◌}
 use native.Mathlib.Omega.{arith}
-use lib.ListN.{length, set, length-append}
+use lib.ListN.{length, set, get_or, take, length-append}
 use lib.Seq.{sets}
 use Rattle.prelude.specs.Lists.{tab, joined}
 use Rattle.prelude.proofs.Tab.{length-tab}
@@ -54,3 +59,18 @@ block_written c names masks gates outputs block a b d e f p q m r s =
     ∙ rw v (sets-append (head ++ ns ++ ms) block 0 (4 + 4 * c.inputs + 2 * c.nevers) gs (omega (arith, y))) in
     s ∙ rw w (sets-append (head ++ ns ++ ms ++ gs) block 0 (4 + 4 * c.inputs + 2 * c.nevers + 5 * c.gates) os
     (omega (arith, z)))
+
+-- ---- words copied into a part of a block
+
+words-tab : (words : List ℕ) (n : ℕ) → n ≤ length words → tab (word_of words) n ≡ take n words
+unfolding word_of
+words-tab words n l =
+    tab-ext (word_of words) (λ i. get_or (take n words) i 0) n (λ i h. sym (get_or-take n words i 0 h))
+    ∙ tab-get_d 0 (take n words) n (length-take-le n words l)
+
+pub words-put : (block words part : List ℕ) (at n k : ℕ) → at + n ≤ length block → n ≤ length words → n ≡ k
+    → part ≡ take n words → put_mid at k block part ≡ sets block at (tab (word_of words) n)
+words-put block words part at n k room long e copied =
+    let size : length (take n words) ≡ n = length-take-le n words long in
+    put_mid-paste at k block part (take n words) n copied e (sym size)
+    ∙ rw (words-tab words n long, sets-eq (take n words) block at (omega (arith, size)), size, take_all n (take n words) (omega (arith, size)))

@@ -30,7 +30,7 @@ fn put_counts(c: Counts, block: &mut [u16])
 }
 
 // Writes the four words of the name with this number.
-fn put_name(block: &mut [u16], at: usize, name: u64)
+pub fn put_name(block: &mut [u16], at: usize, name: u64)
     requires { at + name_size ≤ length block.old }
     ensures { block.new ≡ sets block.old at (port_words name) }
 {
@@ -46,10 +46,8 @@ fn put_names(names: &[u64], n: usize, block: &mut [u16])
     ensures { block.new ≡ sets block.old inputs_at
         (joined (tab (name_of names.now) n)) }
 {
-    let mut i = 0;
-    while i < n {
+    for i in 0..n {
         put_name(block, INPUTS_AT + NAME_SIZE * i, names[i]);
-        i += 1;
     }
 }
 
@@ -58,11 +56,7 @@ fn put_words(words: &[u16], count: usize, block: &mut [u16], at: usize)
     requires { (count ≤ length words.now) × (at + count ≤ length block.old) }
     ensures { block.new ≡ sets block.old at (tab (word_of words.now) count) }
 {
-    let mut i = 0;
-    while i < count {
-        block[at + i] = words[i];
-        i += 1;
-    }
+    block[at..at + count].copy_from_slice(&words[..count]);
 }
 
 // Writes a whole block.

@@ -8,36 +8,34 @@
 use Prim.Native.Nat.{ℕ, suc, ◌+◌, ◌-◌, ◌*◌, ◌≤◌, ◌<◌}
 use mathlib.Core.Path.{◌≡◌, refl, sym, ap, ◌∙◌}
 use mathlib.Core.Bool.{Bool, true, false, cond}
-use mathlib.Core.List.{List, [], ◌∷◌, ◌++◌, map}
+use mathlib.Core.List.{List, [], ◌∷◌, ◌++◌}
 use mathlib.Core.Option.{Option, none, some}
 use native.Mathlib.Omega.{arith}
-use types.Run.{miss}
 use lib.ListN.{length, set, take, drop, length-set, length-drop}
 use lib.Seq.{drop_at, drop-drop, sets, sets-eq}
 use Rattle.prelude.specs.Lists.{all, member_list, placed}
 use Rattle.prelude.proofs.Tests.{and_left, and_right}
 use Rattle.prelude.proofs.Elements.{rest-is-drop}
-use Rattle.netlist.specs.Limits.{max_text}
 use Rattle.netlist.specs.declared.Refusal.{Refusal}
 use Rattle.netlist.specs.declared.Refusal.TheVariants.{DuplicateDeclaration, UndeclaredName}
-use Rattle.words_refusals.specs.declared.Test.{Test}
-use Rattle.words_refusals.specs.declared.Test.TheVariants.{Passed}
+use Rattle.words_refusals.specs.Tests.{Test}
+use Rattle.std.specs.Result.{result_and}
+use Rattle.std.specs.declared.result.Result.TheVariants.{Ok}
 use Rattle.words_refusals.specs.Tests.{test_at}
 use Rattle.netlist.specs.Netlist.{Name}
 use Rattle.netlist.specs.StoredBlock.{never_words}
 use Rattle.netlist.specs.Syntax.{Pair, Tree, is_legal_never, print_lines, print_never}
 use Rattle.netlist.specs.Reading.{Mention, mentions, never_mentions, first_repeat, or_else, first_repeat_in, first_outside}
-use Rattle.netlist.specs.Reading.{excluded_names, assignment_of, given_value}
+use Rattle.netlist.specs.Reading.{excluded_names, assignment_of}
 use Rattle.words_refusals.proofs.Promised.{IsFailed}
 use Rattle.theory_grammar.proofs.Places.{print_never-split}
 use Rattle.text_names.specs.Index.{max_pairs}
 use Rattle.text_lines.specs.Lines.{length_with_lf}
 use Rattle.words_layout.specs.Masks.{masks_of}
 use Rattle.text_pairs.specs.Tables.{InputsAre}
-use Rattle.text_constraints.specs.declared.NeverTold.{NeverTold}
 use Rattle.text_constraints.specs.declared.LineTold.{LineTold}
 use Rattle.text_constraints.specs.Places.{NeverAt, NeversAt, lines_mentions, lines_words, Told}
-use Rattle.text_constraints.specs.Ready.{InputsReady, LineReady, LineRead, LinesReady, LinesSay, LinesRead}
+use Rattle.text_constraints.specs.Ready.{LineReady, LineRead, LinesReady, LinesRead}
 use Rattle.text_constraints.proofs.NeverText.{line-size, line-inside}
 
 -- ---- the lines that are left
@@ -154,14 +152,22 @@ pub record Reading (text : List ℕ) (from count : ℕ) (inputs : List ℕ) (n :
   pub now' : (ns : List (List Pair)) (known : List Name) → NeversAt from count ns text → InputsAre known n inputs
       → Left text at (count - i) (Saying ns known from masks at i repeat outside masks')
 
--- a test and then another
+-- a test and then another, as `and` joins them
 abbrev pub FirstOf : Test → Test → Test → Type 0
 FirstOf one other r =
     (p q : Option ℕ) (why : ℕ → Refusal) → one ≡ test_at p why → other ≡ test_at q why → r ≡ test_at (or_else p q) why
 
+pub first-of_and : (one other : Test) {r : Test} → r ≡ result_and one other → FirstOf one other r
+unfolding test_at or_else
+first-of_and one other e p q why a b = e ∙ joined p a
+  where
+    joined : (p : Option ℕ) → one ≡ test_at p why → result_and one other ≡ test_at (or_else p q) why
+    joined (some x) a = rw a refl
+    joined none a = rw a b
+
 module _ {text : List ℕ} {from count : ℕ} {inputs : List ℕ} {n : ℕ} {names masks : List ℕ}
     (ready : LinesReady text from count inputs n names masks) where
-  pub reading-start : Reading text from count inputs n masks from 0 Passed Passed names masks
+  pub reading-start : Reading text from count inputs n masks from 0 (Ok tt) (Ok tt) names masks
   unfolding test_at or_else
   reading-start =
       record {
@@ -271,7 +277,7 @@ module _ {text : List ℕ} {from count : ℕ} {inputs : List ℕ} {n : ℕ} {nam
 
 -- no line tells nothing
 pub none_told : (t : Tree) (masks : List ℕ) → t.nevers ≡ []
-    → Told t masks masks (record { repeat = Passed; outside = Passed })
+    → Told t masks masks (record { repeat = Ok tt; outside = Ok tt })
 unfolding first_repeat_in excluded_names mentions first_outside test_at
 none_told t masks e = record { repeats = rw e; outsides = rw e; words = rw e }
 

@@ -4,7 +4,7 @@
 --   nevers-stand: the never lines at their place
 --   inputs_are: a table of the inputs' numbers
 --   none-counted: no line
-use Prim.Native.Nat.{ℕ, ◌+◌, ◌≤◌}
+use Prim.Native.Nat.{ℕ, ◌+◌}
 use mathlib.Core.Path.{◌≡◌, refl, sym, ap, ◌∙◌}
 use mathlib.Core.Bool.{true, false}
 use mathlib.Core.List.{List, [], ◌∷◌, map}

@@ -3,7 +3,7 @@
 // so an operation lends a table of MAX_PAIRS names to what reads a line; with no line to read it makes none.
 #![tactic(auto)]
 
-use words_refusals::Test;
+use netlist::Refusal;
 
 pub mod lines;
 pub mod read;
@@ -21,15 +21,15 @@ pub struct NeverLines {
 // What the never lines of a text tell: refusals 4 and 5 among them.
 #[derive(Drop)]
 pub struct NeverTold {
-    pub repeat: Test,
-    pub outside: Test,
+    pub repeat: Result<(), Refusal>,
+    pub outside: Result<(), Refusal>,
 }
 
 // What one never line tells: refusals 4 and 5 in it, and its two words in a stored block.
 #[derive(Drop)]
 pub struct LineTold {
-    pub repeat: Test,
-    pub outside: Test,
+    pub repeat: Result<(), Refusal>,
+    pub outside: Result<(), Refusal>,
     pub defined: u16,
     pub ones: u16,
 }

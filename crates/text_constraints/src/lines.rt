@@ -24,6 +24,7 @@ fn run_of(text: &[u8], from: usize, letter: u8) -> Run
 {
     let mut end = from;
     let mut count = 0;
+    // How many lines there are is known only at their end, so a range would be no plainer.
     while byte_at(text, end + 1) == letter {
         end = next_line(text, end);
         count += 1;
@@ -37,15 +38,11 @@ pub fn never_lines(text: &[u8]) -> NeverLines
     ensures { (t : Tree) → TextOf t text.now → result ≡ never_lines t }
 {
     let before = run_of(text, 0, b'i');
-    let inputs = before.count;
-    let at = before.end;
-    let nevers = run_of(text, at, b'n');
-    let count = nevers.count;
-    let end = nevers.end;
+    let nevers = run_of(text, before.end, b'n');
     NeverLines {
-        inputs,
-        at,
-        count,
-        end,
+        inputs: before.count,
+        at: before.end,
+        count: nevers.count,
+        end: nevers.end,
     }
 }

@@ -1,10 +1,6 @@
 // What the never lines of a text tell. Each is read once, from the rest of the text.
-ghost use Rattle.std.specs.Prelude.{◌≡◌, ℕ};
-ghost use Rattle.std.proofs.Math.Option.{Option};
-ghost use Rattle.netlist.specs.declared.Refusal.{Refusal};
-ghost use Rattle.words_refusals.specs.Tests.{test_at};
+ghost use Rattle.std.specs.Prelude.{◌≡◌};
 ghost use Rattle.netlist.specs.Syntax.{Tree};
-ghost use Rattle.netlist.specs.Reading.{or_else};
 ghost use Rattle.text_lines.specs.Trees.{TextOf};
 ghost use Rattle.text_constraints.specs.Places.{never_lines, Told};
 ghost use Rattle.text_constraints.specs.Ready.{LineReady, LineRead, LinesReady, LinesRead, NeversRoom};
@@ -17,24 +13,12 @@ use text_symbols::table::input_names;
 use words_layout::limits::{MAX_INPUTS, MAX_NEVERS};
 use words_layout::offsets::NEVER_SIZE;
 use words_layout::value_masks::masks_of;
-use words_refusals::Test;
 
 // The bytes of `(never`, behind which the pairs stand.
 const PAIRS_AT: usize = 6;
 
 // The words of the most lines that a block may have.
 pub const NEVER_WORDS: usize = NEVER_SIZE * MAX_NEVERS;
-
-// The first of two tests that fails.
-fn first_failed(one: Test, other: Test) -> Test
-    ensures { (p q : Option ℕ) (why : ℕ → Refusal) → one ≡ test_at p why → other ≡ test_at q why
-        → result ≡ test_at (or_else p q) why }
-{
-    let Test::Passed = one else {
-        return one;
-    };
-    other
-}
 
 // Reads the never line at the front of the rest of a text; the line starts at place `at` of the text. Each of its pairs
 // has one bracket, as a gate has.
@@ -51,10 +35,12 @@ fn read_line(
     let line = line_of(s);
     let count = line.gates;
     fill_numbers(s, PAIRS_AT, count, names);
-    let repeat = find_repeat(s, PAIRS_AT, at, names, count);
-    let outside = find_outside(s, PAIRS_AT, at, names, count, inputs, n);
+    let given = &names[..count];
+    let known = &inputs[..n];
+    let repeat = find_repeat(s, PAIRS_AT, at, given);
+    let outside = find_outside(s, PAIRS_AT, at, given, known);
     let mut setting = [0u8; MAX_INPUTS];
-    fill_values(s, PAIRS_AT, names, count, inputs, n, &mut setting);
+    fill_values(s, PAIRS_AT, given, known, &mut setting);
     let masks = masks_of(&setting[..n]);
     LineTold {
         repeat,
@@ -79,20 +65,16 @@ fn read_lines(
     ensures { LinesRead text.now from count inputs.now n masks.old
         masks.new result }
 {
-    let mut repeat = Test::Passed;
-    let mut outside = Test::Passed;
+    let mut repeat = Ok(());
+    let mut outside = Ok(());
     let mut at = from;
-    let mut i = 0;
-    while i < count {
+    for i in 0..count {
         let line = read_line(&text[at..], at, inputs, n, names);
-        let again = line.repeat;
-        let unknown = line.outside;
-        repeat = first_failed(repeat, again);
-        outside = first_failed(outside, unknown);
+        repeat = repeat.and(line.repeat);
+        outside = outside.and(line.outside);
         masks[2 * i] = line.defined;
         masks[2 * i + 1] = line.ones;
         at = next_line(text, at);
-        i += 1;
     }
     NeverTold { repeat, outside }
 }
@@ -107,8 +89,8 @@ pub fn read_nevers(text: &[u8], lines: NeverLines, masks: &mut [u16; NEVER_WORDS
     let count = lines.count;
     if count == 0 {
         return NeverTold {
-            repeat: Test::Passed,
-            outside: Test::Passed,
+            repeat: Ok(()),
+            outside: Ok(()),
         };
     }
     let mut inputs = [0u64; MAX_INPUTS];

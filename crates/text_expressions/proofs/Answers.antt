@@ -3,7 +3,8 @@
 -- Assumes nothing.
 use mathlib.Core.Path.{◌≡◌, refl, sym, ap, ◌∙◌}
 use mathlib.Core.Bool.{true}
-use mathlib.Core.Option.{Option, none, some}
+use mathlib.Core.Option.{Option as Place, none, some}
+use Rattle.std.specs.declared.option.Option.TheVariants.{None, Some}
 use mathlib.Core.List.{List, [], ◌∷◌, ◌++◌, map}
 use Prim.Native.Nat.{ℕ, ◌+◌, ◌-◌, ◌*◌, ◌≤◌}
 use native.Mathlib.Omega.{arith}
@@ -22,8 +23,7 @@ use Rattle.text_lines.specs.declared.counts.Counts.{Counts}
 use Rattle.text_symbols.proofs.TreeSearch.{bound-names}
 use Rattle.text_expressions.specs.declared.Walked.{Walked}
 use Rattle.netlist.specs.declared.Refusal.TheVariants.{UndeclaredName}
-use Rattle.words_refusals.specs.declared.Test.TheVariants.{Passed, Failed}
-use Rattle.text_expressions.specs.Leaves.{earlier}
+use Rattle.std.specs.declared.result.Result.TheVariants.{Ok, Err}
 use Rattle.text_expressions.specs.Walk.{left_of, declared_names, unknown_after, gates_words}
 use Rattle.text_expressions.specs.Lines.{LineForm, gate_form, output_form, output_of, lines_words, lines_cost}
 use Rattle.text_expressions.specs.Lines.{LinesDone}
@@ -68,7 +68,7 @@ output-words n bs (o ∷ os) first = ap (λ (r : List ℕ). output_words n (outp
 
 module _ {t : Tree} {text : List ℕ} {end : ℕ} {c : Counts} {names words : List ℕ} (w : TreeAt t text end c names words)
     (gates gates' outputs outputs' : List ℕ) (walked last : Walked)
-    (d : LinesDone gate_form c.inputs (bindings t) t.gates (gate_lines_at t) (gates_text w) (outputs_text w) 0 0
+    (d : LinesDone gate_form c.inputs (bindings t) t.gates (gate_lines_at t) (gates_text w) (outputs_text w) 0 None
     gates gates' walked)
     (e : LinesDone output_form c.inputs (bindings t) t.outputs (output_lines_at t) (outputs_text w) [] 0
     walked.unknown outputs
@@ -101,7 +101,7 @@ module _ {t : Tree} {text : List ℕ} {end : ℕ} {c : Counts} {names words : Li
 
   found : last.unknown ≡ left_of (length text)
       (first_outside (map (λ (d : Mention). d.name) (declared_nodes t)) (used_names t))
-  unfolding used_names unknown_after earlier declared_names gate_form output_form output_lines_at
+  unfolding used_names unknown_after declared_names gate_form output_form output_lines_at
   found =
       let a = lines-measure print_output print_output-split t.outputs [] in
       let b = lines-measure print_gate print_gate-split t.gates (outputs_text w) in
@@ -111,18 +111,19 @@ module _ {t : Tree} {text : List ℕ} {end : ℕ} {c : Counts} {names words : Li
       let total' : output_lines_at t + length (outputs_text w) ≡ length text = omega arith in
       let us = mentions print_gate operand_mentions t.gates (gate_lines_at t) in
       let vs = mentions print_output shown_mention t.outputs (output_lines_at t) in
-      let h : walked.unknown ≡ unknown_after 0 (bindings t) us (length text) = rw total at d.unknown in
+      let h : walked.unknown ≡ unknown_after None (bindings t) us (length text) = rw total at d.unknown in
       let g : last.unknown ≡ unknown_after walked.unknown (bindings t) vs (length text) = rw total' at
       e.unknown in
-      g ∙ ap (λ u. unknown_after u (bindings t) vs (length text)) h ∙ unknown-append 0 (bindings t) us vs (length text)
+      g ∙ ap (λ u. unknown_after u (bindings t) vs (length text)) h ∙ unknown-append None (bindings t) us vs
+      (length text)
       ∙ ap (λ ds. left_of (length text) (first_outside ds (us ++ vs))) (bound-names t)
 
   placed-inside : all (inside (length text)) (used_names t) ≡ true
   placed-inside = rw w.is.printed at (used-inside t)
 
   -- every used name is declared
-  pub known-done : last.unknown ≡ 0 → 5 * max_gates ≤ length gates → 5 * max_outputs ≤ length outputs
-      → TreeDone t gates gates' outputs outputs' Passed
+  pub known-done : last.unknown ≡ None → 5 * max_gates ≤ length gates → 5 * max_outputs ≤ length outputs
+      → TreeDone t gates gates' outputs outputs' (Ok tt)
   unfolding first_unknown
   known-done z r s =
       record {
@@ -132,20 +133,22 @@ module _ {t : Tree} {text : List ℕ} {end : ℕ} {c : Counts} {names words : Li
       }
 
   -- one is not
-  pub undeclared-done : (last.unknown ≡ 0 → ⊥) → 5 * max_gates ≤ length gates → 5 * max_outputs ≤ length outputs
-      → TreeDone t gates gates' outputs outputs' (Failed (UndeclaredName (length text + 1 - last.unknown)))
+  pub undeclared-done : {left : ℕ} → last.unknown ≡ Some left → 5 * max_gates ≤ length gates → 5 * max_outputs ≤
+      length outputs
+      → TreeDone t gates gates' outputs outputs' (Err (UndeclaredName (length text - left)))
   unfolding first_unknown
-  undeclared-done z r s =
+  undeclared-done {left} z r s =
       record {
-        answer = (place-back (length text) _ (used_names t) last.unknown placed-inside found).1 z;
+        answer = (place-back (length text) _ (used_names t) last.unknown placed-inside found).1 left z;
         gates_written = gates-written r;
         outputs_written = outputs-written s;
       }
 
-  pub unknown-short : last.unknown ≤ length text + 1
+  pub unknown-short : {left : ℕ} → last.unknown ≡ Some left → left ≤ length text
   unfolding left_of
-  unknown-short = rw found (left-short (first_outside (map (λ (d : Mention). d.name) (declared_nodes t)) (used_names t)))
+  unknown-short {left} z =
+      left-short (first_outside (map (λ (d : Mention). d.name) (declared_nodes t)) (used_names t)) (sym z ∙ found)
     where
-      left-short : (o : Option ℕ) → left_of (length text) o ≤ length text + 1
-      left-short none = omega arith
-      left-short (some place) = omega arith
+      left-short : (o : Place ℕ) → Some left ≡ left_of (length text) o → left ≤ length text
+      left-short none e = cc
+      left-short (some place) e = let q : left ≡ length text - place = cc in omega arith

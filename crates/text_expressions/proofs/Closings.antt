@@ -5,10 +5,13 @@ use mathlib.Core.Path.{◌≡◌, refl, sym, ap, ◌∙◌}
 use mathlib.Core.Bool.{Bool, true, false, cond}
 use mathlib.Core.List.{List, [], ◌∷◌, ◌++◌, map, map-append}
 use mathlib.Core.Option.{none, some}
-use Prim.Native.Nat.{ℕ, suc, ◌+◌, ◌-◌, ◌*◌, ◌≤◌, ◌<◌}
+use Prim.Native.Nat.{ℕ, suc, ◌+◌, ◌*◌, ◌≤◌, ◌<◌}
 use native.Mathlib.Omega.{arith}
 use lib.ListN.{length, get_or, set, drop, length-append, length-drop}
 use lib.Seq.{sets}
+use Rattle.std.specs.declared.option.Option.{Option}
+use Rattle.std.specs.declared.option.Option.TheVariants.{None, Some}
+use Rattle.std.specs.Option.{option_or}
 use Rattle.prelude.specs.Lists.{all, joined, tab, member_list}
 use Rattle.netlist.specs.Kinds.{keyword}
 use Rattle.netlist.specs.Netlist.{Name, Operand, Gate}
@@ -21,12 +24,12 @@ use Rattle.netlist.specs.Reading.{terms_gates}
 use Rattle.theory_grammar.proofs.Places.{term-measure}
 use Rattle.text_expressions.specs.declared.leaves.Leaf.{Leaf}
 use Rattle.text_expressions.specs.declared.walk.Found.{Found}
-use Rattle.text_expressions.specs.Leaves.{earlier, name_length, index_here, name_here, constant_here, leaf_here}
+use Rattle.text_expressions.specs.Leaves.{name_length, index_here, name_here, constant_here, leaf_here}
 use Rattle.text_expressions.specs.Walk.{Ends, left_of, declared_names, unknown_after, gates_words, Table, TermAt}
 use Rattle.text_expressions.specs.Walk.{TermDone, TermsDone, no_words}
 use Rattle.prelude.proofs.Stores.{sets-append}
 use Rattle.prelude.proofs.Lists.{joined-append}
-use Rattle.text_expressions.proofs.Fronts.{earlier-none, earlier-assoc, leaf-name}
+use Rattle.text_expressions.proofs.Fronts.{or-none, or-assoc, leaf-name}
 use Rattle.text_expressions.proofs.Lookups.{front-back, numbers_of, nodes_of, looked}
 use Rattle.text_expressions.proofs.Openings.{name-begins}
 
@@ -78,30 +81,30 @@ words-behind n gs hs d i j e =
 -- ---- the first undeclared name
 
 outside-append : (total : ℕ) (ds : List Name) (us vs : List Mention)
-    → left_of total (first_outside ds (us ++ vs)) ≡ earlier (left_of total (first_outside ds us))
+    → left_of total (first_outside ds (us ++ vs)) ≡ option_or (left_of total (first_outside ds us))
     (left_of total (first_outside ds vs))
-unfolding first_outside left_of earlier
+unfolding first_outside left_of
 outside-append total ds [] vs = refl
 outside-append total ds (u ∷ us) vs = go (member_list u.name ds) (outside-append total ds us vs)
   where
-    go : (b : Bool) → left_of total (first_outside ds (us ++ vs)) ≡ earlier (left_of total (first_outside ds us))
+    go : (b : Bool) → left_of total (first_outside ds (us ++ vs)) ≡ option_or (left_of total (first_outside ds us))
         (left_of total (first_outside ds vs))
         → left_of total (cond b (first_outside ds (us ++ vs)) (some u.place))
-        ≡ earlier (left_of total (cond b (first_outside ds us) (some u.place))) (left_of total (first_outside ds vs))
+        ≡ option_or (left_of total (cond b (first_outside ds us) (some u.place))) (left_of total (first_outside ds vs))
     go true e = e
     go false e = refl
 
-pub unknown-append : (seen : ℕ) (bs : List Binding) (us vs : List Mention) (total : ℕ)
+pub unknown-append : (seen : Option ℕ) (bs : List Binding) (us vs : List Mention) (total : ℕ)
     → unknown_after (unknown_after seen bs us total) bs vs total ≡ unknown_after seen bs (us ++ vs) total
 unfolding unknown_after
 unknown-append seen bs us vs total =
-    earlier-assoc seen (left_of total (first_outside (declared_names bs) us))
+    or-assoc seen (left_of total (first_outside (declared_names bs) us))
     (left_of total (first_outside (declared_names bs) vs))
-    ∙ ap (earlier seen) (sym (outside-append total (declared_names bs) us vs))
+    ∙ ap (option_or seen) (sym (outside-append total (declared_names bs) us vs))
 
-pub unknown-none : (seen : ℕ) (bs : List Binding) (total : ℕ) → seen ≡ unknown_after seen bs [] total
+pub unknown-none : (seen : Option ℕ) (bs : List Binding) (total : ℕ) → seen ≡ unknown_after seen bs [] total
 unfolding unknown_after first_outside left_of
-unknown-none seen bs total = sym (earlier-none seen)
+unknown-none seen bs total = sym (or-none seen)
 
 -- ---- operand words
 
@@ -131,7 +134,7 @@ gate-made n k count os filled few c f = rw (c, f, filled-words n os few)
 
 module _ (n : ℕ) (bs : List Binding) where
   -- no operand is left
-  pub nil-done : (at first seen i left : ℕ) (s rest gates slots : List ℕ) → left ≡ length rest
+  pub nil-done : (at first : ℕ) (seen : Option ℕ) (i left : ℕ) (s rest gates slots : List ℕ) → left ≡ length rest
       → TermsDone n bs nil at s rest first seen i gates gates slots slots left i first seen
   unfolding term_count gates_inside terms_mentions terms_gates terms_nodes gates_words
   nil-done at first seen i left s rest gates slots e =
@@ -145,9 +148,10 @@ module _ (n : ℕ) (bs : List Binding) where
       }
 
   -- an operand, and then the others
-  module _ (o : Term) (ts : Terms) (at first seen i : ℕ) (s behind rest g₀ g₁ g₂ slots filled : List ℕ) (one : Found)
+  module _ (o : Term) (ts : Terms) (at first : ℕ) (seen : Option ℕ) (i : ℕ)
+      (s behind rest g₀ g₁ g₂ slots filled : List ℕ) (one : Found)
     where
-      pub cons-done : (left count gates unknown : ℕ) → print_term o behind ≡ drop 1 s → 0 < length s
+      pub cons-done : (left count gates : ℕ) (unknown : Option ℕ) → print_term o behind ≡ drop 1 s → 0 < length s
           → TermDone n bs o (at + 1) (drop 1 s) behind first seen g₀ g₁ one
           → TermsDone n bs ts (at + 1 + length (print_term o [])) behind rest one.gates one.unknown (i + 1) g₁ g₂
           (set slots i one.word) filled
@@ -175,8 +179,8 @@ module _ (n : ℕ) (bs : List Binding) where
           }
 
   -- an expression
-  module _ (k : ℕ) (ts : Terms) (wide at first seen : ℕ) (s inner rest g₀ g₁ g₂ filled : List ℕ)
-      (left count gates unknown : ℕ) where
+  module _ (k : ℕ) (ts : Terms) (wide at first : ℕ) (seen : Option ℕ) (s inner rest g₀ g₁ g₂ filled : List ℕ)
+      (left count gates : ℕ) (unknown : Option ℕ) where
     pub apply-done : term_count ts ≤ 4 → wide ≡ length (keyword k) → length s ≡ wide + length inner
         → TermsDone n bs ts (at + 1 + wide) inner rest first seen 0 g₀ g₁ no_words filled left count gates unknown
         → g₂ ≡ sets g₁ (5 * gates) ((k + 8 * count) ∷ filled)
@@ -201,7 +205,7 @@ module _ (n : ℕ) (bs : List Binding) where
         }
 
   -- a name, or a constant
-  module _ (at first seen : ℕ) (rest gates : List ℕ) where
+  module _ (at first : ℕ) (seen : Option ℕ) (rest gates : List ℕ) where
     abbrev pub leaf_found : Leaf → Found
     leaf_found l = record { left = l.left; word = l.word; gates = first; unknown = l.unknown }
 
@@ -217,13 +221,14 @@ module _ (n : ℕ) (bs : List Binding) where
           left = omega arith;
           word = l.word;
           gates = omega arith;
-          unknown = rw l.known (ap (earlier seen) (go (member_list x (declared_names bs))));
+          unknown = rw l.known (ap (option_or seen) (go (member_list x (declared_names bs))));
           words = refl;
         })
       where
-        go : (b : Bool) → cond b 0 (length (x ++ rest) + 1) ≡ left_of (at + length (x ++ rest)) (cond b none (some at))
+        go : (b : Bool) → cond b None (Some (length (x ++ rest))) ≡ left_of (at + length (x ++ rest))
+            (cond b none (some at))
         go true = refl
-        go false = omega arith
+        go false = ap Some (omega arith)
 
     leaf-name-done : (x : Name) → is_node_name x ≡ true → Ends rest → all is_node_name (declared_names bs) ≡ true
         → TermDone n bs (name x) at (x ++ rest) rest first seen gates gates
@@ -259,7 +264,8 @@ module _ (n : ℕ) (bs : List Binding) where
         }
     leaf-at (apply k ts) depth h e a ne = absurd (ne refl)
 
-  pub leaf-done : (o : Term) (depth at first seen : ℕ) (s rest names words gates : List ℕ) → Table n bs names words
+  pub leaf-done : (o : Term) (depth at first : ℕ) (seen : Option ℕ) (s rest names words gates : List ℕ) → Table n bs
+      names words
       → TermAt o depth rest s
       → (get_or s 0 0 ≡ 40 → ⊥)
       → TermDone n bs o at s rest first seen gates gates

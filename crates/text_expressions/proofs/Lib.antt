@@ -1,5 +1,4 @@
 -- Laws of the walk over operands, expressions and lines, over plain lists and trees.
-pub mod WalkFacts
 mod Keywords
 pub mod Lookups
 mod Openings

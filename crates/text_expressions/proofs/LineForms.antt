@@ -5,6 +5,7 @@ use mathlib.Core.Bool.{Bool, true, false}
 use mathlib.Core.List.{List, [], ◌∷◌, ◌++◌, append_assoc}
 use Prim.Native.Nat.{ℕ, suc, ◌+◌, ◌-◌, ◌*◌, ◌≤◌}
 use native.Mathlib.Omega.{arith}
+use Rattle.std.specs.declared.option.Option.{Option}
 use lib.ListN.{length, take, drop, length-append}
 use lib.Seq.{sets, drop_at, drop-drop}
 use Rattle.prelude.specs.Lists.{ascii, all}
@@ -30,7 +31,7 @@ use Rattle.text_names.proofs.PortNames.{port-words}
 use Rattle.text_names.specs.Ports.{port_words}
 use Rattle.text_expressions.specs.Leaves.{name_here}
 use Rattle.text_expressions.specs.declared.leaves.Leaf.{Leaf}
-use Rattle.text_expressions.proofs.Closings.{gates-count, words-length, name_done, unknown-none}
+use Rattle.text_expressions.proofs.Closings.{gates-count, words-length, name_done}
 use Rattle.text_expressions.proofs.LineSteps.{Lawful}
 
 pub gate-lawful : Lawful gate_form
@@ -126,7 +127,7 @@ module _ (s : List ℕ) (k : ℕ) (e : k ≡ length (name_front 8 (take (length 
           room = p.room;
         }
 
-    module _ (seen : ℕ) (after : List ℕ) (one : Found)
+    module _ (seen : Option ℕ) (after : List ℕ) (one : Found)
         (r : TermRead expression_text n names words first seen gates after one) where
       gate-done : (bs : List Binding) (g : GateLine) (rest : List ℕ) (at : ℕ) → Table n bs names words
           → LineAt gate_form g rest s
@@ -194,7 +195,7 @@ module _ (s : List ℕ) (k : ℕ) (e : k ≡ length (name_front 8 (take (length 
   unfolding output_form
   output-parts o rest w = rw (← w.printed) (output-parts-at o rest k w.legal (rw w.printed e))
 
-  module _ (n : ℕ) (names words : List ℕ) (first seen : ℕ) (array : List ℕ) (l : Leaf)
+  module _ (n : ℕ) (names words : List ℕ) (first : ℕ) (seen : Option ℕ) (array : List ℕ) (l : Leaf)
       (f : l ≡ name_here (take (length s - (6 + k)) (drop (6 + k) s)) names words seen) where
     shown-done : (bs : List Binding) (o : OutputLine) (rest : List ℕ) (at : ℕ) → Table n bs names words
         → LineAt output_form o rest s

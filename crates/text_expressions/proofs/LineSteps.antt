@@ -4,6 +4,7 @@ use mathlib.Core.Path.{◌≡◌, refl, sym, ap, ◌∙◌}
 use mathlib.Core.List.{List, [], ◌∷◌, ◌++◌}
 use Prim.Native.Nat.{ℕ, ◌+◌, ◌-◌, ◌*◌, ◌≤◌, ◌<◌}
 use native.Mathlib.Omega.{arith}
+use Rattle.std.specs.declared.option.Option.{Option}
 use lib.ListN.{length, take, drop, length-append, length-drop}
 use lib.Seq.{length-sets, drop-drop}
 use Rattle.prelude.specs.Lists.{all}
@@ -24,14 +25,15 @@ pub record Lawful {A : Type 0} (F : LineForm A) : Type 0 where
   pub sized : (n : ℕ) (bs : List Binding) (x : A) (first : ℕ) → length (F.words n bs x first) ≡ 5 * F.cost x
 
 module _ {A : Type 0} (F : LineForm A) (lawful : Lawful F) where
-  none_done : (n : ℕ) (bs : List Binding) (at : ℕ) (rest : List ℕ) (first seen : ℕ) (array : List ℕ)
+  none_done : (n : ℕ) (bs : List Binding) (at : ℕ) (rest : List ℕ) (first : ℕ) (seen : Option ℕ) (array : List ℕ)
       → LinesDone F n bs [] at rest rest first seen array array
       (record { left = length rest; number = first; unknown = seen })
   unfolding lines_cost lines_words mentions
   none_done n bs at rest first seen array =
       record { left = refl; number = omega arith; unknown = unknown-none seen bs (at + length rest); words = refl }
 
-  one-done : (n : ℕ) (bs : List Binding) (x : A) (xs : List A) (at : ℕ) (s behind rest : List ℕ) (first seen : ℕ)
+  one-done : (n : ℕ) (bs : List Binding) (x : A) (xs : List A) (at : ℕ) (s behind rest : List ℕ) (first : ℕ)
+      (seen : Option ℕ)
       (a₀ a₁ a₂ : List ℕ) (one r : Walked)
       → F.printed x behind ≡ s
       → LineDone F n bs x at s behind first seen a₀ a₁ one
@@ -85,7 +87,7 @@ module _ {A : Type 0} (F : LineForm A) (lawful : Lawful F) where
 
   -- ---- the loop
 
-  module _ (count : ℕ) (s : List ℕ) (n : ℕ) (names words : List ℕ) (seen : ℕ) (before : List ℕ) where
+  module _ (count : ℕ) (s : List ℕ) (n : ℕ) (names words : List ℕ) (seen : Option ℕ) (before : List ℕ) where
     pub lines_start : LinesOn F count s n names words seen before 0 (length s) 0 seen before
     lines_start =
         let z : length s - length s ≡ 0 = omega arith in
@@ -102,7 +104,7 @@ module _ {A : Type 0} (F : LineForm A) (lawful : Lawful F) where
               };
         }
 
-    module _ (i left first unknown : ℕ) (array : List ℕ)
+    module _ (i left first : ℕ) (unknown : Option ℕ) (array : List ℕ)
         (on : LinesOn F count s n names words seen before i left first unknown array) where
       abbrev pub line_text : List ℕ
       line_text = take (length s - (length s - left)) (drop (length s - left) s)
@@ -196,7 +198,7 @@ module _ {A : Type 0} (F : LineForm A) (lawful : Lawful F) where
               }
 
     -- the end
-    pub lines_end : (i left first unknown : ℕ) (array : List ℕ)
+    pub lines_end : (i left first : ℕ) (unknown : Option ℕ) (array : List ℕ)
         → LinesOn F count s n names words seen before i left first unknown array → count ≤ i
         → LinesRead F count s n names words seen before array
         (record { left = left; number = first; unknown = unknown })

@@ -3,7 +3,9 @@
 use mathlib.Core.Path.{◌≡◌, refl, ap, ◌∙◌}
 use mathlib.Core.Bool.{Bool, true, false, cond}
 use mathlib.Core.List.{List, [], ◌∷◌, ◌++◌}
-use mathlib.Core.Option.{Option, some}
+use mathlib.Core.Option.{Option as Place, some}
+use Rattle.std.specs.declared.option.Option.{Option}
+use Rattle.std.specs.declared.option.Option.TheVariants.{None, Some}
 use Prim.Native.Nat.{ℕ, ◌+◌, ◌-◌, ◌≤◌}
 use native.Mathlib.Omega.{arith}
 use lib.ListN.{length, length-append}
@@ -24,7 +26,7 @@ use Rattle.netlist.specs.Reading.{used_names, first_outside}
 use Rattle.theory_grammar.proofs.Shorter.{print_terms-append}
 use Rattle.theory_grammar.proofs.Places.{term-measure, print-measure}
 use Rattle.netlist.specs.declared.Refusal.TheVariants.{UndeclaredName}
-use Rattle.words_refusals.specs.declared.Test.TheVariants.{Passed, Failed}
+use Rattle.std.specs.declared.result.Result.TheVariants.{Ok, Err}
 use Rattle.words_refusals.specs.Tests.{test_at}
 use Rattle.text_expressions.specs.Walk.{left_of}
 
@@ -102,16 +104,16 @@ module _ (bound : ℕ) where
       both (in_line x at) (mentions printed in_line xs (at + length (printed x [])))
       (f x at (omega arith)) (lines-inside printed in_line f xs (at + length (printed x [])) (omega arith))
 
-  -- the test's answer, from one more than the bytes left at a place, or 0
-  abbrev PlaceBack : ℕ → Option ℕ → Type 0
-  PlaceBack u p = ((u ≡ 0) → Passed ≡ test_at p UndeclaredName) ×
-      ((u ≡ 0 → ⊥) → Failed (UndeclaredName (bound + 1 - u)) ≡ test_at p UndeclaredName)
+  -- the test's answer, from the bytes left at a place
+  abbrev PlaceBack : Option ℕ → Place ℕ → Type 0
+  PlaceBack u p = (u ≡ None → Ok tt ≡ test_at p UndeclaredName) ×
+      ((k : ℕ) → u ≡ Some k → Err (UndeclaredName (bound - k)) ≡ test_at p UndeclaredName)
 
-  pub place-back : (ds : List Name) (ms : List Mention) (u : ℕ) → all inside ms ≡ true
+  pub place-back : (ds : List Name) (ms : List Mention) (u : Option ℕ) → all inside ms ≡ true
       → u ≡ left_of bound (first_outside ds ms)
       → PlaceBack u (first_outside ds ms)
   unfolding first_outside left_of test_at
-  place-back ds [] u h e = (λ z. refl, λ z. absurd (z e))
+  place-back ds [] u h e = (λ z. refl, λ k z. cc)
   place-back ds (m ∷ ms) u h e = go (member_list m.name ds) e
       (place-back ds ms u (and_right (inside m) (all inside ms) h))
     where
@@ -120,8 +122,13 @@ module _ (bound : ℕ) where
           → PlaceBack u (cond b (first_outside ds ms) (some m.place))
       go true e r = r e
       go false e r =
-          let l = leb-true m.place bound (and_left (inside m) (all inside ms) h) in
-          (λ z. absurd (omega arith), λ z. let k : bound + 1 - u ≡ m.place = omega arith in rw k)
+          let l = leb-true m.place bound (and_left (inside m) (all inside ms) h) in (
+            λ z. cc,
+            λ k z.
+                let q : k ≡ bound - m.place = cc in
+                let j : bound - k ≡ m.place = omega arith in
+                rw j,
+          )
 
 -- the names that a tree declares
 pub nodes-inside : (t : Tree) → all (inside (length (print t))) (declared_nodes t) ≡ true

@@ -5,7 +5,8 @@ use mathlib.Core.Path.{◌≡◌, refl, sym, ap, ◌∙◌}
 use mathlib.Core.List.{List, [], ◌∷◌}
 use Prim.Native.Nat.{ℕ, suc, ◌+◌, ◌-◌, ◌*◌, ◌≤◌, ◌<◌}
 use native.Mathlib.Omega.{arith}
-use lib.ListN.{length, get_or, set, take, drop, length-drop, length-set, length-map}
+use Rattle.std.specs.declared.option.Option.{Option}
+use lib.ListN.{length, get_or, set, take, drop, length-drop, length-set}
 use lib.Seq.{sets, length-sets, get_or-drop, drop-drop}
 use Rattle.prelude.proofs.Elements.{rest-is-drop}
 use Rattle.theory_encoding.proofs.Gates.{kind-small}
@@ -16,15 +17,10 @@ use Rattle.netlist.specs.Reading.{Binding, gates_in, gates_inside}
 use Rattle.text_expressions.specs.declared.leaves.Leaf.{Leaf}
 use Rattle.text_expressions.specs.declared.walk.Found.{Found}
 use Rattle.text_expressions.specs.Leaves.{leaf_here}
-use Rattle.text_expressions.specs.Walk.{Table, TermAt, TermHere, TermDone, TermRead, TermsAt, ListNow, ListOn}
+use Rattle.text_expressions.specs.Walk.{Table, TermAt, TermHere, TermRead, TermsAt, ListNow, ListOn}
 use Rattle.text_expressions.specs.Walk.{no_words}
-use Rattle.text_expressions.proofs.Openings.{Inside, Closed, closed-list, More, more, opening}
+use Rattle.text_expressions.proofs.Openings.{Inside, closed-list, More, more, opening}
 use Rattle.text_expressions.proofs.Closings.{nil-done, cons-done, apply-done, leaf-done}
-
-pub table-lengths : (n : ℕ) (bs : List Binding) (names words : List ℕ) → Table n bs names words
-    → length words ≡ length names
-table-lengths n bs names words t =
-    rw (← t.packed_names, ← t.node_words) (length-map bs _ ∙ sym (length-map bs _))
 
 -- the rest of a text is shorter by what was left out
 pub rest-length : (s : List ℕ) (k : ℕ) → length (take (length s - k) (drop k s)) ≡ length s - k
@@ -34,7 +30,7 @@ rest-length s k = rw (rest-is-drop s k) (length-drop k s)
 
 module _ (s : List ℕ) (n : ℕ) (names words : List ℕ) (first : ℕ) (gates : List ℕ) where
   -- a name or a constant
-  pub leaf-read : (seen : ℕ) (l : Leaf) → l ≡ leaf_here s names words seen → (get_or s 0 0 ≡ 40 → ⊥)
+  pub leaf-read : (seen : Option ℕ) (l : Leaf) → l ≡ leaf_here s names words seen → (get_or s 0 0 ≡ 40 → ⊥)
       → TermRead s n names words first seen gates gates
       (record { left = l.left; word = l.word; gates = first; unknown = l.unknown })
   leaf-read seen l e ne =
@@ -48,14 +44,14 @@ module _ (s : List ℕ) (n : ℕ) (names words : List ℕ) (first : ℕ) (gates 
       → TermHere (40 ∷ take (length s - 1) (drop 1 s)) n names words first gates
   opened-here e p = rw (opening s e) p
 
-  pub opened-read : (seen : ℕ) (after : List ℕ) (r : Found) → get_or s 0 0 ≡ 40
+  pub opened-read : (seen : Option ℕ) (after : List ℕ) (r : Found) → get_or s 0 0 ≡ 40
       → TermRead (40 ∷ take (length s - 1) (drop 1 s)) n names words first seen gates after r
       → TermRead s n names words first seen gates after r
   opened-read seen after r e h = rw (opening s e) at h
 
 -- ---- the operands of an expression, which stand at place `start` behind its bracket
 
-module _ (s : List ℕ) (start n : ℕ) (names words : List ℕ) (first seen : ℕ) (before : List ℕ) where
+module _ (s : List ℕ) (start n : ℕ) (names words : List ℕ) (first : ℕ) (seen : Option ℕ) (before : List ℕ) where
   pub list-start : start ≤ length s → length no_words ≡ 4
       → ListOn s start n names words first seen before start 0 first seen before no_words
   list-start h z =
@@ -75,7 +71,7 @@ module _ (s : List ℕ) (start n : ℕ) (names words : List ℕ) (first seen : �
             };
       }
 
-  module _ (at count closed missing : ℕ) (gates slots : List ℕ)
+  module _ (at count closed : ℕ) (missing : Option ℕ) (gates slots : List ℕ)
       (on : ListOn s start n names words first seen before at count closed missing gates slots) where
     -- ---- another operand stands here
 

@@ -6,6 +6,8 @@ use mathlib.Core.Bool.{true}
 use mathlib.Core.List.{List, [], ◌∷◌, ◌++◌, map, map-append, map-map}
 use Prim.Native.Nat.{ℕ, suc, ◌+◌, ◌-◌, ◌*◌, ◌≤◌}
 use native.Mathlib.Omega.{arith}
+use Rattle.std.specs.declared.option.Option.{Option}
+use Rattle.std.specs.declared.option.Option.TheVariants.{None}
 use lib.ListN.{length, take, drop, length-map, length-append, take-append-drop}
 use lib.Seq.{take-take, take_at}
 use Rattle.prelude.specs.Lists.{all}
@@ -234,14 +236,16 @@ module _ {t : Tree} {text : List ℕ} {end : ℕ} {c : Counts} {names words : Li
     -- ---- what they have done
 
     pub gates-done : (gates gates' : List ℕ) (walked : Walked)
-        → LinesRead gate_form c.named rest_from c.inputs (take nodes names) (take nodes words) 0 gates gates' walked
-        → LinesDone gate_form c.inputs (bindings t) t.gates (gate_lines_at t) gates_text outputs_text 0 0 gates gates'
+        → LinesRead gate_form c.named rest_from c.inputs (take nodes names) (take nodes words) None gates gates' walked
+        → LinesDone gate_form c.inputs (bindings t) t.gates (gate_lines_at t) gates_text outputs_text 0 None gates
+        gates'
         walked
     gates-done gates gates' walked r =
         let r' = rw gates-rest at r in
         r'.done (bindings t) t.gates outputs_text (gate_lines_at t) node-table gates-lines (sym gate-count)
 
-    pub outputs-done : (left seen : ℕ) (outputs outputs' : List ℕ) (last : Walked) → left ≡ length outputs_text
+    pub outputs-done : (left : ℕ) (seen : Option ℕ) (outputs outputs' : List ℕ) (last : Walked) → left ≡ length
+        outputs_text
         → LinesRead output_form c.outputs (rest left) c.inputs (take nodes names) (take nodes words) seen outputs
         outputs' last
         → LinesDone output_form c.inputs (bindings t) t.outputs (output_lines_at t) outputs_text [] 0 seen outputs

@@ -1,6 +1,6 @@
 -- What the walk over lines has to show, once for every form of line: a line's legal print, its words, and the names
 -- that it uses. Assumes nothing.
-use Rattle.std.specs.Prelude.{ℕ, ◌+◌, ◌-◌, ◌*◌, ◌≤◌, ◌≡◌, Bool, true, List, [], ◌∷◌, ◌++◌, map, length, drop}
+use Rattle.std.specs.Prelude.{Option, ℕ, ◌+◌, ◌-◌, ◌*◌, ◌≤◌, ◌≡◌, Bool, true, List, [], ◌∷◌, ◌++◌, map, length, drop}
 use Rattle.std.proofs.lemmas.List.Edits.{sets}
 use Rattle.prelude.specs.Lists.{all, sum}
 use Rattle.netlist.specs.Limits.{max_inputs}
@@ -69,7 +69,7 @@ module _ {A : Type 0} (F : LineForm A) where
     pub inputs : n ≤ max_inputs
     pub room : entry_size * most ≤ length array
 
-  pub record LineDone (n : ℕ) (bs : List Binding) (x : A) (at : ℕ) (s rest : List ℕ) (first seen : ℕ)
+  pub record LineDone (n : ℕ) (bs : List Binding) (x : A) (at : ℕ) (s rest : List ℕ) (first : ℕ) (seen : Option ℕ)
       (before after : List ℕ) (r : Walked)
       : Type 0 where
     pub left : r.left ≡ length rest
@@ -77,7 +77,7 @@ module _ {A : Type 0} (F : LineForm A) where
     pub unknown : r.unknown ≡ unknown_after seen bs (F.uses x at) (at + length s)
     pub words : after ≡ sets before (entry_size * first) (F.words n bs x first)
 
-  pub record LineRead (s : List ℕ) (n : ℕ) (names words : List ℕ) (first seen : ℕ) (before after : List ℕ)
+  pub record LineRead (s : List ℕ) (n : ℕ) (names words : List ℕ) (first : ℕ) (seen : Option ℕ) (before after : List ℕ)
       (r : Walked) : Type 0 where
     pub done : (bs : List Binding) (x : A) (rest : List ℕ) (at : ℕ) → Table n bs names words → LineAt x rest s
         → LineDone n bs x at s rest first seen before after r
@@ -106,7 +106,8 @@ module _ {A : Type 0} (F : LineForm A) where
     pub inputs : n ≤ max_inputs
     pub room : entry_size * most ≤ length array
 
-  pub record LinesDone (n : ℕ) (bs : List Binding) (xs : List A) (at : ℕ) (s rest : List ℕ) (first seen : ℕ)
+  pub record LinesDone (n : ℕ) (bs : List Binding) (xs : List A) (at : ℕ) (s rest : List ℕ) (first : ℕ)
+      (seen : Option ℕ)
       (before after : List ℕ) (r : Walked)
       : Type 0 where
     pub left : r.left ≡ length rest
@@ -114,7 +115,7 @@ module _ {A : Type 0} (F : LineForm A) where
     pub unknown : r.unknown ≡ unknown_after seen bs (mentions F.printed F.uses xs at) (at + length s)
     pub words : after ≡ sets before (entry_size * first) (lines_words n bs xs first)
 
-  pub record LinesRead (count : ℕ) (s : List ℕ) (n : ℕ) (names words : List ℕ) (seen : ℕ) (before after : List ℕ)
+  pub record LinesRead (count : ℕ) (s : List ℕ) (n : ℕ) (names words : List ℕ) (seen : Option ℕ) (before after : List ℕ)
       (r : Walked) : Type 0 where
     pub done : (bs : List Binding) (xs : List A) (rest : List ℕ) (at : ℕ) → Table n bs names words → LinesAt xs rest s
         → length xs ≡ count
@@ -122,9 +123,10 @@ module _ {A : Type 0} (F : LineForm A) where
 
   -- ---- the walk in the middle of the lines: `i` lines are done, `left` bytes are left
 
-  pub record LinesNow (count : ℕ) (s : List ℕ) (seen : ℕ) (before : List ℕ) (n : ℕ) (bs : List Binding) (xs : List A)
+  pub record LinesNow (count : ℕ) (s : List ℕ) (seen : Option ℕ) (before : List ℕ) (n : ℕ) (bs : List Binding)
+      (xs : List A)
       (rest : List ℕ)
-      (at i left first unknown : ℕ) (array : List ℕ) : Type 0 where
+      (at i left first : ℕ) (unknown : Option ℕ) (array : List ℕ) : Type 0 where
     pub others : List A
     pub here : LinesAt others rest (drop (length s - left) s)
     pub counted : i + length others ≡ count
@@ -133,8 +135,8 @@ module _ {A : Type 0} (F : LineForm A) where
         → LinesDone n bs others (at + (length s - left)) (drop (length s - left) s) rest first unknown array after r
         → LinesDone n bs xs at s rest 0 seen before after r
 
-  pub record LinesOn (count : ℕ) (s : List ℕ) (n : ℕ) (names words : List ℕ) (seen : ℕ) (before : List ℕ)
-      (i left first unknown : ℕ)
+  pub record LinesOn (count : ℕ) (s : List ℕ) (n : ℕ) (names words : List ℕ) (seen : Option ℕ) (before : List ℕ)
+      (i left first : ℕ) (unknown : Option ℕ)
       (array : List ℕ) : Type 0 where
     pub within : left ≤ length s
     pub same : length array ≡ length before

@@ -4,7 +4,7 @@ use Rattle.std.specs.Prelude.{ℕ, ◌*◌, ◌≤◌, ◌≡◌, false, List, m
 use Rattle.std.proofs.Math.Option.{Option}
 use Rattle.prelude.specs.Lists.{placed, joined}
 use Rattle.netlist.specs.declared.Refusal.TheVariants.{UndeclaredName}
-use Rattle.words_refusals.specs.declared.Test.{Test}
+use Rattle.words_refusals.specs.Tests.{Test}
 use Rattle.words_refusals.specs.Tests.{test_at}
 use Rattle.netlist.specs.Limits.{max_gates, max_outputs}
 use Rattle.netlist.specs.StoredBlock.{output_size, gate_size, gate_words, output_words}

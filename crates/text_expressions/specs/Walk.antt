@@ -1,8 +1,10 @@
 -- What the walk over the operands of a text that is known to be a print has to show of each term, each operand list,
 -- each line and all lines. "Bytes left" say places: they do not change when the rest of a text is lent. Assumes
 -- nothing.
-use Rattle.std.specs.Prelude.{ℕ, suc, ◌+◌, ◌-◌, ◌*◌, ◌≤◌, ◌≡◌, true, false, List, [], ◌∷◌, ◌++◌, map, length, drop}
-use Rattle.std.proofs.Math.Option.{Option, none, some}
+use Rattle.std.specs.Prelude.{ℕ, ◌+◌, ◌-◌, ◌*◌, ◌≤◌, ◌≡◌, true, false, List, [], ◌∷◌, ◌++◌, map, length, drop}
+use Rattle.std.specs.Prelude.{Option, None, Some}
+use Rattle.std.specs.Option.{option_or}
+use Rattle.std.proofs.Math.Option.{Option as Place, none, some}
 use Rattle.std.proofs.lemmas.List.Edits.{sets}
 use Rattle.prelude.specs.Lists.{ascii, all, joined}
 use Rattle.netlist.specs.Limits.{max_inputs, max_gates}
@@ -15,19 +17,18 @@ use Rattle.netlist.specs.Reading.{term_node, terms_nodes, term_gates}
 use Rattle.netlist.specs.Reading.{terms_gates}
 use Rattle.text_names.specs.Packed.{packed}
 use Rattle.text_expressions.specs.declared.walk.Found.{Found}
-use Rattle.text_expressions.specs.Leaves.{earlier}
 
--- one more than the bytes left from a place on, of a text of this length; 0 where there is no place
-unfoldable pub left_of : ℕ → Option ℕ → ℕ
-left_of total none = 0
-left_of total (some place) = suc (total - place)
+-- the bytes left from a place on, of a text of this length, where there is a place
+unfoldable pub left_of : ℕ → Place ℕ → Option ℕ
+left_of total none = None
+left_of total (some place) = Some (total - place)
 
 unfoldable pub declared_names : List Binding → List Name
 declared_names bs = map (λ (b : Binding). b.name) bs
 
 -- the first of these names that is not declared, behind one that was found before
-unfoldable pub unknown_after : ℕ → List Binding → List Mention → ℕ → ℕ
-unknown_after unknown bs mentions total = earlier unknown (left_of total (first_outside (declared_names bs) mentions))
+unfoldable pub unknown_after : Option ℕ → List Binding → List Mention → ℕ → Option ℕ
+unknown_after unknown bs mentions total = option_or unknown (left_of total (first_outside (declared_names bs) mentions))
 
 -- the words of some gates
 unfoldable pub gates_words : ℕ → List Gate → List ℕ
@@ -64,7 +65,7 @@ pub record TermHere (s : List ℕ) (n : ℕ) (names words : List ℕ) (first : �
   pub inputs : n ≤ max_inputs
   pub room : gate_size * max_gates ≤ length gates
 
-pub record TermDone (n : ℕ) (bs : List Binding) (o : Term) (at : ℕ) (s rest : List ℕ) (first seen : ℕ)
+pub record TermDone (n : ℕ) (bs : List Binding) (o : Term) (at : ℕ) (s rest : List ℕ) (first : ℕ) (seen : Option ℕ)
     (before after : List ℕ) (r : Found)
     : Type 0 where
   pub left : r.left ≡ length rest
@@ -74,7 +75,7 @@ pub record TermDone (n : ℕ) (bs : List Binding) (o : Term) (at : ℕ) (s rest 
   pub words : after ≡ sets before (gate_size * first) (gates_words n (term_gates o bs first))
 
 -- what reading a term gives, of whatever term and bindings it is
-pub record TermRead (s : List ℕ) (n : ℕ) (names words : List ℕ) (first unknown : ℕ) (before after : List ℕ)
+pub record TermRead (s : List ℕ) (n : ℕ) (names words : List ℕ) (first : ℕ) (unknown : Option ℕ) (before after : List ℕ)
     (r : Found) : Type 0 where
   pub done : (bs : List Binding) (o : Term) (depth : ℕ) (rest : List ℕ) (at : ℕ) → Table n bs names words
       → TermAt o depth rest s
@@ -88,9 +89,10 @@ pub record TermsAt (os : Terms) (depth : ℕ) (rest s : List ℕ) : Type 0 where
 
 -- the operands of s from here on are read: so many operands stand before them, and so many gates have closed behind
 -- them
-pub record TermsDone (n : ℕ) (bs : List Binding) (os : Terms) (at : ℕ) (s rest : List ℕ) (first seen i : ℕ)
+pub record TermsDone (n : ℕ) (bs : List Binding) (os : Terms) (at : ℕ) (s rest : List ℕ) (first : ℕ)
+    (seen : Option ℕ) (i : ℕ)
     (before after : List ℕ)
-    (slots filled : List ℕ) (left count gates unknown : ℕ) : Type 0 where
+    (slots filled : List ℕ) (left count gates : ℕ) (unknown : Option ℕ) : Type 0 where
   pub left_is : left ≡ length rest
   pub count_is : count ≡ i + term_count os
   pub gates_are : gates ≡ first + gates_inside os
@@ -104,21 +106,22 @@ pub record TermsDone (n : ℕ) (bs : List Binding) (os : Terms) (at : ℕ) (s re
 abbrev pub no_words : List ℕ
 no_words = 0 ∷ 0 ∷ 0 ∷ 0 ∷ []
 
-pub record ListNow (s : List ℕ) (start first seen : ℕ) (before : List ℕ) (n : ℕ) (bs : List Binding) (os : Terms)
+pub record ListNow (s : List ℕ) (start first : ℕ) (seen : Option ℕ) (before : List ℕ) (n : ℕ) (bs : List Binding)
+    (os : Terms)
     (depth : ℕ) (rest : List ℕ)
-    (base at count closed missing : ℕ) (gates slots : List ℕ) : Type 0 where
+    (base at count closed : ℕ) (missing : Option ℕ) (gates slots : List ℕ) : Type 0 where
   pub others : Terms
   pub here : TermsAt others depth rest (drop at s)
   pub counted : count + term_count others ≡ term_count os
   pub costs : closed + gates_inside others ≡ first + gates_inside os
-  pub onward : (after filled : List ℕ) (left number made unknown : ℕ)
+  pub onward : (after filled : List ℕ) (left number made : ℕ) (unknown : Option ℕ)
       → TermsDone n bs others (base + at) (drop at s) rest closed missing count gates after slots filled left number
       made unknown
       → TermsDone n bs os (base + start) (drop start s) rest first seen 0 before after no_words filled left number made
       unknown
 
-pub record ListOn (s : List ℕ) (start n : ℕ) (names words : List ℕ) (first seen : ℕ) (before : List ℕ)
-    (at count closed missing : ℕ)
+pub record ListOn (s : List ℕ) (start n : ℕ) (names words : List ℕ) (first : ℕ) (seen : Option ℕ) (before : List ℕ)
+    (at count closed : ℕ) (missing : Option ℕ)
     (gates slots : List ℕ) : Type 0 where
   pub within : start ≤ at
   pub inside : at ≤ length s

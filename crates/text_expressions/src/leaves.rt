@@ -1,21 +1,21 @@
 // What an operand that is no expression stands for, at the front of a text: a name, looked up by the index, or a
 // constant.
 ghost use Rattle.std.specs.Prelude.{◌≡◌, length};
-ghost use Rattle.text_names.specs.Index.{Indexed};
-ghost use Rattle.text_expressions.specs.Leaves.{earlier, name_here, leaf_here};
+ghost use Rattle.text_expressions.specs.Leaves.{IndexHolds, name_here, leaf_here};
 
+use crate::symbols::Symbols;
 use text_names::index::find_indexed;
 use text_names::pack::{name_length, pack_first};
 use words_layout::bytes::byte_at;
 use words_layout::nodes::{CONSTANT_0, CONSTANT_1};
 
-// A name or a constant: the bytes left behind it, its node's word, and one more than the bytes left from the first
-// undeclared name on, or 0.
+// A name or a constant: the bytes left behind it, its node's word, and the bytes left from the first undeclared name
+// on, where there is one.
 #[derive(Drop)]
 pub struct Leaf {
     pub left: usize,
     pub word: u16,
-    pub unknown: usize,
+    pub unknown: Option<usize>,
 }
 
 // The words of the constants.
@@ -23,44 +23,32 @@ const ZERO: u16 = CONSTANT_0 as u16;
 
 const ONE: u16 = CONSTANT_1 as u16;
 
-// The first of two numbers that is not 0.
-fn earlier(first: usize, later: usize) -> usize
-    ensures { result ≡ earlier first later }
-{
-    if first == 0 { later } else { first }
-}
-
 // A name, looked up in the table through its index; one that is not there counts as constant 0.
-pub fn name_here(s: &[u8], names: &[u64], words: &[u16], index: &[u16], unknown: usize) -> Leaf
-    requires words_len { length words.now ≡ length names.now }
-    requires indexed { Indexed names.now (length names.now) index.now }
-    ensures { result ≡ name_here s.now names.now words.now unknown }
+pub fn name_here(s: &[u8], symbols: &Symbols, unknown: Option<usize>) -> Leaf
+    requires indexed { IndexHolds symbols.now }
+    ensures { result ≡ name_here s.now symbols.now.names.now symbols.now.words.now unknown }
 {
     let length = name_length(s);
     let left = s.len() - length;
-    let i = find_indexed(names, index, pack_first(s, length));
-    if i < names.len() {
-        let word = words[i];
-        let unknown = earlier(unknown, 0);
+    let i = find_indexed(symbols.names, symbols.index, pack_first(s, length));
+    if i < symbols.names.len() {
         return Leaf {
             left,
-            word,
+            word: symbols.words[i],
             unknown,
         };
     }
-    let unknown = earlier(unknown, s.len() + 1);
     Leaf {
         left,
         word: ZERO,
-        unknown,
+        unknown: unknown.or(Some(s.len())),
     }
 }
 
 // What an operand stands for that is no expression: a name, `0` or `1`.
-pub fn leaf_here(s: &[u8], names: &[u64], words: &[u16], index: &[u16], unknown: usize) -> Leaf
-    requires words_len { length words.now ≡ length names.now }
-    requires indexed { Indexed names.now (length names.now) index.now }
-    ensures { result ≡ leaf_here s.now names.now words.now unknown }
+pub fn leaf_here(s: &[u8], symbols: &Symbols, unknown: Option<usize>) -> Leaf
+    requires indexed { IndexHolds symbols.now }
+    ensures { result ≡ leaf_here s.now symbols.now.names.now symbols.now.words.now unknown }
 {
     let c = byte_at(s, 0);
     let left = s.len();
@@ -78,5 +66,5 @@ pub fn leaf_here(s: &[u8], names: &[u64], words: &[u16], index: &[u16], unknown:
             unknown,
         };
     }
-    name_here(s, names, words, index, unknown)
+    name_here(s, symbols, unknown)
 }

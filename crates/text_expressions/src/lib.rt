@@ -8,13 +8,14 @@ ghost use Rattle.text_expressions.specs.Resolution.{ResolveReady, Resolved};
 
 use lines::{gate_lines, output_lines};
 use netlist::Refusal;
+use symbols::Symbols;
 use text_lines::counts::Counts;
 use words_layout::limits::MAX_GATES;
 use words_layout::offsets::GATE_SIZE;
-use words_refusals::Test;
 
 mod leaves;
 mod lines;
+mod symbols;
 mod walk;
 
 // A line, or some lines: the bytes left behind them, the gates or outputs up to there, and `unknown` as in `Found` of
@@ -23,7 +24,7 @@ mod walk;
 pub struct Walked {
     pub left: usize,
     pub number: usize,
-    pub unknown: usize,
+    pub unknown: Option<usize>,
 }
 
 // Fills in the words of gates and outputs of a text with these counts, whose gate lines start at `end`, and these
@@ -38,7 +39,7 @@ pub fn resolve(
     index: &[u16],
     gates: &mut [u16; GATE_SIZE * MAX_GATES],
     outputs: &mut [u16],
-) -> Test
+) -> Result<(), Refusal>
     requires resolve_ready { ResolveReady text.now end c names.now words.now gates.old outputs.old }
     requires nodes_indexed { NodesIndexed c names.now index.now }
     ensures { Resolved text.now end c names.now words.now gates.old
@@ -48,26 +49,21 @@ pub fn resolve(
     let length = text.len();
     let n = c.inputs;
     let nodes = n + c.named;
-    let walked = gate_lines(
-        &text[end..],
-        c.named,
-        n,
-        &names[..nodes],
-        &words[..nodes],
+    let symbols = Symbols {
+        names: &names[..nodes],
+        words: &words[..nodes],
         index,
-        gates,
-    );
+    };
+    let walked = gate_lines(&text[end..], c.named, n, &symbols, gates);
     let last = output_lines(
         &text[length - walked.left..],
         c.outputs,
-        &names[..nodes],
-        &words[..nodes],
-        index,
+        &symbols,
         walked.unknown,
         outputs,
     );
-    if last.unknown == 0 {
-        return Test::Passed;
+    match last.unknown {
+        None => Ok(()),
+        Some(left) => Err(Refusal::UndeclaredName(length - left)),
     }
-    Test::Failed(Refusal::UndeclaredName(length + 1 - last.unknown))
 }

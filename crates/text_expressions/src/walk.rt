@@ -4,24 +4,25 @@
 ghost use Rattle.std.specs.Prelude.{◌≡◌, ◌∷◌, ◌+◌, ◌*◌, ◌≤◌, length};
 ghost use Rattle.std.proofs.lemmas.List.Edits.{sets};
 ghost use Rattle.netlist.specs.StoredBlock.{gate_size};
-ghost use Rattle.text_names.specs.Index.{Indexed};
+ghost use Rattle.text_expressions.specs.Leaves.{IndexHolds};
 ghost use Rattle.text_expressions.specs.Walk.{TermHere, TermRead};
 
 use crate::leaves::leaf_here;
+use crate::symbols::Symbols;
 use text_recogniser::keywords::{kind_here, word_length};
 use words_layout::bytes::byte_at;
 use words_layout::limits::MAX_GATES;
 use words_layout::offsets::{GATE_SIZE, OPERAND_WORDS};
 
-// An operand: the bytes left behind it, its node's word, the gates that have closed, and one more than the bytes left
-// from the first undeclared name on, or 0. The word stands between the last two: side by side, they are read back in
+// An operand: the bytes left behind it, its node's word, the gates that have closed, and the bytes left from the first
+// undeclared name on, where there is one. The word stands between the last two: side by side, they are read back in
 // one piece, which waits for both stores.
 #[derive(Drop)]
 pub struct Found {
     pub left: usize,
     pub gates: usize,
     pub word: u16,
-    pub unknown: usize,
+    pub unknown: Option<usize>,
 }
 
 // Writes a gate's five words.
@@ -46,21 +47,19 @@ pub fn operand(
     s: &[u8],
     n: usize,
     first: usize,
-    unknown: usize,
-    names: &[u64],
-    words: &[u16],
-    index: &[u16],
+    unknown: Option<usize>,
+    symbols: &Symbols,
     gates: &mut [u16; GATE_SIZE * MAX_GATES],
 ) -> Found
-    requires term_here { TermHere s.now n names.now words.now first gates.old }
-    requires indexed { Indexed names.now (length names.now) index.now }
-    ensures { TermRead s.now n names.now words.now first unknown
+    requires term_here { TermHere s.now n symbols.now.names.now symbols.now.words.now first gates.old }
+    requires indexed { IndexHolds symbols.now }
+    ensures { TermRead s.now n symbols.now.names.now symbols.now.words.now first unknown
         gates.old gates.new result }
 {
     if byte_at(s, 0) == b'(' {
-        return expression(&s[1..], n, first, unknown, names, words, index, gates);
+        return expression(&s[1..], n, first, unknown, symbols, gates);
     }
-    let leaf = leaf_here(s, names, words, index, unknown);
+    let leaf = leaf_here(s, symbols, unknown);
     Found {
         left: leaf.left,
         word: leaf.word,
@@ -75,15 +74,13 @@ pub fn expression(
     s: &[u8],
     n: usize,
     first: usize,
-    unknown: usize,
-    names: &[u64],
-    words: &[u16],
-    index: &[u16],
+    unknown: Option<usize>,
+    symbols: &Symbols,
     gates: &mut [u16; GATE_SIZE * MAX_GATES],
 ) -> Found
-    requires term_here { TermHere (40 ∷ s.now) n names.now words.now first gates.old }
-    requires indexed { Indexed names.now (length names.now) index.now }
-    ensures { TermRead (40 ∷ s.now) n names.now words.now first unknown
+    requires term_here { TermHere (40 ∷ s.now) n symbols.now.names.now symbols.now.words.now first gates.old }
+    requires indexed { IndexHolds symbols.now }
+    ensures { TermRead (40 ∷ s.now) n symbols.now.names.now symbols.now.words.now first unknown
         gates.old gates.new result }
 {
     let kind = kind_here(s);
@@ -92,8 +89,9 @@ pub fn expression(
     let mut count = 0;
     let mut closed = first;
     let mut missing = unknown;
+    // How many operands there are is known only at the bracket, so a range would be no plainer.
     while byte_at(s, at) != b')' {
-        let one = operand(&s[at + 1..], n, closed, missing, names, words, index, gates);
+        let one = operand(&s[at + 1..], n, closed, missing, symbols, gates);
         slots[count] = one.word;
         at = s.len() - one.left;
         closed = one.gates;

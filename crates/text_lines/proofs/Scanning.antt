@@ -1,8 +1,8 @@
 -- What one more byte adds to a count, to a line's length and to a line's brackets: the turns of the loops over bytes.
 -- Assumes nothing.
-use Prim.Native.Nat.{ℕ, zero, suc, ◌+◌, ◌-◌, ◌≤◌, ◌<◌}
+use Prim.Native.Nat.{ℕ, zero, suc, ◌+◌, ◌≤◌, ◌<◌}
 use mathlib.Core.Path.{◌≡◌, refl}
-use mathlib.Core.Bool.{Bool, true, false, cond, ◌||◌, true≢false}
+use mathlib.Core.Bool.{Bool, true, false, cond, not, ◌||◌, true≢false}
 use mathlib.Core.List.{List, [], ◌∷◌}
 use native.Mathlib.Numerals.{add-one}
 use native.Mathlib.Omega.{arith}
@@ -11,6 +11,7 @@ use lib.Seq.{drop-cons}
 use lib.Dec.{eqb}
 use borrow.Author.Tests.{eqb-true, eqb-false, ne_eqb}
 use borrow.Author.Count.{below_more}
+use Rattle.std.specs.List.{filter, prefix_len}
 use Rattle.text_lines.specs.Lines.{times, NoLf, length_with_lf, line_opens}
 
 module _ (s : List ℕ) (i : ℕ) (inside : i < length s) where
@@ -29,17 +30,6 @@ module _ (s : List ℕ) (i : ℕ) (inside : i < length s) where
       → i + 1 + length_with_lf (drop (i + 1) s) ≡ length_with_lf s
   length_more e h =
       let d : length_with_lf (drop i s) ≡ suc (length_with_lf (drop (i + 1) s)) =
-      rw (add-one, drop-cons s i 0, ne_eqb (get_or s i 0) 10 e) in
-      omega arith
-
-  pub opens-last : (n : ℕ) → get_or s i 0 ≡ 10 → n + line_opens (drop i s) ≡ line_opens s → n ≡ line_opens s
-  opens-last n e h = let d : line_opens (drop i s) ≡ 0 = rw (drop-cons s i 0, e) in omega arith
-
-  pub opens-more : (n one : ℕ) → (get_or s i 0 ≡ 10 → ⊥) → n + line_opens (drop i s) ≡ line_opens s
-      → one ≡ cond (eqb (get_or s i 0) 40) 1 0
-      → n + one + line_opens (drop (i + 1) s) ≡ line_opens s
-  opens-more n one e h v =
-      let d : line_opens (drop i s) ≡ cond (eqb (get_or s i 0) 40) 1 0 + line_opens (drop (i + 1) s) =
       rw (add-one, drop-cons s i 0, ne_eqb (get_or s i 0) 10 e) in
       omega arith
 
@@ -83,9 +73,6 @@ module _ (s : List ℕ) (i n : ℕ) (end : length s ≤ i) where
   pub length-end : n + length_with_lf (drop i s) ≡ length_with_lf s → n ≡ length_with_lf s
   length-end h = let d : length_with_lf (drop i s) ≡ 0 = rw nothing_left in omega arith
 
-  pub opens-end : n + line_opens (drop i s) ≡ line_opens s → n ≡ line_opens s
-  opens-end h = let d : line_opens (drop i s) ≡ 0 = rw nothing_left in omega arith
-
 -- a count of one byte is at most 1
 pub one-le : (b : Bool) → cond b 1 0 ≤ 1
 one-le true = omega arith
@@ -109,6 +96,26 @@ line_opens-le (x ∷ xs) = go (eqb x 10) (eqb x 40) (line_opens-le xs)
     go true d h = omega arith
     go false true h = omega arith
     go false false h = omega arith
+
+-- the brackets among the bytes before the first LF
+pub opens-taken : (s : List ℕ)
+    → length (filter (λ x. eqb x 40) (take (prefix_len (λ x. not (eqb x 10)) s) s)) ≡ line_opens s
+opens-taken [] = refl
+opens-taken (x ∷ xs) = go (eqb x 10) (opens-taken xs)
+  where
+    one : (d : Bool) (ys : List ℕ) → length ys ≡ line_opens xs
+        → length (cond d (x ∷ ys) ys) ≡ cond d 1 0 + line_opens xs
+    one true ys h = omega (arith, h)
+    one false ys h = omega (arith, h)
+
+    go : (b : Bool) → length (filter (λ x. eqb x 40) (take (prefix_len (λ x. not (eqb x 10)) xs) xs)) ≡ line_opens xs
+        → length (filter (λ x. eqb x 40) (take (cond (not b) (1 + prefix_len (λ x. not (eqb x 10)) xs) 0) (x ∷ xs)))
+        ≡ cond b 0 (cond (eqb x 40) 1 0 + line_opens xs)
+    go true h = refl
+    go false h =
+        let n = prefix_len (λ x. not (eqb x 10)) xs in
+        let e : 1 + n ≡ suc n = omega arith in
+        rw e (one (eqb x 40) (filter (λ x. eqb x 40) (take n xs)) h)
 
 -- a line at the front is a part of so many bytes
 pub line-part : (s : List ℕ) {end : ℕ} → end ≡ length_with_lf s → end ≡ length (take end s)

@@ -1,18 +1,15 @@
 -- The counts that the bytes of a tree's text give are the tree's, and so are the limits. Assumes nothing.
 use Prim.Native.Nat.{ℕ, ◌+◌, ◌-◌, ◌≤◌}
-use mathlib.Core.Path.{◌≡◌, refl, ap, ◌∙◌}
-use mathlib.Core.Bool.{Bool, true, false}
+use mathlib.Core.Path.{◌≡◌, refl, ◌∙◌}
+use mathlib.Core.Bool.{Bool, true}
 use mathlib.Core.List.{List, [], ◌∷◌, map, map-append}
 use native.Mathlib.Omega.{arith}
 use lib.ListN.{length, drop, length-append, length-map}
 use Rattle.prelude.specs.Lists.{all, sum}
 use Rattle.prelude.proofs.Tests.{and_left, and_right}
 use Rattle.prelude.proofs.Lists.{sum-append}
-use Rattle.netlist.specs.Limits.{max_text, max_inputs, max_gates, max_outputs}
 use Rattle.netlist.specs.Syntax.{GateLine, Tree, is_legal_gate, is_legal_output}
-use Rattle.netlist.specs.Reading.{line_gates, gate_lines_at, output_lines_at, is_over_limit}
-use Rattle.theory_grammar.proofs.Limits.{limits-within}
-use Rattle.theory_grammar.proofs.Places.{print-measure}
+use Rattle.netlist.specs.Reading.{line_gates, gate_lines_at, is_over_limit}
 use Rattle.text_lines.specs.Lines.{times}
 use Rattle.text_lines.specs.Trees.{input_line_text, gate_line_text, output_line_text, input_lines, lines_behind, TextOf}
 use Rattle.text_lines.specs.Counting.{counts_of, tree_counts, is_over}

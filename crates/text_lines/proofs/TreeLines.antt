@@ -6,8 +6,7 @@ use mathlib.Core.Bool.{Bool, true, false, ◌&&◌, false≢true}
 use mathlib.Core.List.{List, [], ◌∷◌, ◌++◌, map, append_assoc, append-nil}
 use native.Mathlib.Nat.{mul-zero, mul-suc, mul-add}
 use native.Mathlib.Omega.{arith}
-use lib.ListN.{length, get_or, drop}
-use lib.Dec.{leb}
+use lib.ListN.{drop}
 use borrow.Author.Tests.{ne_eqb}
 use Rattle.prelude.specs.Lists.{ascii, all, joined}
 use Rattle.prelude.proofs.Quantifiers.{all_append}

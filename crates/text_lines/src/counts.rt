@@ -8,10 +8,10 @@ ghost use Rattle.netlist.specs.Reading.{gate_lines_at, is_over_limit};
 ghost use Rattle.text_lines.specs.Trees.{TextOf};
 ghost use Rattle.text_lines.specs.Counting.{times_behind, counts_of, tree_counts, is_over};
 
-use crate::{count, minus, one_if};
+use crate::{count, one_if};
 use netlist::Refusal;
 use words_layout::limits::{MAX_GATES, MAX_INPUTS, MAX_NEVERS, MAX_OUTPUTS};
-use words_refusals::{Test, refuse_if};
+use words_refusals::refuse_if;
 
 // What a text has: input lines, never lines, lines of named gates, output lines, and gates, inner ones counted.
 #[derive(Clone, Copy)]
@@ -29,10 +29,8 @@ fn count_behind(s: &[u8], a: u8, b: u8) -> usize
     ensures { result ≡ times_behind a b s.now }
 {
     let mut n: u16 = 0;
-    let mut i = 1;
-    while i < s.len() {
+    for i in 1..s.len() {
         n += (one_if(s[i - 1], a) * one_if(s[i], b)) as u16;
-        i += 1;
     }
     n as usize
 }
@@ -49,8 +47,8 @@ fn count_bytes(rest: &[u8], inputs: usize, nevers: usize) -> Counts
         inputs,
         nevers,
         named,
-        outputs: minus(lines, named),
-        gates: minus(count(rest, b'('), lines),
+        outputs: lines.saturating_sub(named),
+        gates: count(rest, b'(').saturating_sub(lines),
     }
 }
 
@@ -85,7 +83,7 @@ fn is_over(c: Counts) -> bool
 }
 
 // Refusal 3: more inputs, never lines, gates (inner ones counted) or outputs than the limits allow.
-pub fn limits(c: Counts) -> Test
+pub fn limits(c: Counts) -> Result<(), Refusal>
     ensures { (t : Tree) → c ≡ tree_counts t → result ≡ test_of (is_over_limit t) OverLimit }
 {
     refuse_if(is_over(c), Refusal::OverLimit)

@@ -25,23 +25,14 @@ pub fn one_if(a: u8, b: u8) -> usize
     if a == b { 1 } else { 0 }
 }
 
-// The difference of two numbers, or 0 where it would be below 0.
-pub fn minus(a: usize, b: usize) -> usize
-    ensures { result ≡ a - b }
-{
-    if b <= a { a - b } else { 0 }
-}
-
 // How often `b` stands in `s`. The count has 16 bits, so that a processor adds many at a time.
 pub fn count(s: &[u8], b: u8) -> usize
     requires { length s.now ≤ max_text }
     ensures { result ≡ times b s.now }
 {
     let mut n: u16 = 0;
-    let mut i = 0;
-    while i < s.len() {
-        n += one_if(s[i], b) as u16;
-        i += 1;
+    for x in s {
+        n += one_if(*x, b) as u16;
     }
     n as usize
 }
@@ -50,15 +41,14 @@ pub fn count(s: &[u8], b: u8) -> usize
 const PART: usize = 16;
 
 // Does an LF stand in the part from `at` on? Every byte of the part is looked at, so that no byte ends the loop early.
+// Not op_line's, which stands on netlist alone and looks at longer parts: its texts are passed whole, and not by lines.
 fn has_lf(s: &[u8], at: usize) -> bool
     requires { at + 16 ≤ length s.now }
     ensures { result ≡ false → NoLf s.now at 16 }
 {
     let mut found = false;
-    let mut i = 0;
-    while i < PART {
+    for i in 0..PART {
         found = found | (s[at + i] == b'\n');
-        i += 1;
     }
     found
 }
@@ -69,6 +59,7 @@ fn skip_parts(s: &[u8]) -> usize
         ≡ length_with_lf s.now) }
 {
     let mut i = 0;
+    // A while: each step is a whole part, and its place is the answer, so that a chain of parts would be no plainer.
     while PART <= s.len() - i {
         if has_lf(s, i) {
             return i;
@@ -82,14 +73,12 @@ fn skip_parts(s: &[u8]) -> usize
 fn line_length(s: &[u8]) -> usize
     ensures { result ≡ length_with_lf s.now }
 {
-    let mut i = skip_parts(s);
-    while i < s.len() {
+    for i in skip_parts(s)..s.len() {
         if s[i] == b'\n' {
             return i + 1;
         }
-        i += 1;
     }
-    i
+    s.len()
 }
 
 // Where the line that starts at `at` ends.
@@ -104,16 +93,10 @@ pub fn next_line(text: &[u8], at: usize) -> usize
 pub fn opens(s: &[u8]) -> usize
     ensures { result ≡ line_opens s.now }
 {
-    let mut n = 0;
-    let mut i = 0;
-    while i < s.len() {
-        if s[i] == b'\n' {
-            return n;
-        }
-        n += one_if(s[i], b'(');
-        i += 1;
-    }
-    n
+    s.iter()
+        .take_while(|b| **b != b'\n')
+        .filter(|b| **b == b'(')
+        .count()
 }
 
 // `(in `, `(gate ` or `(out ` stands before the name that a line declares.
@@ -136,6 +119,6 @@ pub fn line_of(s: &[u8]) -> Line
     Line {
         length,
         name,
-        gates: minus(count(&s[..length], b'('), 1),
+        gates: count(&s[..length], b'(').saturating_sub(1),
     }
 }

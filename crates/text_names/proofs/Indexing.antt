@@ -1,16 +1,15 @@
 -- Laws of the index of names.
---   Walking                             a walk goes on, to its end or to that of the index
+--   walk-to                             the search for an entry that stops a walk
 --   ends-one, ends-near, ends-inside    a name's walk ends at one place, not far behind the last hash, in the index
 --   index-hit, index-miss               what the entry at the walk's end says of the name
 --   repeats-hit, repeats-miss           and of the next name of the table
 --   held_more, index-more               one more name, stored at its walk's end
 --   index-none, held_new                an empty index
---   Holding                             the loop that enters names while there is room
 --   Entering                            the loop that enters name after name
 -- Assumes nothing.
-use Prim.Native.Nat.{ℕ, zero, suc, ◌+◌, ◌-◌, ◌≤◌, ◌<◌}
+use Prim.Native.Nat.{ℕ, zero, suc, ◌+◌, ◌-◌, ◌≤◌, ◌<◌, max}
 use mathlib.Core.Path.{◌≡◌, refl, sym, ◌∙◌}
-use mathlib.Core.Logic.{◌⊎◌, ⊎_elim}
+use mathlib.Core.Logic.{⊎_elim}
 use mathlib.Core.Bool.{Bool, true, false}
 use mathlib.Core.List.{List}
 use native.Mathlib.Nat.{le_antisymm, mod-lt}
@@ -21,10 +20,13 @@ use lib.Seq.{get_or-set_same, get_or-set_other}
 use lib.Dec.{eqb}
 use borrow.Author.Tests.{eqb-true, eq-eqb, lt-ltb, le-ltb}
 use Rattle.prelude.proofs.Tests.{not-both, not-true-false, lt-or-le, eq-or-ne}
+use Rattle.std.specs.declared.option.Option.{Option}
+use Rattle.std.specs.declared.option.Option.TheVariants.{None, Some}
 use Rattle.prelude.proofs.Least.{least-is}
+use Rattle.prelude.proofs.Places.{FoundFrom}
 use Rattle.text_names.specs.Search.{is_at, index_of, repeats_at}
-use Rattle.text_names.specs.Index.{hashes, hash_of, stops_at, WalkEnds, Stored, Indexed, NameEntered, AllEntered}
-use Rattle.text_names.specs.Index.{Held, EnteredIfRoom}
+use Rattle.text_names.specs.Index.{hashes, hash_of, stops_at, WalkEnds, WalkTo, Stored, Held, Indexed, NameEntered}
+use Rattle.text_names.specs.Index.{AllEntered}
 use Rattle.text_names.proofs.Searching.{Sought, sought-none, sought-more, sought-here, sought-all}
 
 hash-below : (name : ℕ) → hash_of name < hashes
@@ -52,35 +54,21 @@ stops-entry names name (suc i) ne = simp unary_clauses
 
 -- ---- a walk
 
--- a walk that goes on: every entry passed is another name's
-pub record Walking (names index : List ℕ) (name at : ℕ) : Type 0 where
-  pub from : hash_of name ≤ at
-  pub passed : (j : ℕ) → hash_of name ≤ j → j < at → stops_at names name (get_or index j 0) ≡ false
-
-pub walking-none : {names index : List ℕ} {name at : ℕ} → at ≡ hash_of name → Walking names index name at
-walking-none e = record { from = omega arith; passed = λ j a b. absurd (omega arith) }
-
-module _ {names index : List ℕ} {name at : ℕ} (w : Walking names index name at) where
-  -- one more entry is passed
-  pub walking-more : {r : Bool} → r ≡ stops_at names name (get_or index at 0) → r ≡ false
-      → Walking names index name (at + 1)
-  walking-more e t =
+-- the search for the first entry from the hash on that stops the walk
+pub walk-to : (names index : List ℕ) (name h : ℕ) (r : Option ℕ) → h ≡ hash_of name
+    → FoundFrom (λ at. stops_at names name (get_or index at 0)) h (length index) r → WalkTo names index name r
+walk-to names index name h (Some at) e found =
+    (found.below, record { from = omega (arith, found.from); passed = λ j a b. found.passed j (omega arith) b; stops = found.passes })
+walk-to names index name h None e found =
+    let end = max h (length index) in (
+      end,
+      omega arith,
       record {
-        from = let h = w.from in omega arith;
-        passed = λ j a b. ⊎_elim (λ (q : j ≡ at). rw q (sym e ∙ t)) (λ ne. w.passed j a (omega arith)) (eq-or-ne j at);
-      }
-
-  pub walking-stops : {r : Bool} → r ≡ stops_at names name (get_or index at 0) → r ≡ true → WalkEnds names index name at
-  walking-stops e t = record { from = w.from; passed = w.passed; stops = sym e ∙ t }
-
-  -- a walk that leaves the index ends there
-  pub walking-behind : length index ≤ at → WalkEnds names index name at
-  walking-behind l =
-      record {
-        from = w.from;
-        passed = w.passed;
-        stops = stops-none names name (get_or index at 0) (get_or-eq_default index 0 l);
-      }
+        from = omega arith;
+        passed = λ j a b. found j (omega arith) (omega arith);
+        stops = stops-none names name (get_or index end 0) (get_or-eq_default index 0 (omega arith));
+      },
+    )
 
 module _ (names index : List ℕ) (name : ℕ) where
   pub ends-one : (a b : ℕ) → WalkEnds names index name a → WalkEnds names index name b → a ≡ b
@@ -99,6 +87,10 @@ module _ (names index : List ℕ) (name : ℕ) where
   pub ends-inside : (count at : ℕ) → Indexed names count index → WalkEnds names index name at → at < length index
   ends-inside count at h f =
       let n = ends-near count at h f in let r = h.room in let s = h.few in let w = h.within in omega arith
+
+  -- an index with room for all has an entry at the walk's end
+  pub ends-here : (count : ℕ) → Indexed names count index → (at : ℕ) × (length index ≤ at) × WalkEnds names index name at → ⊥
+  ends-here count h (at, behind, f) = let l = ends-inside count at h f in omega arith
 
 pub held_of : {names : List ℕ} {count : ℕ} {index : List ℕ} → Indexed names count index → Held names count index
 held_of h = record { few = h.few; within = h.within; entries = h.entries; stored = h.stored }
@@ -258,14 +250,15 @@ held_new names n few =
 
 -- ---- the loop that enters name after name
 
--- i names are entered, and none of them repeats one before it
+-- i names are entered, and none of them repeats one before it; an index that had room for all still has
 pub record Entering (names index₀ : List ℕ) (i : ℕ) (index : List ℕ) : Type 0 where
   pub sized : length index ≡ length index₀
-  pub held : Indexed names i index
+  pub held : Held names i index
   pub sought : Sought (repeats_at names) (length names) i
+  pub indexed : Indexed names 0 index₀ → Indexed names i index
 
-pub entering-none : {names index : List ℕ} → Indexed names 0 index → Entering names index 0 index
-entering-none h = record { sized = refl; held = h; sought = sought-none }
+pub entering-none : {names index : List ℕ} → Held names 0 index → Entering names index 0 index
+entering-none h = record { sized = refl; held = h; sought = sought-none; indexed = λ x. x }
 
 module _ {names index₀ : List ℕ} {i : ℕ} {index : List ℕ} (h : Entering names index₀ i index) where
   module _ {after : List ℕ} {r : Bool} (told : NameEntered names i index after r) (l : i < length names) where
@@ -274,37 +267,18 @@ module _ {names index₀ : List ℕ} {i : ℕ} {index : List ℕ} (h : Entering 
 
     pub entering-more : r ≡ false → Entering names index₀ (i + 1) after
     entering-more e =
-        record { sized = still-sized; held = told.stored e; sought = sought-more h.sought l told.answer e }
+        record {
+          sized = still-sized;
+          held = told.stored e;
+          sought = sought-more h.sought l (sym (told.new e)) refl;
+          indexed = λ x. told.indexed (h.indexed x) e;
+        }
 
-    pub entering-repeat : r ≡ true → AllEntered names after i
-    entering-repeat e =
-        record { answer = sought-here h.sought l told.answer e; indexed = λ m. absurd (omega arith) }
+    pub entering-repeat : r ≡ true → Indexed names 0 index₀ → AllEntered names after i
+    entering-repeat e x =
+        record { answer = sought-here h.sought l (told.answer (h.indexed x)) e; indexed = λ m. absurd (omega arith) }
 
-  pub entering-all : length names ≤ i → AllEntered names index i
-  entering-all l =
-      let w = h.held.within in
-      let whole : i ≡ length names = omega arith in
-      record { answer = sought-all h.sought l; indexed = λ _. rw whole at h.held }
-
--- ---- the loop that enters names while there is room
-
-pub record Holding (names index₀ : List ℕ) (i : ℕ) (index : List ℕ) : Type 0 where
-  pub sized : length index ≡ length index₀
-  pub held : Held names i index
-  pub sought : Sought (repeats_at names) (length names) i
-
-pub holding-none : {names index : List ℕ} → Held names 0 index → Holding names index 0 index
-holding-none h = record { sized = refl; held = h; sought = sought-none }
-
-module _ {names index₀ : List ℕ} {i : ℕ} {index : List ℕ} (h : Holding names index₀ i index) {after : List ℕ} {r : Bool}
-    (told : EnteredIfRoom names i index after r) where
-  pub room-sized : length after ≡ length index₀
-  room-sized = told.sized ∙ h.sized
-
-  pub holding-more : i < length names → r ≡ false → Holding names index₀ (i + 1) after
-  holding-more l e =
-      record {
-        sized = room-sized;
-        held = told.stored e;
-        sought = sought-more h.sought l (sym (told.answer e)) refl;
-      }
+  pub entering-all : i ≡ length names → Indexed names 0 index₀ → AllEntered names index (length names)
+  entering-all e x =
+      let s : Sought (repeats_at names) (length names) (length names) = rw e at h.sought in
+      record { answer = sought-all s (omega arith); indexed = λ _. rw e at (h.indexed x) }

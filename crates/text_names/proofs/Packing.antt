@@ -3,10 +3,10 @@ use Prim.Native.Nat.{ℕ, zero, suc, ◌+◌, ◌-◌, ◌*◌, ◌≤◌, ◌<�
 use mathlib.Core.Path.{◌≡◌, refl, ap, ap₂, ◌∙◌}
 use mathlib.Core.Bool.{Bool, true, false, cond}
 use mathlib.Core.List.{List, [], ◌∷◌}
-use native.Mathlib.Numerals.{add-one}
 use native.Mathlib.Omega.{arith}
-use lib.ListN.{length, get_or, drop, drop_of_length-le}
+use lib.ListN.{length, get_or, take, drop}
 use lib.Seq.{drop-cons}
+use Rattle.std.specs.List.{prefix_len}
 use Rattle.prelude.specs.Lists.{all}
 use Rattle.prelude.proofs.Tests.{and_left, and_right, and_intro}
 use Rattle.netlist.specs.Names.{is_name_byte}
@@ -62,46 +62,17 @@ front-get_d (suc most) (x ∷ xs) i l = go (is_name_byte x) i l (front-get_d mos
     go true (suc i) l h = h i (omega arith)
     go false i l h = absurd (omega arith)
 
--- the turns of the loop that measures the front
-module _ (s : List ℕ) (most i : ℕ) where
-  pub front-start : 0 + length (name_front most (drop 0 s)) ≡ length (name_front most s)
-  front-start = omega arith
-
-  pub front_ends : length s ≤ i → i + length (name_front (most - i) (drop i s)) ≡ length (name_front most s)
-      → i ≡ length (name_front most s)
-  unfolding name_front
-  front_ends l h =
-      let e : length (name_front (most - i) (drop i s)) ≡ 0 = rw (drop_of_length-le s l) (none (most - i)) in omega arith
-    where
-      none : (k : ℕ) → length (name_front k []) ≡ 0
-      none zero = refl
-      none (suc k) = refl
-
-  pub front-full : most ≤ i → i + length (name_front (most - i) (drop i s)) ≡ length (name_front most s)
-      → i ≡ length (name_front most s)
-  unfolding name_front
-  front-full l h =
-      let z : most - i ≡ 0 = omega arith in let e : length (name_front (most - i) (drop i s)) ≡ 0 = rw z in omega arith
-
-  module _ (short : i < most) (inside : i < length s) where
-    left : most - i ≡ suc (most - (i + 1))
-    left = omega arith
-
-    pub front-stops : is_name_byte (get_or s i 0) ≡ false
-        → i + length (name_front (most - i) (drop i s)) ≡ length (name_front most s) → i ≡ length (name_front most s)
-    unfolding name_front
-    front-stops e h =
-        let z : length (name_front (most - i) (drop i s)) ≡ 0 = rw (left, drop-cons s i 0, e) in omega arith
-
-    pub front_goes : is_name_byte (get_or s i 0) ≡ true
-        → i + length (name_front (most - i) (drop i s)) ≡ length (name_front most s)
-        → i + 1 + length (name_front (most - (i + 1)) (drop (i + 1) s)) ≡ length (name_front most s)
-    unfolding name_front
-    front_goes e h =
-        let z : length (name_front (most - i) (drop i s)) ≡ suc (length (name_front (most - (i + 1)) (drop (i + 1) s))) =
-        rw
-        (left, drop-cons s i 0, e, add-one) in
-        omega arith
+-- the bytes that `take_while` takes of the first so many
+pub front-taken : (most : ℕ) (xs : List ℕ) → prefix_len is_name_byte (take most xs) ≡ length (name_front most xs)
+unfolding name_front
+front-taken zero xs = refl
+front-taken (suc most) [] = refl
+front-taken (suc most) (x ∷ xs) = go (is_name_byte x) (front-taken most xs)
+  where
+    go : (b : Bool) → prefix_len is_name_byte (take most xs) ≡ length (name_front most xs)
+        → cond b (1 + prefix_len is_name_byte (take most xs)) 0 ≡ length (cond b (x ∷ name_front most xs) [])
+    go true h = omega (arith, h)
+    go false h = refl
 
 -- ---- numbers of names
 

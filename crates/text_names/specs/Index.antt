@@ -2,6 +2,8 @@
 -- Programming 3, 6.4). An entry is 0, or one more than the number of a name of the table. The walk of a name begins at
 -- its hash and goes on by one to the first entry that is 0 or that name's own. Assumes nothing.
 use Rattle.std.specs.Prelude.{ℕ, zero, suc, ◌+◌, ◌%◌, ◌≤◌, ◌<◌, ◌≡◌, Bool, true, false, List, length, get_or}
+use Rattle.std.specs.declared.option.Option.{Option}
+use Rattle.std.specs.Option.{MatchOption}
 use Rattle.prelude.specs.Lists.{least}
 use Rattle.text_names.specs.Search.{is_at, repeats_at}
 
@@ -27,6 +29,12 @@ pub record WalkEnds (names index : List ℕ) (name at : ℕ) : Type 0 where
   pub passed : (j : ℕ) → hash_of name ≤ j → j < at → stops_at names name (get_or index j 0) ≡ false
   pub stops : stops_at names name (get_or index at 0) ≡ true
 
+-- a name's walk ends at this entry of the index, or behind all of them
+abbrev pub WalkTo : List ℕ → List ℕ → ℕ → Option ℕ → Type 0
+WalkTo names index name r =
+    MatchOption r ((at : ℕ) × (length index ≤ at) × WalkEnds names index name at)
+    (λ at. (at < length index) × WalkEnds names index name at)
+
 -- the walk of name i ends at its own entry
 pub record Stored (names index : List ℕ) (i : ℕ) : Type 0 where
   pub at : ℕ
@@ -50,27 +58,19 @@ pub record Indexed (names : List ℕ) (count : ℕ) (index : List ℕ) : Type 0 
   pub beyond : (j : ℕ) → hashes + count ≤ j → get_or index j 0 ≡ 0
   pub stored : (i : ℕ) → i < count → Stored names index i
 
--- the names before name i are in the index
+-- an index that may be full holds the names before name i
 pub record EnterReady (names : List ℕ) (i : ℕ) (index : List ℕ) : Type 0 where
-  pub held : Indexed names i index
-  pub inside : i < length names
-
--- name i is told to repeat one before it, or is in the index, which keeps its length
-pub record NameEntered (names : List ℕ) (i : ℕ) (index after : List ℕ) (r : Bool) : Type 0 where
-  pub sized : length after ≡ length index
-  pub answer : r ≡ repeats_at names i
-  pub stored : r ≡ false → Indexed names (i + 1) after
-
--- an index that may be full, and holds the names before name i
-pub record HeldReady (names : List ℕ) (i : ℕ) (index : List ℕ) : Type 0 where
   pub held : Held names i index
   pub inside : i < length names
 
--- name i is in the index, where it is told that it repeats none before it and that there was room
-pub record EnteredIfRoom (names : List ℕ) (i : ℕ) (index after : List ℕ) (r : Bool) : Type 0 where
+-- name i is in the index, which keeps its length, or is told to repeat one before it or to have no room. An index with
+-- room for all has room for this one, and then it is told whether the name repeats one
+pub record NameEntered (names : List ℕ) (i : ℕ) (index after : List ℕ) (r : Bool) : Type 0 where
   pub sized : length after ≡ length index
-  pub answer : r ≡ false → repeats_at names i ≡ false
+  pub new : r ≡ false → repeats_at names i ≡ false
   pub stored : r ≡ false → Held names (i + 1) after
+  pub answer : Indexed names i index → r ≡ repeats_at names i
+  pub indexed : Indexed names i index → r ≡ false → Indexed names (i + 1) after
 
 -- the first name that repeats one before it is told by r, or all names are in the index
 pub record AllEntered (names after : List ℕ) (r : ℕ) : Type 0 where

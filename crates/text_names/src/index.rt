@@ -2,8 +2,7 @@
 // 3, 6.4), so that a name is found without going through all of them.
 ghost use Rattle.std.specs.Prelude.{◌≡◌, ℕ, ◌≤◌, length, get_or};
 ghost use Rattle.text_names.specs.Search.{index_of, repeats_at, Sought};
-ghost use Rattle.text_names.specs.Index.{hash_of, stops_at, WalkEnds, Indexed, EnterReady, NameEntered, AllEntered};
-ghost use Rattle.text_names.specs.Index.{Held, HeldReady, EnteredIfRoom};
+ghost use Rattle.text_names.specs.Index.{hash_of, stops_at, WalkTo, Held, Indexed, EnterReady, NameEntered, AllEntered};
 
 use words_layout::limits::{MAX_GATES, MAX_INPUTS};
 
@@ -31,25 +30,15 @@ fn stops_at(names: &[u64], entry: usize, name: u64) -> bool
     requires { entry ≤ length names.now }
     ensures { result ≡ stops_at names.now name entry }
 {
-    if entry == 0 {
-        return true;
-    }
-    names[entry - 1] == name
+    entry == 0 || names[entry - 1] == name
 }
 
-// Where the walk of this name ends.
-fn walk(names: &[u64], index: &[u16], name: u64) -> usize
+// The entry where the walk of this name ends, where it ends in the index.
+fn walk(names: &[u64], index: &[u16], name: u64) -> Option<usize>
     requires { (j : ℕ) → get_or index.now j 0 ≤ length names.now }
-    ensures { WalkEnds names.now index.now name result }
+    ensures { WalkTo names.now index.now name result }
 {
-    let mut at = hash(name);
-    while at < index.len() {
-        if stops_at(names, index[at] as usize, name) {
-            return at;
-        }
-        at += 1;
-    }
-    at
+    (hash(name)..index.len()).find(|&at| stops_at(names, index[at] as usize, name))
 }
 
 // The number of the table's name that is equal to this one, or how many names there are.
@@ -57,7 +46,9 @@ pub fn find_indexed(names: &[u64], index: &[u16], name: u64) -> usize
     requires { Indexed names.now (length names.now) index.now }
     ensures { result ≡ index_of names.now (length names.now) name }
 {
-    let at = walk(names, index, name);
+    let Some(at) = walk(names, index, name) else {
+        return names.len();
+    };
     let found = index[at] as usize;
     if found == 0 {
         return names.len();
@@ -65,45 +56,15 @@ pub fn find_indexed(names: &[u64], index: &[u16], name: u64) -> usize
     found - 1
 }
 
-// Enters name i behind those before it; tells whether it is one of them already.
+// Enters name i behind those before it, where its walk ends in the index; tells whether it does not, or is one of them
+// already.
 fn enter(names: &[u64], i: usize, index: &mut [u16]) -> bool
     requires { EnterReady names.now i index.old }
     ensures { NameEntered names.now i index.old index.new result }
 {
-    let at = walk(names, index, names[i]);
-    if index[at] != 0 {
+    let Some(at) = walk(names, index, names[i]) else {
         return true;
-    }
-    index[at] = (i + 1) as u16;
-    false
-}
-
-// Enters the names into an empty index up to the first that is one of those before it, and tells its number, or how
-// many names there are.
-pub fn enter_all(names: &[u64], index: &mut [u16]) -> usize
-    requires { Indexed names.now 0 index.old }
-    ensures { AllEntered names.now index.new result }
-{
-    let mut i = 0;
-    while i < names.len() {
-        if enter(names, i, index) {
-            return i;
-        }
-        i += 1;
-    }
-    i
-}
-
-// Enters name i behind those before it, where its walk ends in the index; tells whether it does not, or is one of them
-// already.
-fn enter_if_room(names: &[u64], i: usize, index: &mut [u16]) -> bool
-    requires { HeldReady names.now i index.old }
-    ensures { EnteredIfRoom names.now i index.old index.new result }
-{
-    let at = walk(names, index, names[i]);
-    if index.len() <= at {
-        return true;
-    }
+    };
     if index[at] != 0 {
         return true;
     }
@@ -115,14 +76,23 @@ fn enter_if_room(names: &[u64], i: usize, index: &mut [u16]) -> bool
 // number, or how many names there are.
 pub fn enter_while_room(names: &[u64], index: &mut [u16]) -> usize
     requires { Held names.now 0 index.old }
-    ensures { Sought (repeats_at names.now) (length names.now) result }
+    ensures sought { Sought (repeats_at names.now) (length names.now) result }
+    ensures entered { Indexed names.now 0 index.old → AllEntered names.now index.new result }
 {
-    let mut i = 0;
-    while i < names.len() {
-        if enter_if_room(names, i, index) {
+    let n = names.len();
+    for i in 0..n {
+        if enter(names, i, index) {
             return i;
         }
-        i += 1;
     }
-    i
+    n
+}
+
+// Enters the names into an empty index with room for all, up to the first that is one of those before it, and tells its
+// number, or how many names there are.
+pub fn enter_all(names: &[u64], index: &mut [u16]) -> usize
+    requires { Indexed names.now 0 index.old }
+    ensures { AllEntered names.now index.new result }
+{
+    enter_while_room(names, index)
 }

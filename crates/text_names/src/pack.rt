@@ -1,5 +1,5 @@
 // Names as numbers: the bytes of a name, at most MAX_NAME, in one 64-bit number.
-ghost use Rattle.std.specs.Prelude.{◌≡◌, ◌≤◌, length};
+ghost use Rattle.std.specs.Prelude.{◌≡◌, ℕ, ◌≤◌, length, get_or, drop};
 ghost use Rattle.prelude.specs.Lists.{tab, placed};
 ghost use Rattle.netlist.specs.Limits.{max_name};
 ghost use Rattle.text_names.specs.Packed.{packed, name_front, packed_at, packed_through};
@@ -11,17 +11,10 @@ use words_layout::limits::MAX_NAME;
 pub fn name_length(s: &[u8]) -> usize
     ensures { result ≡ length (name_front max_name s.now) }
 {
-    let mut i = 0;
-    while i < MAX_NAME {
-        if s.len() <= i {
-            return i;
-        }
-        if !is_name_byte(s[i]) {
-            return i;
-        }
-        i += 1;
-    }
-    i
+    s.iter()
+        .take(MAX_NAME)
+        .take_while(|b| is_name_byte(**b))
+        .count()
 }
 
 // The name of n bytes at the front of `s`, as a number.
@@ -29,10 +22,9 @@ pub fn pack_first(s: &[u8], n: usize) -> u64
     requires { n ≡ length (name_front max_name s.now) }
     ensures { result ≡ packed (name_front max_name s.now) }
 {
-    let mut i = n;
     let mut r: u64 = 0;
-    while 0 < i {
-        i -= 1;
+    // A for: the closure of a fold would not know that the number so far has room for one byte more.
+    for i in (0..n).rev() {
         r = s[i] as u64 + 256 * r;
     }
     r
@@ -45,14 +37,35 @@ pub fn pack(s: &[u8]) -> u64
     pack_first(s, name_length(s))
 }
 
+// The bytes from a place of the text on: none behind its end.
+pub fn rest_from(text: &[u8], at: usize) -> &[u8]
+    ensures { result.now ≡ drop at text.now }
+{
+    text.get(at..).unwrap_or(&[])
+}
+
 // The name at a place of the text, as a number.
+#[tactic(auto, unfolding(crate::specs::Packed::name_from, crate::specs::Packed::packed_at))]
 pub fn pack_at(text: &[u8], at: usize) -> u64
     ensures { result ≡ packed_at text.now at }
 {
-    if at < text.len() {
-        pack(&text[at..])
-    } else {
-        0
+    pack(rest_from(text, at))
+}
+
+// Fills a table with what `entry` gives at each of these places.
+pub fn fill_at_places<T: Copy, F: Fn(usize) -> T>(
+    places: &[usize],
+    count: usize,
+    entry: F,
+    table: &mut [T],
+)
+    requires room { (count ≤ length places.now) × (count ≤ length table.old) }
+    requires callable { F.IsAlwaysCallable entry }
+    ensures { (f : ℕ → T) → ((place : ℕ) (v : T) → F.post entry place v → v ≡ f place)
+        → table.new ≡ placed (tab (λ i. f (get_or places.now i 0)) count) table.old }
+{
+    for i in 0..count {
+        table[i] = entry(places[i]);
     }
 }
 
@@ -62,9 +75,5 @@ pub fn fill_names(text: &[u8], places: &[usize], lines: usize, names: &mut [u64]
     ensures { names.new ≡ placed (tab (packed_through text.now places.now) lines)
         names.old }
 {
-    let mut i = 0;
-    while i < lines {
-        names[i] = pack_at(text, places[i]);
-        i += 1;
-    }
+    fill_at_places(places, lines, |place| pack_at(text, place), names);
 }

@@ -19,14 +19,10 @@ pub fn find(names: &[u64], count: usize, name: u64) -> usize
     requires { count ≤ length names.now }
     ensures { result ≡ index_of names.now count name }
 {
-    let mut i = 0;
-    while i < count {
-        if names[i] == name {
-            return i;
-        }
-        i += 1;
-    }
-    i
+    names[..count]
+        .iter()
+        .position(|x| *x == name)
+        .unwrap_or(count)
 }
 
 // Is name i one of those before it?
@@ -41,14 +37,8 @@ fn repeats(names: &[u64], i: usize) -> bool
 pub fn repeat_of_few(names: &[u64]) -> usize
     ensures { result ≡ least (repeats_at names.now) (length names.now) }
 {
-    let mut i = 0;
-    while i < names.len() {
-        if repeats(names, i) {
-            return i;
-        }
-        i += 1;
-    }
-    i
+    let n = names.len();
+    (0..n).find(|&i| repeats(names, i)).unwrap_or(n)
 }
 
 // The index of the first name that repeats one before it, or the length; each is entered into an index, and where that

@@ -7,8 +7,9 @@ use mathlib.Core.List.{List, [], ◌∷◌, map, map-map}
 use mathlib.Core.Option.{some}
 use mathlib.Core.Logic.{◌⊎◌, inl, inr}
 use native.Mathlib.Omega.{arith}
+use native.Mathlib.Nat.{le_of_eq}
 use lib.ListN.{length, get_or, take, drop, length-map, drop_of_length-le}
-use lib.Seq.{get_or-take, drop-cons}
+use lib.Seq.{get_or-take, drop-cons, take_all}
 use lib.Dec.{leb, ltb}
 use borrow.Author.Tests.{lt-ltb, le-ltb, le-leb, lt-leb}
 use Rattle.prelude.specs.Lists.{all, member_list, least}
@@ -17,7 +18,8 @@ use Rattle.prelude.proofs.Quantifiers.{all-at}
 use Rattle.prelude.proofs.Least.{least-le, least-below, least_at}
 use Rattle.theory_encoding.proofs.ListFacts.{get_d_map}
 use Rattle.netlist.specs.declared.Refusal.TheVariants.{DuplicateDeclaration, UndeclaredName}
-use Rattle.words_refusals.specs.declared.Test.TheVariants.{Passed, Failed}
+use Rattle.words_refusals.specs.Tests.{Test}
+use Rattle.std.specs.declared.result.Result.TheVariants.{Ok, Err}
 use Rattle.netlist.specs.Netlist.{Name}
 use Rattle.netlist.specs.Names.{is_name_byte, is_name_start, is_node_name}
 use Rattle.netlist.specs.Reading.{Mention, mentions, pair_mention, first_repeat, first_outside}
@@ -114,16 +116,29 @@ module _ (ps : List Pair) (legal : all is_legal_pair ps ≡ true) (at : ℕ) whe
       at_first : i ≡ least (repeats_at (map (λ (d : Mention). packed d.name) ds)) (length ds)
       at_first = found ∙ rw (keys-held, length-map ds (λ (d : Mention). packed d.name))
 
-      pub repeat-failed : i < length ps
-          → Failed (DuplicateDeclaration (get_or places i 0)) ≡ test_at (first_repeat [] ds) DuplicateDeclaration
+      repeat-failed : i < length ps
+          → Err (DuplicateDeclaration (get_or places i 0)) ≡ test_at (first_repeat [] ds) DuplicateDeclaration
       unfolding test_at
       repeat-failed l =
           let r = repeat-found ds given-bytes (rw (← at_first, given-length) l) in
           rw (place-held i l, r, ← at_first)
 
-      pub repeat-passed : length ps ≤ i → Passed ≡ test_at (first_repeat [] ds) DuplicateDeclaration
+      repeat-passed : length ps ≤ i → Ok tt ≡ test_at (first_repeat [] ds) DuplicateDeclaration
       unfolding test_at
       repeat-passed l = rw (repeat-none ds given-bytes (rw (← at_first, given-length) l))
+
+    -- the test that is failed at the first repeat
+    pub repeat-told : {i : ℕ} {r : Test} → length names ≡ length ps → i ≡ least (repeats_at names) (length names)
+        → (i < length names → r ≡ Err (DuplicateDeclaration (get_or places i 0))) → (length names ≤ i → r ≡ Ok tt)
+        → r ≡ test_at (first_repeat [] ds) DuplicateDeclaration
+    repeat-told {i} {r} e found f p = go (lt-or-le i (length names))
+      where
+        there : i ≡ least (repeats_at (take (length ps) names)) (length (take (length ps) names))
+        there = rw (take_all (length ps) names (le_of_eq e)) found
+
+        go : (i < length names) ⊎ (length names ≤ i) → r ≡ test_at (first_repeat [] ds) DuplicateDeclaration
+        go (inl l) = f l ∙ repeat-failed there (rw e at l)
+        go (inr l) = p l ∙ repeat-passed there (rw e at l)
 
     -- ---- 5
 
@@ -173,8 +188,8 @@ module _ (ps : List Pair) (legal : all is_legal_pair ps ≡ true) (at : ℕ) whe
         passed_over : (j : ℕ) → j < i → is_outside names inputs n j ≡ false
         passed_over j g = least-below (is_outside names inputs n) (length ps) j (rw (← found) g)
 
-        pub outside-failed : i < length ps
-            → Failed (UndeclaredName (get_or places i 0)) ≡ test_at (first_outside known ds) UndeclaredName
+        outside-failed : i < length ps
+            → Err (UndeclaredName (get_or places i 0)) ≡ test_at (first_outside known ds) UndeclaredName
         unfolding test_at
         outside-failed l =
             let t : is_outside names inputs n i ≡ true =
@@ -184,10 +199,23 @@ module _ (ps : List Pair) (legal : all is_legal_pair ps ≡ true) (at : ℕ) whe
             outside-walk i (omega arith) passed_over ∙ outside known ds i (rw given-length l) (rw (given-name i l) m) in
             rw (place-held i l, e)
 
-        pub outside-passed : length ps ≤ i → Passed ≡ test_at (first_outside known ds) UndeclaredName
+        outside-passed : length ps ≤ i → Ok tt ≡ test_at (first_outside known ds) UndeclaredName
         unfolding test_at first_outside
         outside-passed l =
             let le : i ≤ length ps = rw found (least-le (is_outside names inputs n) (length ps)) in
             let short : length ds ≤ i = rw given-length l in
             let z : drop i ds ≡ [] = drop_of_length-le ds short in
             rw (outside-walk i le passed_over, z)
+
+      -- the test that is failed at the first name outside
+      pub outside-told : {i count : ℕ} {r : Test} → count ≡ length ps → i ≡ least (is_outside names inputs n) count
+          → (i < count → r ≡ Err (UndeclaredName (get_or places i 0))) → (count ≤ i → r ≡ Ok tt)
+          → r ≡ test_at (first_outside known ds) UndeclaredName
+      outside-told {i} {count} {r} e found f p = go (lt-or-le i count)
+        where
+          there : i ≡ least (is_outside names inputs n) (length ps)
+          there = rw e at found
+
+          go : (i < count) ⊎ (count ≤ i) → r ≡ test_at (first_outside known ds) UndeclaredName
+          go (inl l) = f l ∙ outside-failed there (rw e at l)
+          go (inr l) = p l ∙ outside-passed there (rw e at l)

@@ -3,7 +3,7 @@
 --   pair-length, pairs-length: their bytes
 --   places-length, place_is, places-are: the places by the bytes are the pairs' own
 --   Stands, stands_at, name-stands, number-stands, code-stands: what the bytes say where a pair stands
---   here-short, place-next, code-none: the turns of the loops
+--   here-short, place-next: the turns of the loops
 --   count-is: each pair has an opening bracket
 use Prim.Native.Nat.{ℕ, zero, suc, ◌+◌, ◌*◌, ◌≤◌, ◌<◌}
 use mathlib.Core.Path.{◌≡◌, refl, sym, ap, ◌∙◌}
@@ -178,10 +178,6 @@ unfolding pair_place
 place-next text at i {place} {size} e f =
     let n : size ≡ length (name_from text (pair_place text at i)) = rw e at f in
     rw (add-one, e, n) (omega arith)
-
-pub code-none : 0 ≡ code_front []
-unfolding code_front name_front
-code-none = refl
 
 -- ---- the brackets of a line's pairs
 

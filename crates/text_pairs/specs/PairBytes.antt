@@ -11,16 +11,12 @@ unfoldable pub pair_place : List ℕ → ℕ → ℕ → ℕ
 pair_place text at zero = at + 2
 pair_place text at (suc i) = pair_place text at i + length (name_from text (pair_place text at i)) + 5
 
--- the code of the value behind the name at the front of a text; behind the name at a place; and behind the name at
--- place i of a list of places
+-- the code of the value behind the name at the front of a text, and behind the name at a place
 unfoldable pub code_front : List ℕ → ℕ
 code_front s = cond (eqb (get_or s (length (name_front max_name s) + 1) 0) 49) 1 0
 
 unfoldable pub code_at : List ℕ → ℕ → ℕ
 code_at text at = code_front (drop at text)
-
-unfoldable pub code_through : List ℕ → List ℕ → ℕ → ℕ
-code_through text places i = code_at text (get_or places i 0)
 
 -- the code that a table of names and values gives a name: 2, undefined, where it is not there
 unfoldable pub given_code : List ℕ → List ℕ → ℕ → ℕ → ℕ

@@ -1,7 +1,7 @@
 -- What the tables of pairs and of a block's inputs hold, and what the functions of src/ need of them. Assumes nothing.
-use Rattle.std.specs.Prelude.{ℕ, ◌≤◌, ◌≡◌, Bool, true, List, ◌++◌, map, length, get_or, take, drop, leb}
+use Rattle.std.specs.Prelude.{ℕ, ◌≤◌, ◌<◌, ◌≡◌, Bool, true, List, ◌++◌, map, length, get_or, take, drop, leb}
 use Rattle.prelude.specs.Lists.{ascii, all}
-use Rattle.netlist.specs.Limits.{max_text, max_inputs}
+use Rattle.netlist.specs.Limits.{max_text}
 use Rattle.netlist.specs.Values.{code, val}
 use Rattle.netlist.specs.Netlist.{Name}
 use Rattle.netlist.specs.Names.{is_name_byte}
@@ -65,19 +65,12 @@ pub record NumberRoom (at count : ℕ) (names : List ℕ) : Type 0 where
   pub few : count ≤ max_pairs
   pub room : length names ≡ max_pairs
 
--- such a table, of a line that starts at place `base` of its text
-pub record NumbersReady (at base count : ℕ) (names : List ℕ) : Type 0 where
-  pub table : NumberRoom at count names
+-- the numbers of a line's pairs, whose first space is at a place, of a line that starts at place `base` of its text
+pub record NumbersReady (at base : ℕ) (names : List ℕ) : Type 0 where
+  pub near : at ≤ max_text
+  pub few : length names ≤ max_pairs
   pub start : base ≤ max_text
 
--- such a table, and a setting for the values of the first n inputs of another
-pub record ValuesReady (at count : ℕ) (names inputs : List ℕ) (n : ℕ) (setting : List ℕ) : Type 0 where
-  pub table : NumberRoom at count names
-  pub known : n ≤ length inputs
-  pub few : n ≤ max_inputs
-  pub room : length setting ≡ max_inputs
-
--- the numbers of a line's pairs, and n inputs against which they are tested
-pub record OutsideReady (at base count : ℕ) (names inputs : List ℕ) (n : ℕ) : Type 0 where
-  pub numbers : NumbersReady at base count names
-  pub known : n ≤ length inputs
+-- what is told of each of the first n pairs is this table's entry
+abbrev pub Gives : (ℕ → ℕ → Type 0) → ℕ → List ℕ → Type 0
+Gives told n table = (i v : ℕ) → i < n → told i v → v ≡ get_or table i 0

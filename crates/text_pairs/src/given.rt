@@ -6,95 +6,55 @@ ghost use Rattle.words_refusals.specs.Tests.{test_at};
 ghost use Rattle.netlist.specs.Reading.{first_repeat, first_outside};
 ghost use Rattle.netlist.specs.Netlist.{Name};
 ghost use Rattle.netlist.specs.Syntax.{Pair, is_legal_pair};
-ghost use Rattle.text_pairs.specs.PairBytes.{given_code, input_code};
+ghost use Rattle.text_pairs.specs.PairBytes.{input_code};
 ghost use Rattle.text_pairs.specs.Tables.{pair_mentions, is_outside, NamesAre, PlacesAre, InputsAre};
 
+use crate::told::{failed_at, fill_given};
 use netlist::Refusal;
 use text_names::search::{find, first_repeat};
-use words_refusals::Test;
 
 // Refusal 4: the place of the first name that is one of those before it.
-pub fn test_repeat(names: &[u64], places: &[usize], count: usize) -> Test
-    requires { (count ≤ length names.now) × (count ≤ length places.now) }
-    ensures { (ps : List Pair) (at : ℕ) → all is_legal_pair ps ≡ true → count ≡ length ps
+pub fn test_repeat(names: &[u64], places: &[usize]) -> Result<(), Refusal>
+    requires { length names.now ≤ length places.now }
+    ensures { (ps : List Pair) (at : ℕ) → all is_legal_pair ps ≡ true → length names.now ≡ length ps
         → NamesAre ps names.now
         → PlacesAre ps at places.now → result ≡ test_at (first_repeat [] (pair_mentions ps at))
         DuplicateDeclaration }
 {
-    let i = first_repeat(&names[..count]);
-    if i < count {
-        let place = places[i];
-        return Test::Failed(Refusal::DuplicateDeclaration(place));
-    }
-    Test::Passed
+    let i = first_repeat(names);
+    failed_at(i, names.len(), |i| Refusal::DuplicateDeclaration(places[i]))
 }
 
-// Is name i none of the inputs?
-fn is_outside(names: &[u64], i: usize, inputs: &[u64], n: usize) -> bool
-    requires { (i < length names.now) × (n ≤ length inputs.now) }
-    ensures { result ≡ is_outside names.now inputs.now n i }
+// The first name that is none of the inputs, or the number of the names.
+pub fn first_outside(names: &[u64], inputs: &[u64]) -> usize
+    ensures { result ≡ least (is_outside names.now inputs.now (length inputs.now)) (length names.now) }
 {
-    n <= find(inputs, n, names[i])
-}
-
-// The first name that is none of the inputs, or `count`.
-pub fn first_outside(names: &[u64], count: usize, inputs: &[u64], n: usize) -> usize
-    requires { (count ≤ length names.now) × (n ≤ length inputs.now) }
-    ensures { result ≡ least (is_outside names.now inputs.now n) count }
-{
-    let mut i = 0;
-    while i < count {
-        if is_outside(names, i, inputs, n) {
-            return i;
-        }
-        i += 1;
-    }
-    i
+    let n = inputs.len();
+    // Not position over the names: measured, Read of a text full of pairs is one part in seventeen slower by it.
+    (0..names.len())
+        .find(|&i| n <= find(inputs, n, names[i]))
+        .unwrap_or(names.len())
 }
 
 // Refusal 5: the place of the first name that is none of the inputs.
-pub fn test_outside(names: &[u64], places: &[usize], count: usize, inputs: &[u64], n: usize) -> Test
-    requires { (count ≤ length names.now) × (count ≤ length places.now) × (n ≤ length inputs.now) }
-    ensures { (ps : List Pair) (at : ℕ) (known : List Name) → all is_legal_pair ps ≡ true → count ≡ length ps
+pub fn test_outside(names: &[u64], places: &[usize], inputs: &[u64]) -> Result<(), Refusal>
+    requires { length names.now ≤ length places.now }
+    ensures { (ps : List Pair) (at : ℕ) (known : List Name) → all is_legal_pair ps ≡ true
+        → length names.now ≡ length ps
         → NamesAre ps names.now
-        → PlacesAre ps at places.now → InputsAre known n inputs.now
+        → PlacesAre ps at places.now → InputsAre known (length inputs.now) inputs.now
         → result ≡ test_at (first_outside known (pair_mentions ps at)) UndeclaredName }
 {
-    let i = first_outside(names, count, inputs, n);
-    if i < count {
-        let place = places[i];
-        return Test::Failed(Refusal::UndeclaredName(place));
-    }
-    Test::Passed
-}
-
-// The value that the pairs give a name: 2, undefined, where they do not name it.
-fn given_code(names: &[u64], codes: &[u8], count: usize, name: u64) -> u8
-    requires { (count ≤ length names.now) × (count ≤ length codes.now) }
-    ensures { result ≡ given_code names.now codes.now count name }
-{
-    let i = find(names, count, name);
-    if i < count { codes[i] } else { 2 }
+    let i = first_outside(names, inputs);
+    failed_at(i, names.len(), |i| Refusal::UndeclaredName(places[i]))
 }
 
 // The value that the pairs give each input.
-pub fn fill_setting(
-    names: &[u64],
-    codes: &[u8],
-    count: usize,
-    inputs: &[u64],
-    n: usize,
-    setting: &mut [u8],
-)
-    requires { (count ≤ length names.now) × (count ≤ length codes.now) × (n ≤ length inputs.now)
-        × (n ≤ length setting.old) }
-    ensures { setting.new ≡ placed (tab (input_code names.now codes.now count
-        inputs.now) n)
+pub fn fill_setting(names: &[u64], codes: &[u8], inputs: &[u64], setting: &mut [u8])
+    requires { (length names.now ≤ length codes.now) × (length inputs.now ≤ length setting.old) }
+    ensures { setting.new ≡ placed
+        (tab (input_code names.now codes.now (length names.now) inputs.now) (length inputs.now))
         setting.old }
 {
-    let mut j = 0;
-    while j < n {
-        setting[j] = given_code(names, codes, count, inputs[j]);
-        j += 1;
-    }
+    fill_given(names, inputs, |i| codes[i], setting);
 }

@@ -9,30 +9,23 @@ ghost use Rattle.netlist.specs.Netlist.{Name};
 ghost use Rattle.netlist.specs.Reading.{first_repeat, first_outside};
 ghost use Rattle.netlist.specs.Syntax.{Pair};
 ghost use Rattle.text_names.specs.Index.{max_pairs};
-ghost use Rattle.text_pairs.specs.PairBytes.{pair_place, pair_number, pair_codes, given_code, input_code};
+ghost use Rattle.text_pairs.specs.PairBytes.{pair_place, pair_number, pair_codes, input_code};
 ghost use Rattle.text_pairs.specs.Tables.{PairsAt, pair_mentions, NamesAre, InputsAre, NumberRoom, NumbersReady};
-ghost use Rattle.text_pairs.specs.Tables.{ValuesReady, OutsideReady};
 
 use crate::given::first_outside;
 use crate::tables::{code_at, name_size};
+use crate::told::{failed_at, fill_at_names, fill_given};
 use netlist::Refusal;
 use text_names::pack::pack_at;
-use text_names::search::{MAX_PAIRS, find, first_repeat};
+use text_names::search::{MAX_PAIRS, first_repeat};
 use words_layout::limits::MAX_INPUTS;
-use words_refusals::Test;
 
 // The number of each pair's name; the first pair's space is at `at`.
 pub fn fill_numbers(s: &[u8], at: usize, count: usize, names: &mut [u64; MAX_PAIRS])
     requires { NumberRoom at count names.old }
     ensures { names.new ≡ placed (tab (pair_number s.now at) count) names.old }
 {
-    let mut place = at + 2;
-    let mut i = 0;
-    while i < count {
-        names[i] = pack_at(s, place);
-        place += name_size(s, place) + 5;
-        i += 1;
-    }
+    fill_at_names(s, at, count, |place| pack_at(s, place), names);
 }
 
 // The place of the name of pair i.
@@ -41,28 +34,34 @@ fn pair_place(s: &[u8], at: usize, i: usize) -> usize
     ensures { result ≡ pair_place s.now at i }
 {
     let mut place = at + 2;
-    let mut k = 0;
-    while k < i {
+    for k in 0..i {
         place += name_size(s, place) + 5;
-        k += 1;
     }
     place
 }
 
+// The place of the name of pair i in a text in which the line starts at place `base`.
+fn place_in_text(s: &[u8], at: usize, base: usize, i: usize) -> usize
+    requires { (base ≤ max_text) × (at ≤ max_text) × (i ≤ max_pairs) }
+    ensures { result ≡ base + pair_place s.now at i }
+{
+    base + pair_place(s, at, i)
+}
+
 // Refusal 4: the place of the first name that is one of those before it, where the line starts at place `base` of its
 // text.
-pub fn find_repeat(s: &[u8], at: usize, base: usize, names: &[u64], count: usize) -> Test
-    requires { NumbersReady at base count names.now }
-    ensures { (ps : List Pair) → PairsAt at ps s.now → count ≡ length ps
+pub fn find_repeat(s: &[u8], at: usize, base: usize, names: &[u64]) -> Result<(), Refusal>
+    requires { NumbersReady at base names.now }
+    ensures { (ps : List Pair) → PairsAt at ps s.now → length names.now ≡ length ps
         → NamesAre ps names.now
         → result ≡ test_at (first_repeat [] (pair_mentions ps (base + at))) DuplicateDeclaration }
 {
-    let i = first_repeat(&names[..count]);
-    if i < count {
-        let place = base + pair_place(s, at, i);
-        return Test::Failed(Refusal::DuplicateDeclaration(place));
-    }
-    Test::Passed
+    let i = first_repeat(names);
+    failed_at(
+        i,
+        names.len(),
+        |i| Refusal::DuplicateDeclaration(place_in_text(s, at, base, i)),
+    )
 }
 
 // Refusal 5: the place of the first name that is none of the inputs, where the line starts at place `base` of its text.
@@ -70,55 +69,37 @@ pub fn find_outside(
     s: &[u8],
     at: usize,
     base: usize,
-    names: &[u64; MAX_PAIRS],
-    count: usize,
+    names: &[u64],
     inputs: &[u64],
-    n: usize,
-) -> Test
-    requires { OutsideReady at base count names.now inputs.now n }
-    ensures { (ps : List Pair) (known : List Name) → PairsAt at ps s.now → count ≡ length ps
+) -> Result<(), Refusal>
+    requires { NumbersReady at base names.now }
+    ensures { (ps : List Pair) (known : List Name) → PairsAt at ps s.now → length names.now ≡ length ps
         → NamesAre ps names.now
-        → InputsAre known n inputs.now → result ≡ test_at (first_outside known (pair_mentions ps (base + at)))
-        UndeclaredName }
+        → InputsAre known (length inputs.now) inputs.now
+        → result ≡ test_at (first_outside known (pair_mentions ps (base + at))) UndeclaredName }
 {
-    let i = first_outside(names, count, inputs, n);
-    if i < count {
-        let place = base + pair_place(s, at, i);
-        return Test::Failed(Refusal::UndeclaredName(place));
-    }
-    Test::Passed
-}
-
-// The value that the pairs give a name: 2, undefined, where they do not name it.
-fn value_given(s: &[u8], at: usize, names: &[u64; MAX_PAIRS], count: usize, name: u64) -> u8
-    requires { NumberRoom at count names.now }
-    ensures { result ≡ given_code names.now (pair_codes s.now at count) count name }
-{
-    let i = find(names, count, name);
-    if i < count {
-        return code_at(s, pair_place(s, at, i));
-    }
-    2
+    let i = first_outside(names, inputs);
+    failed_at(
+        i,
+        names.len(),
+        |i| Refusal::UndeclaredName(place_in_text(s, at, base, i)),
+    )
 }
 
 // The value that the pairs give each input.
 pub fn fill_values(
     s: &[u8],
     at: usize,
-    names: &[u64; MAX_PAIRS],
-    count: usize,
+    names: &[u64],
     inputs: &[u64],
-    n: usize,
     setting: &mut [u8; MAX_INPUTS],
 )
-    requires { ValuesReady at count names.now inputs.now n setting.old }
+    requires { (at ≤ max_text) × (length names.now ≤ max_pairs) × (length inputs.now ≤ max_inputs) }
     ensures { setting.new ≡ placed
-        (tab (input_code names.now (pair_codes s.now at count) count inputs.now) n)
+        (tab (input_code names.now (pair_codes s.now at (length names.now)) (length names.now) inputs.now)
+        (length inputs.now))
         setting.old }
 {
-    let mut j = 0;
-    while j < n {
-        setting[j] = value_given(s, at, names, count, inputs[j]);
-        j += 1;
-    }
+    let code = |i| code_at(s, pair_place(s, at, i));
+    fill_given(names, inputs, code, setting);
 }

@@ -2,15 +2,15 @@
 // values.
 ghost use Rattle.std.specs.Prelude.{◌≡◌, List, ◌≤◌, length, drop};
 ghost use Rattle.prelude.specs.Lists.{tab, placed};
-ghost use Rattle.netlist.specs.Limits.{max_text};
 ghost use Rattle.netlist.specs.Syntax.{Pair};
 ghost use Rattle.text_lines.specs.Lines.{line_opens};
 ghost use Rattle.text_names.specs.Packed.{name_from};
-ghost use Rattle.text_pairs.specs.PairBytes.{pair_place, code_front, code_at, code_through};
+ghost use Rattle.text_pairs.specs.PairBytes.{code_front, code_at};
 ghost use Rattle.text_pairs.specs.Tables.{PairsAt, PairRoom, PairsTabled};
 
+use crate::told::fill_at_names;
 use text_lines::opens;
-use text_names::pack::{fill_names, name_length};
+use text_names::pack::{fill_at_places, fill_names, name_length, rest_from};
 use words_layout::bytes::byte_at;
 
 // How many pairs stand from a place on to the line's end: each has one opening bracket.
@@ -22,29 +22,11 @@ pub fn pair_count(text: &[u8], at: usize) -> usize
 }
 
 // The length of the name at a place.
+#[tactic(auto, unfolding(text_names::specs::Packed::name_from))]
 pub fn name_size(text: &[u8], at: usize) -> usize
     ensures { result ≡ length (name_from text.now at) }
 {
-    if at < text.len() {
-        name_length(&text[at..])
-    } else {
-        0
-    }
-}
-
-// The place of each name; the first pair's space is at `at`.
-fn fill_places(text: &[u8], at: usize, count: usize, places: &mut [usize])
-    requires { (at ≤ max_text) × (count ≤ max_text) × (count ≤ length places.old) }
-    ensures { places.new ≡ placed (tab (pair_place text.now at) count)
-        places.old }
-{
-    let mut place = at + 2;
-    let mut i = 0;
-    while i < count {
-        places[i] = place;
-        place += name_size(text, place) + 5;
-        i += 1;
-    }
+    name_length(rest_from(text, at))
 }
 
 // The value behind the name at the front of `s`: 0 or 1.
@@ -59,27 +41,11 @@ fn code_front(s: &[u8]) -> u8
 }
 
 // The value of the pair whose name stands at a place.
+#[tactic(auto, unfolding(crate::specs::PairBytes::code_at))]
 pub fn code_at(text: &[u8], at: usize) -> u8
     ensures { result ≡ code_at text.now at }
 {
-    if at < text.len() {
-        code_front(&text[at..])
-    } else {
-        0
-    }
-}
-
-// The value of each pair.
-fn fill_codes(text: &[u8], places: &[usize], count: usize, codes: &mut [u8])
-    requires { (count ≤ length places.now) × (count ≤ length codes.old) }
-    ensures { codes.new ≡ placed (tab (code_through text.now places.now) count)
-        codes.old }
-{
-    let mut i = 0;
-    while i < count {
-        codes[i] = code_at(text, places[i]);
-        i += 1;
-    }
+    code_front(rest_from(text, at))
 }
 
 // The tables of the pairs at a place of a text, the first pair's space; how many there are.
@@ -95,8 +61,8 @@ pub fn fill_pairs(
         → PairsTabled ps at result names.new places.new codes.new }
 {
     let count = pair_count(text, at);
-    fill_places(text, at, count, places);
+    fill_at_names(text, at, count, |place| place, places);
     fill_names(text, places, count, names);
-    fill_codes(text, places, count, codes);
+    fill_at_places(places, count, |place| code_at(text, place), codes);
     count
 }

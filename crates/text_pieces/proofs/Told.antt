@@ -8,8 +8,9 @@ use borrow.Author.Tests.{le-ltb}
 use Rattle.prelude.specs.Lists.{placed}
 use Rattle.prelude.proofs.Slices.{placed-room, take-placed}
 use Rattle.netlist.specs.declared.Refusal.{Refusal}
-use Rattle.netlist.specs.declared.Answer.{Answer}
-use Rattle.netlist.specs.declared.Answer.TheVariants.{Done, Refused}
+use Rattle.netlist.specs.declared.Done.{Done}
+use Rattle.netlist.specs.Answers.{Answer, count_of, detail_of}
+use Rattle.std.specs.declared.result.Result.TheVariants.{Ok, Err}
 use Rattle.netlist.specs.Answers.{Outcome, done, refused, refuse_if, in_room, answer_of, left_in, Promise}
 use Rattle.netlist.specs.Program.{shown}
 use Rattle.words_refusals.proofs.Promised.{promise-answer}
@@ -42,35 +43,35 @@ module _ (o : Outcome) (a : Answer) (entry exit : List ℕ) (f : Fits (length en
   left_is : exit ≡ left_in o entry
   left_is = p.leaves ∙ ap (λ (u : Outcome). left_in u entry) (in-room (length entry) o f)
 
-  pub told-refused : (r : Refusal) → a ≡ Refused r → o ≡ refused r
+  pub told-refused : (r : Refusal) → a ≡ Err r → o ≡ refused r
   unfolding answer_of
   told-refused r e = go o (sym e ∙ answer)
     where
-      go : (u : Outcome) → Refused r ≡ answer_of u → u ≡ refused r
+      go : (u : Outcome) → Err r ≡ answer_of u → u ≡ refused r
       go (done result count detail) h = let z : ◌≡◌ {A = ℕ} 0 1 = cc in absurd (omega arith)
       go (refused s) h = let z : s ≡ r = cc in ap refused z
 
-  pub kept-refused : (r : Refusal) → a ≡ Refused r → exit ≡ entry
+  pub kept-refused : (r : Refusal) → a ≡ Err r → exit ≡ entry
   unfolding left_in
   kept-refused r e = left_is ∙ rw (told-refused r e) refl
 
-  pub told-done : (count detail : ℕ) → a ≡ Done count detail → Gave o entry exit count detail
-  unfolding answer_of left_in
-  told-done count detail e = go o refl (sym e ∙ answer)
+  pub told-done : (d : Done) → a ≡ Ok d → Gave o entry exit d.count d.detail
+  unfolding answer_of left_in count_of detail_of
+  told-done d e = go o refl (sym e ∙ answer)
     where
-      go : (u : Outcome) → o ≡ u → Done count detail ≡ answer_of u → Gave o entry exit count detail
-      go (done result c d) q h =
-          let p : c ≡ count = cc in
-          let s : d ≡ detail = cc in
-          let i : o ≡ done result count detail = q ∙ rw (p, s) refl in
-          let g = f.fits result count detail i in
+      go : (u : Outcome) → o ≡ u → Ok d ≡ answer_of u → Gave o entry exit d.count d.detail
+      go (done result count detail) q h =
+          let p : count ≡ d.count = sym (ap count_of h) in
+          let s : detail ≡ d.detail = sym (ap detail_of h) in
+          let i : o ≡ done result d.count d.detail = q ∙ rw (p, s) refl in
+          let g = f.fits result d.count d.detail i in
           let l : exit ≡ placed result entry = left_is ∙ rw i refl in
           record {
             result = result;
             is = i;
             counts = g.1;
             within = g.0;
-            front = rw l (take-placed result entry count (sym g.1));
+            front = rw l (take-placed result entry d.count (sym g.1));
             left = l;
           }
       go (refused s) q h = let z : ◌≡◌ {A = ℕ} 0 1 = cc in absurd (omega arith)

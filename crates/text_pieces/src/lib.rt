@@ -17,6 +17,7 @@ use words_layout::offsets::{INPUTS_AT, NAME_SIZE, inputs_of};
 use words_layout::read::word_at;
 use words_layout::trim::trimmed_length;
 
+pub mod each;
 pub mod refusal_line;
 
 // Appends one byte.
@@ -37,10 +38,8 @@ pub fn put_all(text: &mut [u8], at: usize, bytes: &[u8]) -> usize
     ensures { Appended bytes.now text.old at text.new result }
 {
     let mut end = at;
-    let mut i = 0;
-    while i < bytes.len() {
-        end = put(text, end, bytes[i]);
-        i += 1;
+    for byte in bytes {
+        end = put(text, end, *byte);
     }
     end
 }
@@ -61,13 +60,11 @@ fn put_trimmed(text: &mut [u8], at: usize, bytes: &[u8]) -> usize
     ensures { Appended (trimmed bytes.now) text.old at text.new result }
 {
     let mut end = at;
-    let mut i = 0;
-    while i < bytes.len() {
+    for i in 0..bytes.len() {
         if bytes[i] == 0 {
             return put_without_zeros(text, end, &bytes[i..]);
         }
         end = put(text, end, bytes[i]);
-        i += 1;
     }
     end
 }

@@ -8,23 +8,22 @@ use Prim.Native.Nat.{ℕ, ◌≤◌}
 use native.Mathlib.Omega.{arith}
 use lib.ListN.{length}
 use lib.Dec.{eqb}
+use Rattle.std.specs.Prelude.{Result, Ok, Err}
 use Rattle.netlist.specs.Parse.{Parsed, got, stuck, Reader, pure, stop, on_test, if_next, expect, on_parsed, bind}
-use Rattle.text_recogniser.specs.declared.scan.Scan.{Scan}
-use Rattle.text_recogniser.specs.declared.scan.Scan.TheVariants.{Next, Bad}
 use Rattle.text_recogniser.specs.Readers.{scan_of, last_ones, word_reader}
 use Rattle.text_recogniser.proofs.Shortens.{tail-short, tail-last, Leaves, Shortens}
 
 -- what comes of an answer and of what follows it
-abbrev pub then_of : {A : Type 0} → Parsed A → (List ℕ → Scan) → Scan
+abbrev pub then_of : {A : Type 0} → Parsed A → (List ℕ → Result ℕ ℕ) → Result ℕ ℕ
 then_of (got a t) k = k t
-then_of (stuck left) k = Bad left
+then_of (stuck left) k = Err left
 
 -- `whole` does what `first` does, and then `k`
-pub record Continues {A B : Type 0} (whole : Reader B) (first : Reader A) (k : List ℕ → Scan) : Type 0 where
+pub record Continues {A B : Type 0} (whole : Reader B) (first : Reader A) (k : List ℕ → Result ℕ ℕ) : Type 0 where
   pub goes_on : (s : List ℕ) → scan_of (whole s) ≡ then_of (first s) k
 
 module _ {A B : Type 0} where
-  pub continues-bind : (first : Reader A) (next : A → Reader B) (k : List ℕ → Scan)
+  pub continues-bind : (first : Reader A) (next : A → Reader B) (k : List ℕ → Result ℕ ℕ)
       → ((a : A) (t : List ℕ) → scan_of (next a t) ≡ k t)
       → Continues (bind first next) first k
   unfolding bind on_parsed
@@ -35,7 +34,7 @@ module _ {A B : Type 0} where
       go (stuck left) = refl
 
 module _ {A B C : Type 0} where
-  pub continues-after-bind : (first : Reader C) {next : C → Reader B} {next₀ : C → Reader A} {k : List ℕ → Scan}
+  pub continues-after-bind : (first : Reader C) {next : C → Reader B} {next₀ : C → Reader A} {k : List ℕ → Result ℕ ℕ}
       → ((c : C) → Continues (next c) (next₀ c) k) → Continues (bind first next) (bind first next₀) k
   unfolding bind on_parsed
   continues-after-bind first {next} {next₀} {k} h = record { goes_on = λ s. go (first s) }
@@ -45,7 +44,7 @@ module _ {A B C : Type 0} where
       go (stuck left) = refl
 
 module _ {A B : Type 0} where
-  pub continues-after-if : (test : ℕ → Bool) {first : ℕ → Reader B} {first₀ : ℕ → Reader A} {k : List ℕ → Scan}
+  pub continues-after-if : (test : ℕ → Bool) {first : ℕ → Reader B} {first₀ : ℕ → Reader A} {k : List ℕ → Result ℕ ℕ}
       → ((c : ℕ) → Continues (first c) (first₀ c) k) → Continues (if_next test first stop) (if_next test first₀ stop) k
   unfolding if_next on_test stop
   continues-after-if test {first} {first₀} {k} h = record { goes_on = λ s. go s }
@@ -58,7 +57,7 @@ module _ {A B : Type 0} where
       go [] = refl
       go (c ∷ s) = at (test c) c s
 
-  pub continues-after-expect : (w : List ℕ) {next : Reader B} {next₀ : Reader A} {k : List ℕ → Scan}
+  pub continues-after-expect : (w : List ℕ) {next : Reader B} {next₀ : Reader A} {k : List ℕ → Result ℕ ℕ}
       → Continues next next₀ k → Continues (expect w next) (expect w next₀) k
   unfolding expect
   continues-after-expect [] h = h
@@ -80,7 +79,7 @@ pub continues-skip : {A B : Type 0} (R : Reader A) (next : Reader B)
 continues-skip R next = continues-bind R (λ _. next) (λ t. scan_of (next t)) (λ _ _. refl)
 
 -- where what follows is the same
-pub continues-same : {A B : Type 0} {whole : Reader B} {first : Reader A} {k j : List ℕ → Scan}
+pub continues-same : {A B : Type 0} {whole : Reader B} {first : Reader A} {k j : List ℕ → Result ℕ ℕ}
     → Continues whole first k → ((t : List ℕ) → k t ≡ j t)
     → Continues whole first j
 continues-same {A} {B} {whole} {first} {k} {j} c h = record { goes_on = λ s. c.goes_on s ∙ go (first s) }
@@ -102,30 +101,31 @@ scan-map {A} R f s = go (R s)
 -- ---- what a call tells
 
 -- what is left is no more than there was
-pub left-short : {A : Type 0} {R : Reader A} → Shortens R → (s : List ℕ) {n : ℕ} → Next n ≡ scan_of (R s) → n ≤ length s
+pub left-short : {A : Type 0} {R : Reader A} → Shortens R → (s : List ℕ) {n : ℕ} → Ok n ≡ scan_of (R s) → n ≤ length s
 left-short {A} {R} h s {n} e = go (R s) (h.leaves s) e
   where
-    go : (p : Parsed A) → Leaves s p → Next n ≡ scan_of p → n ≤ length s
+    go : (p : Parsed A) → Leaves s p → Ok n ≡ scan_of p → n ≤ length s
     go (got a t) l e = let f : n ≡ length t = cc in rw f (tail-short l)
     go (stuck left) l e = let z : ◌≡◌ {A = ℕ} 0 1 = cc in omega arith
 
 -- the call has read: what follows goes on with what is left
-pub then-read : {A : Type 0} {R : Reader A} (k : List ℕ → Scan) → Shortens R → (s : List ℕ) {n : ℕ}
-    → Next n ≡ scan_of (R s) → then_of (R s) k ≡ k (last_ones n s)
+pub then-read : {A : Type 0} {R : Reader A} (k : List ℕ → Result ℕ ℕ) → Shortens R → (s : List ℕ) {n : ℕ}
+    → Ok n ≡ scan_of (R s) → then_of (R s) k ≡ k (last_ones n s)
 then-read {A} {R} k h s {n} e = go (R s) (h.leaves s) e
   where
-    go : (p : Parsed A) → Leaves s p → Next n ≡ scan_of p → then_of p k ≡ k (last_ones n s)
+    go : (p : Parsed A) → Leaves s p → Ok n ≡ scan_of p → then_of p k ≡ k (last_ones n s)
     go (got a t) l e = let f : n ≡ length t = cc in rw f (ap k (tail-last l))
     go (stuck left) l e = let z : ◌≡◌ {A = ℕ} 0 1 = cc in absurd (omega arith)
 
 -- the call has refused: nothing follows
-pub then-refused : {A : Type 0} (p : Parsed A) (k : List ℕ → Scan) {n : ℕ} → Bad n ≡ scan_of p → then_of p k ≡ Bad n
+pub then-refused : {A : Type 0} (p : Parsed A) (k : List ℕ → Result ℕ ℕ) {n : ℕ} → Err n ≡ scan_of p
+    → then_of p k ≡ Err n
 then-refused (got a t) k e = let z : ◌≡◌ {A = ℕ} 0 1 = cc in absurd (omega arith)
 then-refused (stuck left) k e = sym e
 
-pub stuck-short : {A : Type 0} {R : Reader A} → Shortens R → (s : List ℕ) {n : ℕ} → Bad n ≡ scan_of (R s) → n ≤ length s
+pub stuck-short : {A : Type 0} {R : Reader A} → Shortens R → (s : List ℕ) {n : ℕ} → Err n ≡ scan_of (R s) → n ≤ length s
 stuck-short {A} {R} h s {n} e = go (R s) (h.leaves s) e
   where
-    go : (p : Parsed A) → Leaves s p → Bad n ≡ scan_of p → n ≤ length s
+    go : (p : Parsed A) → Leaves s p → Err n ≡ scan_of p → n ≤ length s
     go (got a t) l e = let z : ◌≡◌ {A = ℕ} 0 1 = cc in omega arith
     go (stuck left) l e = let f : n ≡ left = cc in rw f l

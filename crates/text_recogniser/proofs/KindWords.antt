@@ -8,11 +8,11 @@ use Prim.Native.Nat.{ℕ, suc}
 use lib.ListN.{length, get_or, take}
 use lib.Dec.{eqb}
 use borrow.Author.Tests.{ne_eqb}
+use Rattle.std.specs.Prelude.{Result}
 use Rattle.prelude.specs.Lists.{trimmed}
 use Rattle.prelude.proofs.Tests.{eq-or-ne}
 use Rattle.netlist.specs.Kinds.{keyword, signature_of}
 use Rattle.netlist.specs.Parse.{Reader, stuck, pure, stop, on_test, if_next, expect, on_parsed, kind_reader}
-use Rattle.text_recogniser.specs.declared.scan.Scan.{Scan}
 use Rattle.text_recogniser.specs.Readers.{scan_of, word_reader}
 use Rattle.text_recogniser.specs.Keywords.{kind_behind_x, kind_here}
 
@@ -114,6 +114,6 @@ word-handed {A} {B} (c ∷ cs) next a (d ∷ s) = go (eqb c d) (word-handed cs n
 
 -- the keyword in the table of kinds, without the zeros at its end
 pub keyword-read : (k n : ℕ) (bytes s : List ℕ) → bytes ≡ (signature_of k).keyword → take n bytes ≡ trimmed bytes
-    → {r : Scan} → r ≡ scan_of (word_reader (take n bytes) s) → r ≡ scan_of (word_reader (keyword k) s)
+    → {r : Result ℕ ℕ} → r ≡ scan_of (word_reader (take n bytes) s) → r ≡ scan_of (word_reader (keyword k) s)
 unfolding keyword
 keyword-read k n bytes s e t f = f ∙ ap (λ w. scan_of (word_reader w s)) (t ∙ ap trimmed e)

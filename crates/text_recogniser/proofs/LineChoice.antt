@@ -9,11 +9,11 @@ use lib.ListN.{length, take, drop, get_or, length-drop}
 use lib.Seq.{get_or-drop}
 use lib.Dec.{eqb, leb}
 use borrow.Author.Tests.{eq-eqb, ne_eqb, eqb-true, le-leb, leb-true}
+use Rattle.std.specs.Prelude.{Ok, Err}
 use Rattle.prelude.proofs.Tests.{not-true-false, and_left, and_right, and_intro, eq-or-ne}
 use Rattle.prelude.proofs.Elements.{rest-is-drop}
 use Rattle.prelude.specs.Lists.{ascii, is}
 use Rattle.netlist.specs.Parse.{stuck, stop, expect}
-use Rattle.text_recogniser.specs.declared.scan.Scan.TheVariants.{Next, Bad}
 use Rattle.text_recogniser.specs.Readers.{scan_of, first_byte}
 use Rattle.text_recogniser.proofs.First.{byte-taken, byte_left}
 use Rattle.text_recogniser.proofs.Shortens.{Leaves, Shortens, shortens-expect, shortens-bind, shortens-name}
@@ -157,7 +157,7 @@ pub shortens-line : (phase : ℕ) → Shortens (line_reader phase)
 unfolding line_reader
 shortens-line phase = shortens-expect (ascii "(") (shortens-behind phase)
 
-pub line-shorter : (phase : ℕ) (s : List ℕ) {n : ℕ} → 0 < length s → Next n ≡ scan_of (line_reader phase s) → n < length s
+pub line-shorter : (phase : ℕ) (s : List ℕ) {n : ℕ} → 0 < length s → Ok n ≡ scan_of (line_reader phase s) → n < length s
 line-shorter phase s {n} h e = ⊎_elim read refused (eq-or-ne (get_or s 0 0) 40)
   where
     read : get_or s 0 0 ≡ 40 → n < length s
@@ -168,6 +168,6 @@ line-shorter phase s {n} h e = ⊎_elim read refused (eq-or-ne (get_or s 0 0) 40
 
     refused : (get_or s 0 0 ≡ 40 → ⊥) → n < length s
     refused f =
-        let q : Next n ≡ Bad (length s) = e ∙ ap scan_of (line-none phase s refl f) in
+        let q : Ok n ≡ Err (length s) = e ∙ ap scan_of (line-none phase s refl f) in
         let z : ◌≡◌ {A = ℕ} 0 1 = cc in
         absurd (omega arith)

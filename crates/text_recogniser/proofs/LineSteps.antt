@@ -1,17 +1,13 @@
 -- The parts of a line, one after the other: what its reader does first, and what follows. The line readers' proofs cite
 -- each step. Assumes nothing.
-use Prim.Native.Nat.{ℕ, ◌-◌}
+use Prim.Native.Nat.{◌-◌}
 use mathlib.Core.Bool.{true, false}
-use mathlib.Core.List.{List}
-use mathlib.Core.Path.{◌≡◌, ap, ◌∙◌}
-use lib.ListN.{length, drop, take, length-drop}
+use lib.ListN.{length}
 use Rattle.prelude.specs.Lists.{ascii}
-use Rattle.prelude.proofs.Elements.{rest-is-drop}
 use Rattle.netlist.specs.Limits.{max_depth}
 use Rattle.netlist.specs.Syntax.{apply}
-use Rattle.netlist.specs.Parse.{name_reader, pairs_reader, never_pairs}
-use Rattle.text_recogniser.specs.declared.scan.Scan.{Scan}
-use Rattle.text_recogniser.specs.Readers.{scan_of, word_reader, first_byte}
+use Rattle.netlist.specs.Parse.{name_reader, never_pairs}
+use Rattle.text_recogniser.specs.Readers.{word_reader, first_byte}
 use Rattle.text_recogniser.proofs.Shortens.{Shortens, shortens-name}
 use Rattle.text_recogniser.proofs.Chain.{Then, word-then, skip-then}
 use Rattle.text_recogniser.proofs.PairSteps.{shortens-pairs}
@@ -39,13 +35,6 @@ shortens-never-pairs = record { leaves = λ s. (shortens-pairs (length s) 1).lea
 pub never-pairs : Then never_end never_pairs (word_reader (ascii "\n"))
 unfolding never_end
 never-pairs = skip-then shortens-never-pairs (word_reader (ascii "\n"))
-
--- the code's bound is the number of bytes left
-pub never-bound : (s : List ℕ) (at : ℕ) {r : Scan}
-    → r ≡ scan_of (pairs_reader (length s - at) 1 (take (length s - at) (drop at s)))
-    → r ≡ scan_of (never_pairs (take (length s - at) (drop at s)))
-unfolding never_pairs
-never-bound s at e = rw (ap length (rest-is-drop s at) ∙ length-drop at s) e
 
 pub shortens-expression : Shortens expression_reader
 unfolding expression_reader

@@ -20,11 +20,5 @@ module _ {A : Type 0} where
       let f : length xs - n + (length ys - m) ≡ length xs - m = omega arith in
       rw (← f) (rw (← drop-drop (length ys - m) (length xs - n) xs) (ap (drop (length ys - m)) e))
 
-  pub last-last : (m n : ℕ) (xs : List A) → m ≤ n → n ≤ length xs → last_ones m (last_ones n xs) ≡ last_ones m xs
-  last-last m n xs h g =
-      let e : length (last_ones n xs) ≡ n = length_last n xs g in
-      let f : length xs - n + (n - m) ≡ length xs - m = omega arith in
-      rw (e, drop-drop (n - m) (length xs - n) xs, f)
-
 pub first-at : (s : List ℕ) (i : ℕ) → get_or (drop i s) 0 0 ≡ get_or s i 0
 first-at s i = get_or-drop i s 0 0 ∙ ap (λ (k : ℕ). get_or s k 0) (add-zero i)

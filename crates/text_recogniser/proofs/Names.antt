@@ -4,9 +4,9 @@ use mathlib.Core.Bool.{Bool, true, false}
 use mathlib.Core.List.{List, ◌∷◌}
 use Prim.Native.Nat.{ℕ, ◌<◌}
 use lib.ListN.{length, drop, get_or}
+use Rattle.std.specs.Prelude.{Err}
 use Rattle.netlist.specs.Names.{is_letter, is_name_start, is_underscore}
 use Rattle.netlist.specs.Parse.{stop, name_bytes, name_after, name_reader}
-use Rattle.text_recogniser.specs.declared.scan.Scan.TheVariants.{Bad}
 use Rattle.text_recogniser.specs.Readers.{scan_of, first_byte}
 use Rattle.text_recogniser.proofs.Continues.{scan-map}
 use Rattle.text_recogniser.proofs.First.{there, if-taken, if-left}
@@ -31,9 +31,6 @@ module _ (u : Bool) (s : List ℕ) where
       ap scan_of (if-taken _ _ (first_byte u) s (no-first u) h)
       ∙ scan-map (name_bytes 7) (λ cs. get_or s 0 0 ∷ cs) (drop 1 s)
 
-  pub name-none : first_byte u (get_or s 0 0) ≡ false → scan_of (name_reader (first_byte u) s) ≡ Bad (length s)
+  pub name-none : first_byte u (get_or s 0 0) ≡ false → scan_of (name_reader (first_byte u) s) ≡ Err (length s)
   unfolding name_reader stop
   name-none h = ap scan_of (if-left _ _ (first_byte u) s h)
-
-pub start-there : (s : List ℕ) → is_name_start (get_or s 0 0) ≡ true → 0 < length s
-start-there s h = there is_name_start s no_start h

@@ -5,16 +5,15 @@ use mathlib.Core.List.{List}
 use Prim.Native.Nat.{ℕ, zero, suc, ◌-◌}
 use native.Mathlib.Omega.{arith}
 use lib.ListN.{length, drop, get_or, length-drop}
+use Rattle.std.specs.Prelude.{Ok, Err}
 use Rattle.prelude.specs.Lists.{ascii}
 use Rattle.netlist.specs.Kinds.{keyword, most_operands, fewest_operands}
 use Rattle.netlist.specs.Syntax.{Term, Terms, nil, cons}
 use Rattle.netlist.specs.Parse.{Reader, pure, stop, expect, on_parsed, bind, kind_reader, spaced, terms_reader, expr_reader}
-use Rattle.text_recogniser.specs.declared.scan.Scan.{Scan}
-use Rattle.text_recogniser.specs.declared.scan.Scan.TheVariants.{Next, Bad}
-use Rattle.text_recogniser.specs.Readers.{scan_of, scan_behind, word_reader}
+use Rattle.text_recogniser.specs.Readers.{scan_of, last_ones, word_reader}
 use Rattle.text_recogniser.proofs.Shortens.{shortens-word}
 use Rattle.text_recogniser.proofs.Continues.{Continues, continues-bind, continues-word, continues-same, scan-map}
-use Rattle.text_recogniser.proofs.Chain.{Then, in_two}
+use Rattle.text_recogniser.proofs.Chain.{Then, goes-on, breaks-off}
 use Rattle.text_recogniser.proofs.First.{byte-taken, byte_left}
 use Rattle.text_recogniser.specs.Keywords.{kind_here}
 use Rattle.text_recogniser.proofs.KindWords.{kind-is, word-handed}
@@ -36,13 +35,13 @@ module _ (term : Reader Term) (most needed : ℕ) (s : List ℕ) where
       rw e ((continues-word (ascii ")") (pure nil)).goes_on s ∙ sym ((continues-word (ascii ")") (pure 0)).goes_on s))
 
   module _ (m : most ≡ 0 → ⊥) {b : ℕ} (e : b ≡ get_or s 0 0) where
-    pub list-closed : b ≡ 41 → needed ≡ 0 → scan_of (terms_reader term most needed s) ≡ Next (length s - 1)
+    pub list-closed : b ≡ 41 → needed ≡ 0 → scan_of (terms_reader term most needed s) ≡ Ok (length s - 1)
     unfolding terms_reader pure
     list-closed f n =
         let d : most ≡ suc (most - 1) = omega arith in
-        rw (d, n) (ap scan_of (byte-taken _ _ s 41 e f (omega arith)) ∙ ap Next (length-drop 1 s))
+        rw (d, n) (ap scan_of (byte-taken _ _ s 41 e f (omega arith)) ∙ ap Ok (length-drop 1 s))
 
-    pub list-needed : b ≡ 41 → (needed ≡ 0 → ⊥) → scan_of (terms_reader term most needed s) ≡ Bad (length s)
+    pub list-needed : b ≡ 41 → (needed ≡ 0 → ⊥) → scan_of (terms_reader term most needed s) ≡ Err (length s)
     unfolding terms_reader spaced expect stop
     list-needed f n =
         let d : most ≡ suc (most - 1) = omega arith in
@@ -61,7 +60,7 @@ module _ (term : Reader Term) (most needed : ℕ) (s : List ℕ) where
           go (suc n) =
               let d : suc (most - 1) - 1 ≡ most - 1 = omega arith in let g : suc n - 1 ≡ n = omega arith in rw (d, g)
 
-      pub list-other : (b ≡ 32 → ⊥) → scan_of (terms_reader term most needed s) ≡ Bad (length s)
+      pub list-other : (b ≡ 32 → ⊥) → scan_of (terms_reader term most needed s) ≡ Err (length s)
       unfolding spaced expect stop
       list-other g = ap scan_of (list-spaced ∙ byte_left _ _ s 32 e g)
 
@@ -91,14 +90,19 @@ module _ {A : Type 0} (term : Reader Term) (make : ℕ → Terms → A) where
         shorter = shortens-word (keyword k);
       }
 
-  pub expression-read : (s : List ℕ) {k : ℕ} → k ≡ kind_here s → {found : Scan}
-      → found ≡ scan_of (word_reader (keyword k) s) → {r : Scan} → r ≡ scan_behind (operands_of k) s found
-      → r ≡ scan_of (expr_reader term make s)
-  unfolding expr_reader bind after_kind
-  expression-read s {k} e f g =
-      let h : kind_reader s ≡ expect (keyword k) (pure k) s = rw e (kind-is s) in
-      g ∙ ap (scan_behind (operands_of k) s) f
-      ∙ sym
-      (ap (λ p. scan_of (on_parsed (after_kind term make) p)) h
-      ∙ ap scan_of (word-handed (keyword k) (after_kind term make) k s)
-      ∙ in_two (word-and-operands k) s)
+  -- the keyword is read, and then the operands; or it breaks off
+  module _ (s : List ℕ) {k : ℕ} (e : k ≡ kind_here s) where
+    begun : scan_of (expr_reader term make s) ≡ scan_of (expect (keyword k) (after_kind term make k) s)
+    unfolding expr_reader bind after_kind
+    begun =
+        let h : kind_reader s ≡ expect (keyword k) (pure k) s = rw e (kind-is s) in
+        ap (λ p. scan_of (on_parsed (after_kind term make) p)) h
+        ∙ ap scan_of (word-handed (keyword k) (after_kind term make) k s)
+
+    module _ {n : ℕ} where
+      pub expression-read : {rest : List ℕ} → Ok n ≡ scan_of (word_reader (keyword k) s) → rest ≡ last_ones n s
+          → scan_of (expr_reader term make s) ≡ scan_of (operands_of k rest)
+      expression-read f g = begun ∙ goes-on (word-and-operands k) s f g
+
+      pub expression-bad : Err n ≡ scan_of (word_reader (keyword k) s) → scan_of (expr_reader term make s) ≡ Err n
+      expression-bad f = begun ∙ breaks-off (word-and-operands k) s f

@@ -1,27 +1,26 @@
 -- Pairs: one law for each way through the code that reads them. Assumes nothing.
 use mathlib.Core.Path.{◌≡◌, refl, sym, ap, ◌∙◌}
 use mathlib.Core.Bool.{Bool, true, false}
+use mathlib.Core.Logic.{⊎_elim}
 use mathlib.Core.List.{List, [], ◌∷◌}
 use Prim.Native.Nat.{ℕ, zero, suc, ◌+◌, ◌-◌, ◌≤◌, ◌<◌}
 use native.Mathlib.Omega.{arith}
 use lib.ListN.{length, get_or, length-drop}
 use lib.Dec.{eqb}
+use Rattle.std.specs.Prelude.{Result, Ok, Err}
 use Rattle.prelude.specs.Lists.{ascii, is}
-use Rattle.prelude.proofs.Elements.{byte-there}
+use Rattle.prelude.proofs.Tests.{eq-or-ne}
 use Rattle.netlist.specs.Names.{is_name_start}
 use Rattle.netlist.specs.Parse.{Parsed, Reader, got, stuck, pure, stop, on_test, if_next, expect, on_parsed, bind}
 use Rattle.netlist.specs.Parse.{name_reader}
 use Rattle.netlist.specs.Syntax.{Pair}
 use Rattle.netlist.specs.Parse.{bit_reader, pair_reader, spaced_pair, pairs_reader}
-use Rattle.text_recogniser.specs.declared.scan.Scan.{Scan}
-use Rattle.text_recogniser.specs.declared.scan.Scan.TheVariants.{Next, Bad}
 use Rattle.text_recogniser.specs.Readers.{scan_of, last_ones, word_reader, first_byte}
-use Rattle.text_recogniser.proofs.ListFacts.{last-of-last, length_last, first-at}
 use Rattle.text_recogniser.proofs.Shortens.{Shortens, shortens-pure, shortens-stop, shortens-if, shortens-expect}
 use Rattle.text_recogniser.proofs.Shortens.{shortens-bind, shortens-name}
 use Rattle.text_recogniser.proofs.Continues.{then_of, Continues, continues-bind, continues-after-expect}
 use Rattle.text_recogniser.proofs.Continues.{continues-word}
-use Rattle.text_recogniser.proofs.Continues.{scan-map, left-short, then-read, then-refused}
+use Rattle.text_recogniser.proofs.Continues.{scan-map, then-read, then-refused}
 use Rattle.text_recogniser.proofs.Chain.{Then, word-then, skip-then}
 use Rattle.text_recogniser.proofs.First.{byte-taken, byte_left}
 use Rattle.text_recogniser.specs.Pairs.{pair_value, pair_space, pair_name, pair_scan}
@@ -29,7 +28,7 @@ use Rattle.text_recogniser.specs.Pairs.{pair_value, pair_space, pair_name, pair_
 -- ---- readers that leave the same, whatever they read
 
 pub record SameRest {A B : Type 0} (R : Reader A) (Q : Reader B) : Type 0 where
-  pub same : (k : List ℕ → Scan) (s : List ℕ) → then_of (R s) k ≡ then_of (Q s) k
+  pub same : (k : List ℕ → Result ℕ ℕ) (s : List ℕ) → then_of (R s) k ≡ then_of (Q s) k
 
 module _ {A B : Type 0} where
   same-pure : (a : A) (b : B) → SameRest (pure a) (pure b)
@@ -41,12 +40,12 @@ module _ {A B : Type 0} where
   unfolding if_next on_test stop
   same_if test {R} {Q} h = record { same = λ k s. go k s }
     where
-      at : (b : Bool) (k : List ℕ → Scan) (d : ℕ) (s : List ℕ)
+      at : (b : Bool) (k : List ℕ → Result ℕ ℕ) (d : ℕ) (s : List ℕ)
           → then_of (on_test b (λ _. R) stop d s) k ≡ then_of (on_test b (λ _. Q) stop d s) k
       at true k d s = h.same k s
       at false k d s = refl
 
-      go : (k : List ℕ → Scan) (s : List ℕ)
+      go : (k : List ℕ → Result ℕ ℕ) (s : List ℕ)
           → then_of (if_next test (λ _. R) stop s) k ≡ then_of (if_next test (λ _. Q) stop s) k
       go k [] = refl
       go k (d ∷ s) = at (test d) k d s
@@ -61,7 +60,7 @@ same-bind : {A B C : Type 0} (R : Reader A) {f : A → Reader B} {g : A → Read
 unfolding bind on_parsed
 same-bind {A} R {f} {g} h = record { same = λ k s. go k (R s) }
   where
-    go : (k : List ℕ → Scan) (p : Parsed A) → then_of (on_parsed f p) k ≡ then_of (on_parsed g p) k
+    go : (k : List ℕ → Result ℕ ℕ) (p : Parsed A) → then_of (on_parsed f p) k ≡ then_of (on_parsed g p) k
     go k (got a t) = (h a).same k t
     go k (stuck left) = refl
 
@@ -73,16 +72,19 @@ shortens-bit =
     shortens-if (is "0") (λ _. shortens-pure false) (shortens-if (is "1") (λ _. shortens-pure true) shortens-stop)
 
 module _ (s : List ℕ) {b : ℕ} (e : b ≡ get_or s 0 0) where
-  pub value-0 : b ≡ 48 → Next (length s - 1) ≡ scan_of (bit_reader s)
+  pub value-bit : 48 ≤ b → b ≤ 49 → Ok (length s - 1) ≡ scan_of (bit_reader s)
   unfolding bit_reader pure
-  value-0 f = sym (ap scan_of (byte-taken _ _ s 48 e f (omega arith)) ∙ ap Next (length-drop 1 s))
+  value-bit l u = ⊎_elim zero one (eq-or-ne b 48)
+    where
+      zero : b ≡ 48 → Ok (length s - 1) ≡ scan_of (bit_reader s)
+      zero f = sym (ap scan_of (byte-taken _ _ s 48 e f (omega arith)) ∙ ap Ok (length-drop 1 s))
 
-  pub value-1 : (b ≡ 48 → ⊥) → b ≡ 49 → Next (length s - 1) ≡ scan_of (bit_reader s)
-  unfolding bit_reader pure
-  value-1 n f =
-      sym (ap scan_of (byte_left _ _ s 48 e n ∙ byte-taken _ _ s 49 e f (omega arith)) ∙ ap Next (length-drop 1 s))
+      one : (b ≡ 48 → ⊥) → Ok (length s - 1) ≡ scan_of (bit_reader s)
+      one n =
+          let f : b ≡ 49 = omega (arith, n) in
+          sym (ap scan_of (byte_left _ _ s 48 e n ∙ byte-taken _ _ s 49 e f (omega arith)) ∙ ap Ok (length-drop 1 s))
 
-  pub value_none : (b ≡ 48 → ⊥) → (b ≡ 49 → ⊥) → Bad (length s) ≡ scan_of (bit_reader s)
+  pub value_none : (b ≡ 48 → ⊥) → (b ≡ 49 → ⊥) → Err (length s) ≡ scan_of (bit_reader s)
   unfolding bit_reader stop
   value_none n m = sym (ap scan_of (byte_left _ _ s 48 e n ∙ byte_left _ _ s 49 e m))
 
@@ -149,13 +151,13 @@ module _ (most needed : ℕ) (s : List ℕ) where
       rw e ((continues-word (ascii ")") (pure [])).goes_on s ∙ sym ((continues-word (ascii ")") (pure 0)).goes_on s))
 
   module _ (m : 0 < most) {b : ℕ} (e : b ≡ get_or s 0 0) where
-    pairs-closed : b ≡ 41 → needed ≡ 0 → scan_of (pairs_reader most needed s) ≡ Next (length s - 1)
+    pairs-closed : b ≡ 41 → needed ≡ 0 → scan_of (pairs_reader most needed s) ≡ Ok (length s - 1)
     unfolding pairs_reader pure
     pairs-closed f n =
         let d : most ≡ suc (most - 1) = omega arith in
-        rw (d, n) (ap scan_of (byte-taken _ _ s 41 e f (omega arith)) ∙ ap Next (length-drop 1 s))
+        rw (d, n) (ap scan_of (byte-taken _ _ s 41 e f (omega arith)) ∙ ap Ok (length-drop 1 s))
 
-    pairs-needed : b ≡ 41 → 0 < needed → scan_of (pairs_reader most needed s) ≡ Bad (length s)
+    pairs-needed : b ≡ 41 → 0 < needed → scan_of (pairs_reader most needed s) ≡ Err (length s)
     unfolding pairs_reader spaced_pair expect stop
     pairs-needed f n =
         let d : most ≡ suc (most - 1) = omega arith in
@@ -170,66 +172,37 @@ module _ (most needed : ℕ) (s : List ℕ) where
         spaced : pairs_reader most needed s ≡ spaced_pair (pairs_reader (most - 1) (needed - 1)) s
         spaced = list-spaced most needed s m e f
 
--- ---- the loop over pairs: i of them are read, and so many bytes are left
+-- ---- the loop over pairs: i of them are read, and so much of the text is left
 
-pub record PairsLeft (s : List ℕ) (most needed i left : ℕ) : Type 0 where
-  pub some : i ≤ most
-  pub within : left ≤ length s
-  pub is-rest : scan_of (pairs_reader most needed s) ≡ scan_of (pairs_reader (most - i) (needed - i) (last_ones left s))
+abbrev pub PairsLeft : List ℕ → ℕ → ℕ → ℕ → List ℕ → Type 0
+PairsLeft s most needed i rest =
+    scan_of (pairs_reader most needed s) ≡ scan_of (pairs_reader (most - i) (needed - i) rest)
 
-pub pairs_start : (s : List ℕ) (most needed : ℕ) → PairsLeft s most needed 0 (length s)
-pairs_start s most needed =
-    let z : length s - length s ≡ 0 = omega arith in
-    let a : most - 0 ≡ most = omega arith in
-    let b : needed - 0 ≡ needed = omega arith in
-    record { some = omega arith; within = omega arith; is-rest = rw (z, a, b) }
+module _ (s rest : List ℕ) (most needed i : ℕ) (p : PairsLeft s most needed i rest) where
+  pub pairs_end : most ≤ i → scan_of (pairs_reader most needed s) ≡ scan_of (word_reader (ascii ")") rest)
+  pairs_end l = p ∙ pairs-full (most - i) (needed - i) rest (omega arith)
 
-module _ (s : List ℕ) (most needed i left : ℕ) (p : PairsLeft s most needed i left) where
-  rest-length : length (last_ones left s) ≡ left
-  rest-length = length_last left s p.within
+  module _ (l : i < most) {b : ℕ} (e : b ≡ get_or rest 0 0) where
+    pub left-closed : b ≡ 41 → needed ≤ i → Ok (length rest - 1) ≡ scan_of (pairs_reader most needed s)
+    left-closed f n = sym (p ∙ pairs-closed (most - i) (needed - i) rest (omega arith) e f (omega arith))
 
-  pub pairs_end : most ≤ i → {r : Scan} → r ≡ scan_of (word_reader (ascii ")") (last_ones left s))
-      → r ≡ scan_of (pairs_reader most needed s)
-  pairs_end l e = e ∙ sym (p.is-rest ∙ pairs-full (most - i) (needed - i) (last_ones left s) (omega arith))
+    pub left-needed : b ≡ 41 → i < needed → Err (length rest) ≡ scan_of (pairs_reader most needed s)
+    left-needed f n = sym (p ∙ pairs-needed (most - i) (needed - i) rest (omega arith) e f (omega arith))
 
-  module _ (l : i < most) {b : ℕ} (read : b ≡ get_or s (length s - left) 0) where
-    e : b ≡ get_or (last_ones left s) 0 0
-    e = read ∙ sym (first-at s (length s - left))
-
-    pub left_there : b ≡ 41 → 1 ≤ left
-    left_there f = omega (arith, byte-there (last_ones left s) e f (omega arith), rest-length)
-
-    pub left-closed : b ≡ 41 → needed ≤ i → Next (left - 1) ≡ scan_of (pairs_reader most needed s)
-    left-closed f n =
-        sym
-        (p.is-rest ∙ pairs-closed (most - i) (needed - i) (last_ones left s) (omega arith) e f (omega arith)
-        ∙ ap (λ (k : ℕ). Next (k - 1)) rest-length)
-
-    pub left-needed : b ≡ 41 → i < needed → Bad left ≡ scan_of (pairs_reader most needed s)
-    left-needed f n =
-        sym
-        (p.is-rest ∙ pairs-needed (most - i) (needed - i) (last_ones left s) (omega arith) e f (omega arith)
-        ∙ ap Bad rest-length)
-
-    module _ (f : b ≡ 41 → ⊥) {r : Scan} (told : r ≡ scan_of (pair_scan (last_ones left s))) where
+    module _ (f : b ≡ 41 → ⊥) where
       one : scan_of (pairs_reader most needed s)
-          ≡ then_of (pair_scan (last_ones left s)) (λ u. scan_of (pairs_reader (most - i - 1) (needed - i - 1) u))
-      one = p.is-rest ∙ pairs-more (most - i) (needed - i) (last_ones left s) (omega arith) e f
+          ≡ then_of (pair_scan rest) (λ u. scan_of (pairs_reader (most - i - 1) (needed - i - 1) u))
+      one = p ∙ pairs-more (most - i) (needed - i) rest (omega arith) e f
 
-      pub left-bad : {n : ℕ} → r ≡ Bad n → r ≡ scan_of (pairs_reader most needed s)
-      left-bad g = g ∙ sym (one ∙ then-refused (pair_scan (last_ones left s)) _ (sym g ∙ told))
+      pub left-bad : {n : ℕ} → Err n ≡ scan_of (pair_scan rest) → scan_of (pairs_reader most needed s) ≡ Err n
+      left-bad told = one ∙ then-refused (pair_scan rest) _ told
 
-      pub left-next : {n : ℕ} → r ≡ Next n → PairsLeft s most needed (i + 1) n
-      left-next {n} g =
-          let w : n ≤ length (last_ones left s) = left-short shortens-pair (last_ones left s) (sym g ∙ told) in
+      pub left-next : {n : ℕ} {t : List ℕ} → Ok n ≡ scan_of (pair_scan rest) → t ≡ last_ones n rest
+          → PairsLeft s most needed (i + 1) t
+      left-next {n} told g =
           let a : most - i - 1 ≡ most - (i + 1) = omega arith in
           let d : needed - i - 1 ≡ needed - (i + 1) = omega arith in
-          let q : last_ones n (last_ones left s) ≡ last_ones n s = last-of-last n left s refl w in
-          record {
-            some = omega arith;
-            within = omega (arith, p.within, w, rest-length);
-            is-rest = rw (← a, ← d, ← q) (one ∙ then-read _ shortens-pair (last_ones left s) (sym g ∙ told));
-          }
+          rw (g, ← a, ← d) (one ∙ then-read _ shortens-pair rest told)
 
 -- ---- what is left is within the line
 

@@ -6,6 +6,7 @@ use mathlib.Core.List.{List, [], ◌∷◌}
 use Prim.Native.Nat.{ℕ, zero, suc, ◌-◌, ◌<◌}
 use native.Mathlib.Omega.{arith}
 use lib.ListN.{length, drop, get_or}
+use Rattle.std.specs.Prelude.{Result, Ok, Err}
 use Rattle.prelude.proofs.Tests.{eq-or-ne}
 use Rattle.prelude.specs.Lists.{ascii}
 use Rattle.netlist.specs.Limits.{max_depth}
@@ -17,8 +18,6 @@ use Rattle.netlist.specs.Parse.{kind_reader, terms_reader, expr_reader}
 use Rattle.netlist.specs.Parse.{term_reader, never_pairs, add_input, add_never, add_gate, add_output, input_line, never_line}
 use Rattle.netlist.specs.Parse.{gate_line, output_line, at_end, line}
 use Rattle.netlist.specs.Parse.{outputs_reader, gates_reader, nevers_reader, text_reader}
-use Rattle.text_recogniser.specs.declared.scan.Scan.{Scan}
-use Rattle.text_recogniser.specs.declared.scan.Scan.TheVariants.{Next, Bad}
 use Rattle.text_recogniser.specs.Readers.{scan_of, word_reader, first_byte}
 use Rattle.text_recogniser.proofs.First.{byte-taken, byte_left}
 use Rattle.text_recogniser.proofs.Continues.{Continues, then_of, continues-after-bind, continues-after-expect}
@@ -43,7 +42,7 @@ continues-end w others add =
 
 -- an expression's value plays no part
 continues-expression : {A B C D : Type 0} (term : Reader Term) (make : ℕ → Terms → A) (make₀ : ℕ → Terms → B)
-    {next : A → Reader C} {next₀ : Reader D} {k : List ℕ → Scan} → ((a : A) → Continues (next a) next₀ k)
+    {next : A → Reader C} {next₀ : Reader D} {k : List ℕ → Result ℕ ℕ} → ((a : A) → Continues (next a) next₀ k)
     → Continues (bind (expr_reader term make) next) (bind (expr_reader term make₀) (λ _. next₀)) k
 unfolding expr_reader bind on_parsed after_kind pure
 continues-expression term make make₀ {next} {next₀} {k} h = record { goes_on = λ s. kind (kind_reader s) }
@@ -129,7 +128,7 @@ lines_reader (suc (suc zero)) = gates_reader
 lines_reader (suc (suc (suc p))) = outputs_reader
 
 -- behind a line with the letter c
-abbrev onward : ℕ → ℕ → List ℕ → Scan
+abbrev onward : ℕ → ℕ → List ℕ → Result ℕ ℕ
 onward c more u = scan_of (lines_reader (phase_of c) more u)
 
 module _ (more : ℕ) (t : List ℕ) where
@@ -235,7 +234,7 @@ module _ (more : ℕ) (t : List ℕ) where
   behind-step (suc (suc zero)) = gates-step
   behind-step (suc (suc (suc p))) = outputs-step p
 
-no_end : (s : List ℕ) → 0 < length s → scan_of (at_end s) ≡ Bad (length s)
+no_end : (s : List ℕ) → 0 < length s → scan_of (at_end s) ≡ Err (length s)
 unfolding at_end
 no_end [] h = absurd (omega arith)
 no_end (c ∷ s) h = refl
@@ -257,7 +256,7 @@ lines_step phase more s h = ap scan_of (lines-one phase more s) ∙ ⊎_elim bra
     other e = rw (line-none phase s refl e) (ap scan_of (byte_left _ _ s 40 refl e) ∙ no_end s h)
 
 -- where none are left, the text is over
-pub lines-over : (phase more : ℕ) → scan_of (lines_reader phase more []) ≡ Next 0
+pub lines-over : (phase more : ℕ) → scan_of (lines_reader phase more []) ≡ Ok 0
 unfolding lines_reader text_reader nevers_reader gates_reader outputs_reader line if_next at_end
 lines-over zero zero = refl
 lines-over zero (suc more) = refl

@@ -1,122 +1,104 @@
 -- The loop over a text's lines: how far it has come, one line more, and what the text's form is in the end. Assumes
 -- nothing.
 use mathlib.Core.Path.{◌≡◌, refl, sym, ap, ◌∙◌}
-use mathlib.Core.List.{List}
+use mathlib.Core.List.{List, [], ◌∷◌}
+use mathlib.Core.Bool.{true, false}
+use lib.Dec.{eqb}
+use borrow.Author.Tests.{eq-eqb, ne_eqb}
+use Rattle.prelude.proofs.Tests.{not-both}
 use Prim.Native.Nat.{ℕ, suc, ◌-◌, ◌≤◌, ◌<◌}
 use native.Mathlib.Omega.{arith}
-use lib.ListN.{length, take, drop, get_or, length-drop, drop_of_length-le}
-use Rattle.prelude.proofs.Elements.{rest-is-drop}
+use lib.ListN.{length, get_or}
+use Rattle.std.specs.Prelude.{Ok, Err}
 use Rattle.netlist.specs.Syntax.{Tree}
 use Rattle.netlist.specs.Parse.{Parsed, got, stuck, parse}
 use Rattle.netlist.specs.declared.Refusal.TheVariants.{SyntaxError}
-use Rattle.words_refusals.specs.declared.Test.TheVariants.{Passed, Failed}
+use Rattle.std.specs.declared.result.Result.TheVariants.{Ok, Err}
 use Rattle.words_refusals.specs.Tests.{test_at}
-use Rattle.text_recogniser.specs.declared.scan.Scan.{Scan}
-use Rattle.text_recogniser.specs.declared.scan.Scan.TheVariants.{Next, Bad as Stuck}
 use Rattle.text_recogniser.specs.Readers.{bad_of, scan_of, last_ones}
-use Rattle.text_recogniser.proofs.ListFacts.{last-last}
+use Rattle.text_recogniser.proofs.ListFacts.{length_last}
 use Rattle.text_recogniser.proofs.Continues.{then_of, stuck-short, then-read, then-refused}
 use Rattle.text_recogniser.specs.Scan.{first_bad, line_reader, phase_of}
 use Rattle.text_recogniser.proofs.LineChoice.{shortens-line, line-shorter}
 use Rattle.text_recogniser.proofs.Phases.{lines_reader, lines_step, lines-over}
 
 -- the test from what is left
-form-stuck : (text : List ℕ) (n : ℕ) → scan_of (parse text) ≡ Stuck n
-    → test_at (first_bad text) SyntaxError ≡ Failed (SyntaxError (length text - n))
+form-stuck : (text : List ℕ) (n : ℕ) → scan_of (parse text) ≡ Err n
+    → test_at (first_bad text) SyntaxError ≡ Err (SyntaxError (length text - n))
 unfolding first_bad test_at
 form-stuck text n e = go (parse text) e
   where
-    go : (p : Parsed Tree) → scan_of p ≡ Stuck n
-        → test_at (bad_of text p) SyntaxError ≡ Failed (SyntaxError (length text - n))
+    go : (p : Parsed Tree) → scan_of p ≡ Err n
+        → test_at (bad_of text p) SyntaxError ≡ Err (SyntaxError (length text - n))
     go (got t rest) e = let z : ◌≡◌ {A = ℕ} 0 1 = cc in absurd (omega arith)
     go (stuck left) e = let f : left ≡ n = cc in rw f
 
-form-legal : (text : List ℕ) (n : ℕ) → scan_of (parse text) ≡ Next n → test_at (first_bad text) SyntaxError ≡ Passed
+form-legal : (text : List ℕ) (n : ℕ) → scan_of (parse text) ≡ Ok n → test_at (first_bad text) SyntaxError ≡ Ok tt
 unfolding first_bad test_at
 form-legal text n e = go (parse text) e
   where
-    go : (p : Parsed Tree) → scan_of p ≡ Next n → test_at (bad_of text p) SyntaxError ≡ Passed
+    go : (p : Parsed Tree) → scan_of p ≡ Ok n → test_at (bad_of text p) SyntaxError ≡ Ok tt
     go (got t rest) e = refl
     go (stuck left) e = let z : ◌≡◌ {A = ℕ} 0 1 = cc in absurd (omega arith)
 
--- the lines before `at` are read, and those behind it may be of this phase; `more` bounds their number
-pub record Reached (text : List ℕ) (phase at : ℕ) : Type 0 where
-  pub within : at ≤ length text
+-- the lines before `rest` are read, and those of it may be of this phase; `more` bounds their number
+pub record Reached (text : List ℕ) (phase : ℕ) (rest : List ℕ) : Type 0 where
+  pub within : length rest ≤ length text
   pub more : ℕ
-  pub enough : length text - at ≤ more
-  pub is-rest : scan_of (parse text) ≡ scan_of (lines_reader phase more (drop at text))
+  pub enough : length rest ≤ more
+  pub is-rest : scan_of (parse text) ≡ scan_of (lines_reader phase more rest)
 
-pub reached-start : (text : List ℕ) → Reached text 0 0
+pub reached-start : (text : List ℕ) → Reached text 0 text
 unfolding parse lines_reader
 reached-start text = record { within = omega arith; more = length text; enough = omega arith; is-rest = refl }
 
--- what the code lends to the line's reader
-abbrev pub rest_of : List ℕ → ℕ → List ℕ
-rest_of text at = take (length text - at) (drop at text)
+some_left : (s : List ℕ) → false ≡ eqb (length s) 0 → 0 < length s
+some_left [] e = not-both (eq-eqb 0 0 refl) (sym e)
+some_left (c ∷ s) e = omega arith
 
-module _ (text : List ℕ) (phase at : ℕ) (r : Reached text phase at) (open-end : at < length text) where
-  rest-there : 0 < length (drop at text)
-  rest-there = rw (length-drop at text) (omega arith)
+none_left : (s : List ℕ) → true ≡ eqb (length s) 0 → s ≡ []
+none_left [] e = refl
+none_left (c ∷ s) e = not-both (sym e) (ne_eqb (length (c ∷ s)) 0 (λ z. omega arith))
 
-  rest-is : rest_of text at ≡ drop at text
-  rest-is = rest-is-drop text at
+module _ (text : List ℕ) (phase : ℕ) (rest : List ℕ) (r : Reached text phase rest)
+    (is-left : false ≡ eqb (length rest) 0) where
+  open-end : 0 < length rest
+  open-end = some_left rest is-left
 
-  -- one line, and then the others
-  one_line : (s : List ℕ) → s ≡ drop at text → 0 < length s → (m : ℕ) → r.more ≡ suc m
-      → scan_of (parse text) ≡ then_of (line_reader phase s) (λ u. scan_of (lines_reader (phase_of (get_or s 1 0)) m u))
-  one_line s e h m f = r.is-rest ∙ rw (f, ← e) (lines_step phase m s h)
+  -- one line, and then the others: there is room for one
+  one_line : scan_of (parse text)
+      ≡ then_of (line_reader phase rest) (λ u. scan_of (lines_reader (phase_of (get_or rest 1 0)) (r.more - 1) u))
+  one_line =
+      let f : r.more ≡ suc (r.more - 1) = omega (arith, r.enough, open-end) in
+      r.is-rest ∙ ap (λ (m : ℕ). scan_of (lines_reader phase m rest)) f ∙ lines_step phase (r.more - 1) rest open-end
 
-  -- there is room for one
-  one_more : r.more ≡ suc (r.more - 1)
-  one_more = let e : length text - at ≤ r.more = r.enough in omega arith
+  module _ {n : ℕ} where
+    line-left : Ok n ≡ scan_of (line_reader phase rest) → n < length rest
+    line-left e = line-shorter phase rest open-end e
 
-  then-line : scan_of (parse text) ≡ then_of (line_reader phase (rest_of text at))
-      (λ u. scan_of (lines_reader (phase_of (get_or (rest_of text at) 1 0)) (r.more - 1) u))
-  then-line =
-      let h : 0 < length (rest_of text at) = rw rest-is rest-there in
-      one_line (rest_of text at) rest-is h (r.more - 1) one_more
+    pub line-stuck : Err n ≡ scan_of (line_reader phase rest) → n ≤ length text
+    line-stuck e = omega (arith, stuck-short (shortens-line phase) rest e, r.within)
 
-  module _ {x : Scan} (e : x ≡ scan_of (line_reader phase (rest_of text at))) where
-    pub line-left : {n : ℕ} → x ≡ Next n → n < length text - at
-    line-left {n} g =
-        let l : n < length (drop at text) = line-shorter phase (drop at text) rest-there
-        (sym g ∙ e ∙ ap (λ s. scan_of (line_reader phase s)) rest-is) in
-        rw (length-drop at text) at l
+    pub left-less : {t : List ℕ} → Ok n ≡ scan_of (line_reader phase rest) → t ≡ last_ones n rest
+        → length t < length rest
+    left-less e f = let l : n < length rest = line-left e in rw f (rw (length_last n rest (omega arith)) l)
 
-    pub line-stuck : {n : ℕ} → x ≡ Stuck n → n ≤ length text
-    line-stuck {n} g =
-        let l : n ≤ length (drop at text) = stuck-short (shortens-line phase) (drop at text)
-        (sym g ∙ e ∙ ap (λ s. scan_of (line_reader phase s)) rest-is) in
-        omega (arith, l, length-drop at text)
-
-    pub reached-next : {n : ℕ} → x ≡ Next n → Reached text (phase_of (get_or (rest_of text at) 1 0)) (length text - n)
-    reached-next {n} g =
-        let l : n < length text - at = line-left g in
-        let w : length text - at ≤ r.more = r.enough in
+    pub reached-next : {t : List ℕ} → Ok n ≡ scan_of (line_reader phase rest) → t ≡ last_ones n rest
+        → Reached text (phase_of (get_or rest 1 0)) t
+    reached-next {t} e f =
+        let l : n < length rest = line-left e in
+        let k : length t ≡ n = rw f (length_last n rest (omega arith)) in
         record {
-          within = omega arith;
+          within = omega (arith, r.within);
           more = r.more - 1;
-          enough = omega arith;
-          is-rest = rest-after l
-              (then-line ∙ then-read _ (shortens-line phase) (rest_of text at) (sym g ∙ e));
+          enough = omega (arith, r.enough);
+          is-rest = rw f (one_line ∙ then-read _ (shortens-line phase) rest e);
         }
-      where
-        rest-after : n < length text - at → scan_of (parse text)
-            ≡ scan_of (lines_reader (phase_of (get_or (rest_of text at) 1 0)) (r.more - 1) (last_ones n (rest_of text at)))
-            → scan_of (parse text) ≡ scan_of (lines_reader (phase_of (get_or (rest_of text at) 1 0)) (r.more - 1)
-            (drop (length text - n) text))
-        rest-after l q =
-            let a : length text - (length text - at) ≡ at = omega arith in
-            let b : rest_of text at ≡ last_ones (length text - at) text = rw a rest-is in
-            let d : last_ones n (rest_of text at) ≡ last_ones n text = ap (last_ones n) b
-            ∙ last-last n (length text - at) text (omega arith) (omega arith) in
-            rw d at q
 
-    pub reached-stuck : {n : ℕ} → x ≡ Stuck n
-        → test_at (first_bad text) SyntaxError ≡ Failed (SyntaxError (length text - n))
-    reached-stuck {n} g = form-stuck text n (then-line ∙ then-refused (line_reader phase (rest_of text at)) _ (sym g ∙ e))
+    pub reached-stuck : Err n ≡ scan_of (line_reader phase rest)
+        → test_at (first_bad text) SyntaxError ≡ Err (SyntaxError (length text - n))
+    reached-stuck e = form-stuck text n (one_line ∙ then-refused (line_reader phase rest) _ e)
 
-pub reached-end : (text : List ℕ) (phase at : ℕ) → Reached text phase at → length text ≤ at
-    → test_at (first_bad text) SyntaxError ≡ Passed
-reached-end text phase at r h =
-    form-legal text 0 (r.is-rest ∙ rw (drop_of_length-le text h) (lines-over phase r.more))
+pub reached-end : (text : List ℕ) (phase : ℕ) (rest : List ℕ) → Reached text phase rest → true ≡ eqb (length rest) 0
+    → test_at (first_bad text) SyntaxError ≡ Ok tt
+reached-end text phase rest r h = form-legal text 0 (r.is-rest ∙ rw (none_left rest h) (lines-over phase r.more))

@@ -1,30 +1,23 @@
 -- What the readers in code answer of the readers in `netlist`: bytes left, and no tree. Assumes nothing: these are
 -- definitions.
-use Rattle.std.specs.Prelude.{ℕ, ◌-◌, Bool, true, false, List, length, drop}
+use Rattle.std.specs.Prelude.{ℕ, ◌-◌, Bool, true, false, List, length, drop, Result, Ok, Err}
 use Rattle.std.proofs.Math.Option.{Option, none, some}
 use Rattle.netlist.specs.Names.{is_letter, is_name_start}
 use Rattle.netlist.specs.Parse.{Parsed, got, stuck, Reader, pure, expect}
-use Rattle.text_recogniser.specs.declared.scan.Scan.{Scan}
-use Rattle.text_recogniser.specs.declared.scan.Scan.TheVariants.{Next, Bad}
 
 -- the place that a reader tells of a bad text: the number of bytes before the bad one
 abbrev pub bad_of : {A : Type 0} → List ℕ → Parsed A → Option ℕ
 bad_of text (got t rest) = none
 bad_of text (stuck left) = some (length text - left)
 
--- the bytes left of what a reader answers
-abbrev pub scan_of : {A : Type 0} → Parsed A → Scan
-scan_of (got a rest) = Next (length rest)
-scan_of (stuck left) = Bad left
+-- the bytes left of what a reader answers, and where it is stuck, those from the bad one on
+abbrev pub scan_of : {A : Type 0} → Parsed A → Result ℕ ℕ
+scan_of (got a rest) = Ok (length rest)
+scan_of (stuck left) = Err left
 
 -- the last n elements
 abbrev pub last_ones : {A : Type 0} → ℕ → List A → List A
 last_ones n xs = drop (length xs - n) xs
-
--- a reader behind what was found: on the bytes left of the text, or nothing where a byte was bad already
-abbrev pub scan_behind : {A : Type 0} → Reader A → List ℕ → Scan → Scan
-scan_behind R s (Next n) = scan_of (R (last_ones n s))
-scan_behind R s (Bad n) = Bad n
 
 -- a reader of exactly these bytes
 unfoldable pub word_reader : List ℕ → Reader ℕ

@@ -27,31 +27,23 @@ fn kind_behind_x(c: u8) -> usize
     if c == XOR_O { 5 } else { 6 }
 }
 
-// The kind whose word stands here.
+// The kind whose word stands here. Kinds are numbers, as the stored format and netlist's definitions have them.
 pub fn kind_here(s: &[u8]) -> usize
     ensures { result ≡ kind_here s.now }
 {
-    let c = byte_at(s, 0);
-    if c == AND_A {
-        return 1;
+    match byte_at(s, 0) {
+        AND_A => 1,
+        OR_O => 2,
+        XOR_X => kind_behind_x(byte_at(s, 1)),
+        _ if byte_at(s, 1) == NAND_A => 3,
+        _ if byte_at(s, 2) == NOT_T => 0,
+        _ => 4,
     }
-    if c == OR_O {
-        return 2;
-    }
-    if c == XOR_X {
-        return kind_behind_x(byte_at(s, 1));
-    }
-    if byte_at(s, 1) == NAND_A {
-        return 3;
-    }
-    if byte_at(s, 2) == NOT_T { 0 } else { 4 }
 }
 
 // The bytes of a kind's word.
 pub fn word_length(kind: usize) -> usize
     ensures { result ≡ word_length kind }
 {
-    let signature = signature_of(kind);
-    let bytes = signature.keyword;
-    trimmed_length(&bytes)
+    trimmed_length(&signature_of(kind).keyword)
 }

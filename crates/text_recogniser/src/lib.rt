@@ -9,10 +9,9 @@ ghost use Rattle.netlist.specs.declared.Refusal.TheVariants.{SyntaxError};
 ghost use Rattle.words_refusals.specs.Tests.{test_at};
 ghost use Rattle.text_recogniser.specs.Scan.{first_bad};
 
-use crate::scan::Scan;
+use crate::scan::behind;
 use netlist::Refusal;
 use words_layout::bytes::byte_at;
-use words_refusals::Test;
 
 mod expressions;
 pub mod keywords;
@@ -22,23 +21,20 @@ pub mod scan;
 
 // Refusal 2: the place of the first byte that no legal text has there. The loop lends each line's reader the rest of
 // the text; `phase` says which lines may still come.
-pub fn form(text: &[u8]) -> Test
+pub fn form(text: &[u8]) -> Result<(), Refusal>
     ensures { result ≡ test_at (first_bad text.now) SyntaxError }
 {
-    let mut phase: usize = 0;
-    let mut at: usize = 0;
-    while at < text.len() {
-        let rest = &text[at..];
-        let found = lines::line(rest, phase);
-        match found {
-            Scan::Next(left) => {
+    let mut phase = 0;
+    let mut rest = text;
+    // How much of the text a line takes is known once it was read, so that no range or iterator counts the lines.
+    while !rest.is_empty() {
+        match lines::line(rest, phase) {
+            Ok(left) => {
                 phase = lines::phase_of(byte_at(rest, 1));
-                at = text.len() - left;
+                rest = behind(rest, left);
             }
-            Scan::Bad(left) => {
-                return Test::Failed(Refusal::SyntaxError(text.len() - left));
-            }
+            Err(left) => return Err(Refusal::SyntaxError(text.len() - left)),
         }
     }
-    Test::Passed
+    Ok(())
 }

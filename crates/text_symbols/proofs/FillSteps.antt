@@ -4,7 +4,7 @@
 --   names-start, names-next, names-done, name-sizes: likewise of the inputs' names alone
 -- Assumes nothing.
 use Prim.Native.Nat.{ℕ, suc, ◌+◌, ◌-◌, ◌≤◌, ◌<◌}
-use mathlib.Core.Path.{◌≡◌, refl, sym, ap, ◌∙◌}
+use mathlib.Core.Path.{◌≡◌, refl, ap, ◌∙◌}
 use mathlib.Core.Bool.{Bool, true, false, cond}
 use mathlib.Core.List.{List}
 use native.Mathlib.Numerals.{add-one}
@@ -20,7 +20,7 @@ use Rattle.prelude.proofs.Stores.{sets-next}
 use Rattle.prelude.proofs.Tab.{length-tab, fill-next as fill_more}
 use Rattle.netlist.specs.Limits.{max_text}
 use Rattle.text_lines.specs.declared.Line.{Line}
-use Rattle.text_lines.specs.Lines.{length_with_lf, line_opens, name_offset, line_offset, gates_to, LineOf}
+use Rattle.text_lines.specs.Lines.{length_with_lf, line_opens, line_offset, gates_to, LineOf}
 use Rattle.text_symbols.specs.Tables.{declared_place, place_at, line_word, word_at, FillReady, FillNow}
 use Rattle.text_symbols.specs.Tables.{FilledTo, number_at, NamesNow}
 use Rattle.text_names.specs.Packed.{packed_at}

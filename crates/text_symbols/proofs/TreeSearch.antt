@@ -30,7 +30,7 @@ use Rattle.text_symbols.specs.Results.{declared, packed_names, name_places, node
 use Rattle.text_symbols.specs.Results.{declared_twice}
 use Rattle.text_lines.specs.declared.counts.Counts.{Counts}
 use Rattle.netlist.specs.declared.Refusal.TheVariants.{DuplicateDeclaration}
-use Rattle.words_refusals.specs.declared.Test.TheVariants.{Passed, Failed}
+use Rattle.std.specs.declared.result.Result.TheVariants.{Ok, Err}
 use Rattle.words_refusals.specs.Tests.{test_at}
 use Rattle.text_names.proofs.LegalNames.{name-bytes}
 use Rattle.text_lines.proofs.TreeLines.{legal-parts}
@@ -230,7 +230,7 @@ module _ (t : Tree) (legal : is_legal_tree t ≡ true) (c : Counts) (counted : c
     at-node = among (declared_nodes t) (take nodes names) i node-keys found
 
     pub node-repeats : i < nodes
-        → Failed (DuplicateDeclaration (get_or places i 0)) ≡ test_at (declared_twice t) DuplicateDeclaration
+        → Err (DuplicateDeclaration (get_or places i 0)) ≡ test_at (declared_twice t) DuplicateDeclaration
     unfolding declared_twice or_else test_at
     node-repeats l =
         let r = repeat-found (declared_nodes t) (node-bytes t legal) (rw (← at-node, ← node-count) l) in
@@ -246,13 +246,13 @@ module _ (t : Tree) (legal : is_legal_tree t ≡ true) (c : Counts) (counted : c
       at-port = among (declared_ports t) (take (nodes + ports - nodes) (drop nodes names)) j port-keys found-port
 
       pub port-repeats : j < ports
-          → Failed (DuplicateDeclaration (get_or places (nodes + j) 0)) ≡ test_at (declared_twice t) DuplicateDeclaration
+          → Err (DuplicateDeclaration (get_or places (nodes + j) 0)) ≡ test_at (declared_twice t) DuplicateDeclaration
       unfolding declared_twice or_else test_at
       port-repeats l =
           let r = repeat-found (declared_ports t) (port-bytes t legal) (rw (← at-port, ← port-count) l) in
           rw (port-places j l, no_node, r, ← at-port)
 
-      pub none-repeats : ports ≤ j → Passed ≡ test_at (declared_twice t) DuplicateDeclaration
+      pub none-repeats : ports ≤ j → Ok tt ≡ test_at (declared_twice t) DuplicateDeclaration
       unfolding declared_twice or_else test_at
       none-repeats l = rw (no_node, repeat-none (declared_ports t) (port-bytes t legal) (rw (← at-port, ← port-count) l))
 

@@ -20,7 +20,7 @@ use Rattle.netlist.specs.Syntax.{GateLine, Tree, print_input, print_gate, is_leg
 use Rattle.netlist.specs.Reading.{Mention, mentions, input_mention, gate_mention, gate_lines_at, declared_nodes}
 use Rattle.netlist.specs.Reading.{declared_ports, Binding, line_gates, input_bindings}
 use Rattle.netlist.specs.Reading.{gate_bindings, bindings}
-use Rattle.text_lines.specs.Lines.{line_offset, gates_to}
+use Rattle.text_lines.specs.Lines.{gates_to}
 use Rattle.text_symbols.specs.Tables.{declared_place, place_at, number_at, line_word, word_at, table_size, FilledTo}
 use Rattle.text_names.specs.Packed.{packed, name_from, packed_at, packed_through}
 use Rattle.text_lines.specs.Trees.{gate_line_text, output_line_text, lines_behind, TextOf}

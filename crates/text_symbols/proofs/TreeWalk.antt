@@ -1,25 +1,22 @@
 -- What is read line by line from the print of a tree, lines of one form after those of another: the letters and the
 -- declared names. Assumes nothing.
-use Prim.Native.Nat.{ℕ, zero, suc, ◌+◌, ◌≤◌}
+use Prim.Native.Nat.{ℕ, ◌+◌}
 use mathlib.Core.Path.{◌≡◌, refl, sym, ap, ◌∙◌}
-use mathlib.Core.Bool.{Bool, true, false, ◌&&◌}
+use mathlib.Core.Bool.{Bool, true}
 use mathlib.Core.List.{List, [], ◌∷◌, ◌++◌, map, append_assoc, append-nil}
 use native.Mathlib.Nat.{add-zero, add_assoc}
-use native.Mathlib.Omega.{arith}
 use lib.ListN.{length, get_or, drop}
-use lib.Dec.{leb}
-use borrow.Author.Tests.{leb-true}
 use Rattle.prelude.specs.Lists.{ascii, all, joined, sum, tab}
 use Rattle.prelude.proofs.Tests.{and_left, and_right}
 use Rattle.netlist.specs.Netlist.{Name}
-use Rattle.netlist.specs.Names.{is_legal_name, is_letter, is_digit, is_underscore, is_name_byte, is_plain_name, is_node_name}
+use Rattle.netlist.specs.Names.{is_letter, is_digit, is_underscore, is_name_byte, is_plain_name, is_node_name}
 use Rattle.netlist.specs.Syntax.{GateLine, OutputLine, Tree, apply, print_input, print_gate, print_output, is_legal_term}
 use Rattle.netlist.specs.Syntax.{is_legal_gate, is_legal_output}
-use Rattle.netlist.specs.Reading.{Mention, mentions, lines_length, never_lines_at, gate_lines_at, output_lines_at}
+use Rattle.netlist.specs.Reading.{Mention, mentions, lines_length, gate_lines_at, output_lines_at}
 use Rattle.netlist.specs.Reading.{input_mention, gate_mention, port_mention}
 use Rattle.netlist.specs.Reading.{declared_ports}
 use Rattle.text_lines.specs.Lines.{line_offset, name_offset}
-use Rattle.text_names.specs.Packed.{packed, name_front, name_from, packed_at}
+use Rattle.text_names.specs.Packed.{name_front}
 use Rattle.text_lines.specs.Trees.{input_line_text, gate_line_text, output_line_text, input_lines, lines_behind, TextOf}
 use Rattle.text_names.proofs.LegalNames.{front-legal}
 use Rattle.text_lines.proofs.JoinedLines.{each_line, tab-lines}

@@ -2,8 +2,8 @@
 use Rattle.std.specs.Prelude.{ℕ, ◌+◌, ◌≤◌, ◌<◌, ◌≡◌, true, List, [], ◌++◌, map, length, get_or, take}
 use Rattle.std.proofs.Math.Option.{Option}
 use Rattle.netlist.specs.declared.Refusal.TheVariants.{DuplicateDeclaration}
-use Rattle.words_refusals.specs.declared.Test.{Test}
-use Rattle.words_refusals.specs.declared.Test.TheVariants.{Passed}
+use Rattle.words_refusals.specs.Tests.{Test}
+use Rattle.std.specs.declared.result.Result.TheVariants.{Ok}
 use Rattle.words_refusals.specs.Tests.{test_at}
 use Rattle.netlist.specs.Limits.{max_text, max_inputs, max_gates}
 use Rattle.netlist.specs.StoredBlock.{node_word}
@@ -91,4 +91,4 @@ declared_twice t = or_else (first_repeat [] (declared_nodes t)) (first_repeat []
 pub record Repeats (c : Counts) (names places index : List ℕ) (r : Test) : Type 0 where
   pub answer : (t : Tree) → is_legal_tree t ≡ true → c ≡ tree_counts t → NameTable t names places
       → r ≡ test_at (declared_twice t) DuplicateDeclaration
-  pub indexed : r ≡ Passed → NodesIndexed c names index
+  pub indexed : r ≡ Ok tt → NodesIndexed c names index

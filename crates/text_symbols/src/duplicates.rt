@@ -5,12 +5,16 @@ use netlist::Refusal;
 use text_lines::counts::Counts;
 use text_names::index::enter_all;
 use text_names::search::repeat_of_few;
-use words_refusals::Test;
 
 // Refusal 4: the place of the earliest declaration that repeats another. Inputs and gates share one set of names, ports
 // have another (SPECIFICATION 1.4). Enters the names of inputs and gates into the index; ports are few, and are
 // compared with each other.
-pub fn duplicate(c: Counts, names: &[u64], places: &[usize], index: &mut [u16]) -> Test
+pub fn duplicate(
+    c: Counts,
+    names: &[u64],
+    places: &[usize],
+    index: &mut [u16],
+) -> Result<(), Refusal>
     requires { IndexReady c names.now places.now index.old }
     ensures { Repeats c names.now places.now index.new result }
 {
@@ -19,12 +23,12 @@ pub fn duplicate(c: Counts, names: &[u64], places: &[usize], index: &mut [u16]) 
     let i = enter_all(&names[..nodes], index);
     if i < nodes {
         let place = places[i];
-        return Test::Failed(Refusal::DuplicateDeclaration(place));
+        return Err(Refusal::DuplicateDeclaration(place));
     }
     let j = repeat_of_few(&names[nodes..nodes + ports]);
     if j < ports {
         let place = places[nodes + j];
-        return Test::Failed(Refusal::DuplicateDeclaration(place));
+        return Err(Refusal::DuplicateDeclaration(place));
     }
-    Test::Passed
+    Ok(())
 }

@@ -40,14 +40,12 @@ fn fill_lines(
 {
     let mut gates = 0;
     let mut at = from;
-    let mut i = 0;
-    while i < lines {
+    for i in 0..lines {
         let line = line_of(&text[at..]);
         gates += line.gates;
         places[first + i] = at + line.name;
         words[first + i] = line_word(n, first + i, gates) as u16;
         at += line.length;
-        i += 1;
     }
 }
 
@@ -57,12 +55,10 @@ pub fn input_names(text: &[u8], n: usize, inputs: &mut [u64; MAX_INPUTS])
     ensures { InputNames text.now n inputs.new }
 {
     let mut at = 0;
-    let mut i = 0;
-    while i < n {
+    for i in 0..n {
         let line = line_of(&text[at..]);
         inputs[i] = pack_at(text, at + line.name);
         at += line.length;
-        i += 1;
     }
 }
 

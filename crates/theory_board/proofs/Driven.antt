@@ -15,7 +15,7 @@ use Rattle.prelude.specs.Lists.{all}
 use Rattle.prelude.proofs.Tests.{and_left, and_right, not-both}
 use Rattle.prelude.proofs.Tab.{length-tab}
 use Rattle.prelude.proofs.Quantifiers.{all-tab-from}
-use Rattle.netlist.specs.declared.Answer.{Answer}
+use Rattle.netlist.specs.Answers.{Answer}
 use Rattle.netlist.specs.Values.{Value, undefined, val, code}
 use Rattle.netlist.specs.Assignments.{bit}
 use Rattle.netlist.specs.Netlist.{Operand, input, gate, constant, Output, Block, input_count, gate_count}

@@ -6,7 +6,6 @@ ghost use Rattle.netlist.specs.Program.{chained};
 ghost use Rattle.text_pieces.specs.Shown.{Shown};
 ghost use Rattle.unloop.specs.Shown.{Converted};
 
-use netlist::Answer;
 use op_read::read;
 use op_render::render;
 use op_write::write;
@@ -19,8 +18,8 @@ fn convert_rendered(words: &[u16], out: &mut [u8]) -> usize
     ensures { Shown (write_words words.now) out.old out.new result }
 {
     match write(words, out) {
-        Answer::Refused(why) => tell(why, out),
-        Answer::Done { count, detail: _ } => count,
+        Err(why) => tell(why, out),
+        Ok(done) => done.count,
     }
 }
 
@@ -31,8 +30,8 @@ fn convert_block(words: &[u16], copies: &mut [u16], out: &mut [u8]) -> usize
         result }
 {
     match render(words, copies) {
-        Answer::Refused(why) => tell(why, out),
-        Answer::Done { count, detail: _ } => convert_rendered(&copies[..count], out),
+        Err(why) => tell(why, out),
+        Ok(done) => convert_rendered(&copies[..done.count], out),
     }
 }
 
@@ -43,8 +42,8 @@ fn convert_with(text: &[u8], block: &mut [u16], copies: &mut [u16], out: &mut [u
     ensures { Converted text.now out.old out.new result }
 {
     match read(text, block) {
-        Answer::Refused(why) => tell(why, out),
-        Answer::Done { count, detail: _ } => convert_block(&block[..count], copies, out),
+        Err(why) => tell(why, out),
+        Ok(done) => convert_block(&block[..done.count], copies, out),
     }
 }
 

@@ -4,14 +4,14 @@
 --   listing-counted, counting-counted   the number of groups
 --   counting-first, -next, -known, -end, -start, -full   one group more, and all of them
 --   rest-none, -one, -then         words that did not change
---   counting-all                   all settings
+--   counting-all, settings-are     all settings, and how many they are
 --   lowest-first, -known, -none, -some, -all   the lowest setting that is not settled, batch after batch
 -- Assumes nothing.
 use mathlib.Core.Path.{◌≡◌, refl, sym, ap, ◌∙◌}
 use mathlib.Core.Logic.{◌⊎◌, inl, inr, ⊎_elim}
 use mathlib.Core.Bool.{Bool, true, false, not}
 use mathlib.Core.List.{List, [], ◌∷◌, map}
-use Prim.Native.Nat.{ℕ, zero, suc, ◌+◌, ◌-◌, ◌*◌, ◌≤◌, ◌<◌}
+use Prim.Native.Nat.{ℕ, zero, suc, ◌+◌, ◌-◌, ◌*◌, ◌^◌, ◌≤◌, ◌<◌}
 use native.Mathlib.Nat.{mul-one, mul-le-mul_left, add-zero}
 use native.Mathlib.Omega.{arith}
 use borrow.Author.Tests.{lt-ltb}
@@ -29,18 +29,18 @@ use Rattle.netlist.specs.StoredBlock.{decode}
 use Rattle.netlist.specs.Rounds.{setting_count, is_sound_at, lowest_unsettled}
 use Rattle.netlist.specs.Groups.{groups}
 use Rattle.netlist.specs.Passes.{are_enough, pass_count, copy_count}
+use Rattle.theory_encoding.proofs.Decoded.{decode-input_count}
 use Rattle.theory_reach.proofs.Order.{groups-not-empty, groups-below}
 use Rattle.theory_reach.proofs.ListFacts.{sum-at}
 use Rattle.theory_unrolling.specs.Copies.{group_at}
 use Rattle.theory_unrolling.proofs.PassCount.{passes-keep-from, at-enough, enough-from, size-settled, pass_count-some}
 use Rattle.theory_unrolling.proofs.PassCount.{pass_count-enough, pass_count-from}
 use Rattle.lanes_dual_rail.specs.Batches.{lanes_of}
-use Rattle.lanes_dual_rail.specs.LaneWords.{lane_size}
 use Rattle.lanes_dual_rail.specs.Words.{has_lane, Tells}
 use Rattle.lanes_dual_rail.proofs.WordLaws.{tells-no-lane, tells-some, tells-lowest}
 use Rattle.lanes_batch.proofs.Layering.{among-part}
 use Rattle.lanes_settings.specs.Lanes.{is_unsound}
-use Rattle.lanes_settings.proofs.Counting.{lowest-found}
+use Rattle.lanes_settings.proofs.Counting.{lowest-found, setting-count}
 use Rattle.unroll_depth.specs.declared.passes.Turn.{Turn}
 use Rattle.unroll_depth.specs.declared.passes.Counted.{Counted}
 use Rattle.unroll_depth.specs.Pairs.{group_of}
@@ -156,12 +156,11 @@ module _ {ws graph : List ℕ} {base count : ℕ} {members starts w : List ℕ} 
         some = omega (arith, from, end, listing.ordered g l);
       }
 
-  pub group-ready : {done next : ℕ} {passes kept : List ℕ} {c : Counted}
+  pub group-ready : {done next : ℕ} {passes : List ℕ} {c : Counted}
       → Counting (decode ws) count base done next passes c.total
-      → c.passes ≡ get_or passes g 0 → c.total ≤ max_copies → length kept ≡ lane_size
-      → GroupReady ws graph members turn c w kept
+      → c.passes ≡ get_or passes g 0 → c.total ≤ max_copies → GroupReady ws graph members turn c w
   unfolding copies_of
-  group-ready {passes = passes} {c = c} k made few room =
+  group-ready {passes = passes} {c = c} k made few =
       let copies : ℕ → ℕ = λ i. length (group_at (decode ws) i) * get_or passes i 0 in
       let part : copies g ≤ sum (tab copies count) =
       rw (get_d-tab copies count g 0 l) at (sum-at (tab copies count) g) in
@@ -171,7 +170,6 @@ module _ {ws graph : List ℕ} {base count : ℕ} {members starts w : List ℕ} 
             rw turn-group
             (record { least = rw made (k.least g l); copies = rw (made, k.total_is) part; most = omega arith });
         settled = rw at h.judged.settled;
-        room = room;
       }
 
 -- ---- all groups
@@ -459,3 +457,8 @@ module _ {b : Block} where
       reached i l =
           ⊎_elim (λ k. let m = h.known k in omega arith) (λ k. let m = all k in let w = h.within in omega arith)
           (lt-or-le lowest (setting_count b))
+
+-- ---- how many settings there are
+
+pub settings-are : (ws : List ℕ) {n r : ℕ} → n ≡ get_or ws 0 0 → r ≡ 2 ^ n → r ≡ setting_count (decode ws)
+settings-are ws {n} {r} e f = setting-count (decode ws) n r (e ∙ sym (decode-input_count ws)) f

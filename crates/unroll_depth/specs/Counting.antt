@@ -62,13 +62,11 @@ pub record BatchHeld (ws graph : List ℕ) (base : ℕ) (w : List ℕ) : Type 0 
   pub settings : base + lanes_of (get_or ws 0 0) ≤ setting_count (decode ws)
 
 -- group number `group` of the batch at `base` can be counted
-pub record GroupAt (ws graph members starts : List ℕ) (at : At) (passes w kept : List ℕ) : Type 0 where
+pub record GroupAt (ws graph members starts : List ℕ) (at : At) (passes w : List ℕ) : Type 0 where
   pub held : BatchHeld ws graph at.base w
   pub fits : at.total ≤ max_copies
-  pub room : length kept ≡ lane_size
   pub listing : Listing (decode ws) (length (groups (decode ws))) members starts
   pub there : at.group < length (groups (decode ws))
-  pub long : length passes ≡ max_gates
   pub counting : Counting (decode ws) (length (groups (decode ws))) at.base at.group
       (at.base + lanes_of (get_or ws 0 0)) passes at.total
 
@@ -103,11 +101,9 @@ pub record WalkedBatch (b : Block) (count next : ℕ) (entry passes : List ℕ) 
   pub lowest : LowestBelow b next r.lowest
 
 -- the groups of the batch at `base` can be counted, and its lowest setting looked for
-pub record BatchReady (ws graph members starts : List ℕ) (batch : Batch) (passes w kept : List ℕ) : Type 0 where
+pub record BatchReady (ws graph members starts : List ℕ) (batch : Batch) (passes w : List ℕ) : Type 0 where
   pub held : BatchHeld ws graph batch.base w
-  pub room : length kept ≡ lane_size
   pub listing : Listing (decode ws) batch.groups members starts
-  pub long : length passes ≡ max_gates
   pub counting : Counting (decode ws) batch.groups batch.base 0 batch.base passes batch.total
   pub lowest : LowestBelow (decode ws) batch.base batch.lowest
 
@@ -115,7 +111,6 @@ pub record BatchReady (ws graph members starts : List ℕ) (batch : Batch) (pass
 pub record WalkReady (ws graph order ends : List ℕ) (count : ℕ) (members starts passes : List ℕ) : Type 0 where
   pub plan : Planned ws graph order ends
   pub listing : Listing (decode ws) count members starts
-  pub long : length passes ≡ max_gates
   pub counting : Counting (decode ws) count 0 0 0 passes (get_or ws 1 0)
 
 -- what was found in all batches, or in those before the copies are too many

@@ -21,7 +21,7 @@ use Rattle.theory_unrolling.specs.Copies.{group_at}
 use Rattle.lanes_dual_rail.specs.Pairs.{lane, full}
 use Rattle.lanes_dual_rail.specs.PairRounds.{AllProper}
 use Rattle.lanes_dual_rail.specs.Batches.{lanes_of}
-use Rattle.lanes_dual_rail.specs.LaneWords.{lane_size, pair_at, inputs_in, gates_in, Filled}
+use Rattle.lanes_dual_rail.specs.LaneWords.{pair_at, inputs_in, gates_in, Filled}
 use Rattle.lanes_batch.specs.Layered.{GatesEvaluated, OrderPart, part, start_inputs, LanesSettled}
 use Rattle.unroll_depth.specs.declared.passes.Turn.{Turn}
 use Rattle.unroll_depth.specs.declared.passes.Counted.{Counted}
@@ -103,11 +103,10 @@ pub record MorePasses (b : Block) (n base : ℕ) (group : List ℕ) (c : Counted
   pub long : length after ≡ length w
   pub outside : (p : ℕ) → Apart group p → pair_at after p ≡ pair_at w p
 
-pub record GroupReady (ws graph members : List ℕ) (turn : Turn) (c : Counted) (w kept : List ℕ) : Type 0 where
+pub record GroupReady (ws graph members : List ℕ) (turn : Turn) (c : Counted) (w : List ℕ) : Type 0 where
   pub batch : GroupBatch ws graph members turn
   pub so_far : SoFar (decode ws) (group_of members turn) c
   pub settled : LanesSettled (decode ws) (get_or ws 0 0) turn.base w
-  pub room : length kept ≡ lane_size
 
 -- ---- all groups
 

@@ -27,10 +27,8 @@ fn run_passes(
     ensures { Ran graph.now (repeated passes (part false members.now from end)) lanes.old
         lanes.new }
 {
-    let mut p = 0;
-    while p < passes {
+    for p in 0..passes {
         sweep_part(graph, members, from, end, false, lanes);
-        p += 1;
     }
 }
 
@@ -53,6 +51,7 @@ fn more_passes(
     let size = turn.end - turn.from;
     let mut passes = counted.passes;
     let mut total = counted.total;
+    // It ends on a test of the lanes, and counts no range.
     while total <= MAX_GATES && lacks(words, members, turn, lanes, kept) {
         sweep_part(graph, members, turn.from, turn.end, false, lanes);
         passes += 1;
@@ -73,7 +72,7 @@ pub fn count_group(
     lanes: &mut [u64; LANE_WORDS],
     kept: &mut [u64; LANE_WORDS],
 ) -> Counted
-    requires { GroupReady words.now graph.now members.now turn counted lanes.old kept.old }
+    requires { GroupReady words.now graph.now members.now turn counted lanes.old }
     ensures counted { GroupCounted (decode words.now) (get_or words.now 0 0) turn.base
         (group_of members.now turn) counted result }
     ensures kept { (lanes.new ≡ lanes.old) × (length kept.new ≡ length kept.old) }

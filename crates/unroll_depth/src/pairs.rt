@@ -1,11 +1,11 @@
 // The pairs of a group's gates: copied, made undefined, and compared with others. The gates are `members[from..end]`;
 // gate j's pair stands at place FIRST_GATE + j.
-ghost use Rattle.std.specs.Prelude.{◌≡◌, false, [], ◌%◌, ◌≤◌, ◌<◌, length, get_or};
+ghost use Rattle.std.specs.Prelude.{◌≡◌, false, [], ◌%◌, ◌≤◌, ◌<◌, get_or};
 ghost use Rattle.netlist.specs.Limits.{max_inputs, max_gates};
 ghost use Rattle.netlist.specs.StoredBlock.{decode};
 ghost use Rattle.graph_gates.specs.Places.{place_count};
 ghost use Rattle.lanes_dual_rail.specs.Batches.{lanes_of};
-ghost use Rattle.lanes_dual_rail.specs.LaneWords.{lane_size, pair_at};
+ghost use Rattle.lanes_dual_rail.specs.LaneWords.{pair_at};
 ghost use Rattle.lanes_batch.specs.Layered.{OrderPart, part};
 ghost use Rattle.unroll_depth.specs.Pairs.{Put, difference_of, ProperAt, Differs, group_of, Lacks};
 
@@ -25,14 +25,12 @@ pub fn put_pairs(
     source: &[u64; LANE_WORDS],
     lanes: &mut [u64; LANE_WORDS],
 )
-    requires { OrderPart max_gates members.now from end × (length lanes.old ≡ lane_size) }
+    requires { OrderPart max_gates members.now from end }
     ensures { Put (part false members.now from end) source.now lanes.old lanes.new }
 {
-    let mut i = from;
-    while i < end {
+    for i in from..end {
         let place = FIRST_GATE + members[i] as usize;
         put_pair(lanes, place, pair_at(source, place));
-        i += 1;
     }
 }
 
@@ -43,17 +41,15 @@ pub fn clear_pairs(
     end: usize,
     lanes: &mut [u64; LANE_WORDS],
 )
-    requires { OrderPart max_gates members.now from end × (length lanes.old ≡ lane_size) }
+    requires { OrderPart max_gates members.now from end }
     ensures { Put (part false members.now from end) [] lanes.old lanes.new }
 {
-    let mut i = from;
-    while i < end {
+    for i in from..end {
         put_pair(
             lanes,
             FIRST_GATE + members[i] as usize,
             Pair { zeros: 0, ones: 0 },
         );
-        i += 1;
     }
 }
 
@@ -79,10 +75,8 @@ fn differing_lanes(
     ensures { Differs (part false members.now from end) lanes.now kept.now result }
 {
     let mut differing = 0u64;
-    let mut i = from;
-    while i < end {
+    for i in from..end {
         differing = differing | difference(FIRST_GATE + members[i] as usize, lanes, kept);
-        i += 1;
     }
     differing
 }

@@ -8,7 +8,7 @@ ghost use Rattle.netlist.specs.Rounds.{setting_count, lowest_unsettled};
 ghost use Rattle.netlist.specs.Groups.{groups};
 ghost use Rattle.lanes_dual_rail.specs.Batches.{lanes_of};
 ghost use Rattle.lanes_dual_rail.specs.LaneWords.{lane_size};
-ghost use Rattle.lanes_batch.specs.Layered.{Planned};
+ghost use Rattle.lanes_batch.specs.Plan.{IsPlan};
 ghost use Rattle.lanes_settings.specs.Lanes.{Judged};
 ghost use Rattle.unroll_depth.specs.Passes.{Listing};
 ghost use Rattle.unroll_depth.specs.Counting.{StartsFew, Full, GroupAt, GroupDone, BatchReady, LowestBelow};
@@ -19,7 +19,7 @@ use crate::Found;
 use crate::group::count_group;
 use crate::passes::{Counted, Turn};
 use graph_gates::GRAPH_WORDS;
-use graph_scc::words::word_of;
+use lanes_batch::plan::Plan;
 use lanes_dual_rail::LANE_WORDS;
 use lanes_dual_rail::words::{lane_count, lowest_lane};
 use lanes_settings::decided::judge_batch;
@@ -59,7 +59,7 @@ fn count_at(
     lanes: &mut [u64; LANE_WORDS],
     kept: &mut [u64; LANE_WORDS],
 ) -> usize
-    requires { GroupAt words.now graph.now members.now starts.now at passes.old lanes.old kept.old }
+    requires { GroupAt words.now graph.now members.now starts.now at passes.old lanes.old }
     ensures { GroupDone words.now at passes.old lanes.old passes.new
         lanes.new kept.new result }
 {
@@ -114,7 +114,7 @@ fn count_batch(
     lanes: &mut [u64; LANE_WORDS],
     kept: &mut [u64; LANE_WORDS],
 ) -> Found
-    requires { BatchReady words.now graph.now members.now starts.now batch passes.old lanes.old kept.old }
+    requires { BatchReady words.now graph.now members.now starts.now batch passes.old lanes.old }
     ensures walked_batch { WalkedBatch (decode words.now) batch.groups
         (batch.base + lanes_of (get_or words.now 0 0)) passes.old
         passes.new result }
@@ -123,6 +123,7 @@ fn count_batch(
     let base = batch.base;
     let lowest = lowest_with(words, base, batch.lowest, lanes);
     let mut total = batch.total;
+    // A range would need a second way out in the body.
     let mut group = 0;
     while group < batch.groups && total <= MAX_GATES {
         let at = At { group, base, total };
@@ -137,30 +138,20 @@ fn are_full(count: usize, starts: &[u16; MAX_GATES + 1], passes: &[u16; MAX_GATE
     requires { (count ≤ max_gates) × StartsFew count starts.now }
     ensures { result ≡ true → Full count starts.now passes.now }
 {
-    let mut g = 0;
-    while g < count {
-        let made = word_of(passes, g) as usize;
-        if (starts[g] as usize) + made < starts[g + 1] as usize {
-            return false;
-        }
-        g += 1;
-    }
-    true
+    (0..count).all(|g| starts[g + 1] as usize <= starts[g] as usize + passes[g] as usize)
 }
 
 // Goes through every batch in turn, from one pass for each group on. The walk ends where there are too many copies, and
 // where an unsettled setting is known and no group can need more passes.
 fn walk_loops(
     words: &[u16],
-    graph: &[u16; GRAPH_WORDS],
-    order: &[u16; MAX_GATES],
-    ends: &[u16; MAX_GATES],
+    plan: &Plan,
     count: usize,
     members: &[u16; MAX_GATES],
     starts: &[u16; MAX_GATES + 1],
     passes: &mut [u16; MAX_GATES],
 ) -> Found
-    requires { WalkReady words.now graph.now order.now ends.now count members.now starts.now passes.old }
+    requires { WalkReady words.now plan.now.graph plan.now.order plan.now.ends count members.now starts.now passes.old }
     ensures { WalkedAll (decode words.now) count passes.old passes.new result }
 {
     let mut lanes = [0u64; LANE_WORDS];
@@ -172,12 +163,13 @@ fn walk_loops(
         total: gates_of(words),
         lowest: settings,
     };
+    // A range would need a second way out in the body.
     let mut base = 0;
     while base < settings && found.total <= MAX_GATES {
         if found.lowest < settings && are_full(count, starts, passes) {
             return found;
         }
-        judge_batch(words, graph, order, ends, base, &mut lanes);
+        judge_batch(words, plan, base, &mut lanes);
         let batch = Batch {
             groups: count,
             base,
@@ -185,7 +177,14 @@ fn walk_loops(
             lowest: found.lowest,
         };
         found = count_batch(
-            words, graph, members, starts, batch, passes, &mut lanes, &mut kept,
+            words,
+            &plan.graph,
+            members,
+            starts,
+            batch,
+            passes,
+            &mut lanes,
+            &mut kept,
         );
         base += step;
     }
@@ -193,17 +192,12 @@ fn walk_loops(
 }
 
 // The walk of a block in which no group can need more passes than one: it only looks for a setting that is not settled.
-fn walk_settings(
-    words: &[u16],
-    graph: &[u16; GRAPH_WORDS],
-    order: &[u16; MAX_GATES],
-    ends: &[u16; MAX_GATES],
-) -> Found
-    requires { Planned words.now graph.now order.now ends.now }
+fn walk_settings(words: &[u16], plan: &Plan) -> Found
+    requires { IsPlan words.now plan.now }
     ensures { (result.total ≡ get_or words.now 1 0) × (result.lowest ≡ lowest_unsettled (decode words.now)) }
 {
     let mut lanes = [0u64; LANE_WORDS];
-    let lowest = lowest_unsettled(words, graph, order, ends, &mut lanes);
+    let lowest = lowest_unsettled(words, plan, &mut lanes);
     Found {
         total: gates_of(words),
         lowest,
@@ -214,21 +208,19 @@ fn walk_settings(
 // where they are not, the lowest setting that may come and is not settled.
 pub fn walk_batches(
     words: &[u16],
-    graph: &[u16; GRAPH_WORDS],
-    order: &[u16; MAX_GATES],
-    ends: &[u16; MAX_GATES],
+    plan: &Plan,
     count: usize,
     members: &[u16; MAX_GATES],
     starts: &[u16; MAX_GATES + 1],
     passes: &mut [u16; MAX_GATES],
 ) -> Found
-    requires planned { Planned words.now graph.now order.now ends.now }
-    requires listing { Listing (decode words.now) count members.now starts.now × (length passes.old ≡ max_gates) }
+    requires planned { IsPlan words.now plan.now }
+    requires listing { Listing (decode words.now) count members.now starts.now }
     ensures { Walked (decode words.now) passes.old passes.new result }
 {
     fill_words(passes, count, 1);
     if are_full(count, starts, passes) {
-        return walk_settings(words, graph, order, ends);
+        return walk_settings(words, plan);
     }
-    walk_loops(words, graph, order, ends, count, members, starts, passes)
+    walk_loops(words, plan, count, members, starts, passes)
 }

@@ -1,22 +1,24 @@
 -- Words copied while a rendering is written, case by case. Cited by the functions of `entry`. Assumes nothing.
 use Prim.Native.Nat.{ℕ, zero, suc, ◌+◌, ◌-◌, ◌*◌, ◌≤◌, ◌<◌}
-use mathlib.Core.Path.{◌≡◌, refl, ◌∙◌}
+use mathlib.Core.Path.{◌≡◌, refl, sym, ◌∙◌}
 use mathlib.Core.Logic.{◌⊎◌, inl, inr}
 use mathlib.Core.Bool.{Bool, true, false, cond, ◌&&◌}
-use mathlib.Core.List.{List}
+use mathlib.Core.List.{List, ◌++◌, append_assoc}
 use native.Mathlib.Numerals.{add-one}
 use native.Mathlib.Omega.{arith}
 use borrow.Author.Tests.{lt-ltb, le-ltb, le-leb, lt-leb}
-use lib.ListN.{length, get_or, set, length-set}
+use lib.ListN.{length, get_or, set, take, drop, length-set, length-take, length-drop}
 use lib.Dec.{leb, ltb}
-use lib.Seq.{sets}
+use lib.Seq.{sets, sets-eq, get_or-take, get_or-drop}
+use Rattle.std.proofs.lemmas.List.{drop-drop}
 use Rattle.prelude.specs.Lists.{tab, joined}
 use Rattle.prelude.proofs.Stores.{sets-joined-next}
+use Rattle.prelude.proofs.Tab.{tab-ext, tab-get_d}
 use Rattle.words_layout.specs.declared.nodes.Nodes.{Nodes}
 use Rattle.words_layout.specs.Nodes.{gate_named}
 use Rattle.unroll_emission.specs.declared.entry.Entry.{Entry}
 use Rattle.unroll_emission.specs.Words.{mapped_word, entry_word, entry_words, output_entry, table_after, copy_words}
-use Rattle.unroll_emission.specs.Words.{copy_at, shown_at}
+use Rattle.unroll_emission.specs.Words.{copy_at, shown_at, word_from}
 
 -- Inside a range, or not.
 between : {A : Type 0} (a x b : ℕ) (y z : A) → a ≤ x → x < b → cond (leb a x && ltb x b) y z ≡ y
@@ -123,3 +125,16 @@ pub outputs-next : (ws : List ℕ) (nodes : Nodes) (newest entry out out' : List
 unfolding shown_at
 outputs-next ws nodes newest entry out out' to o e f =
     sets-joined-next (shown_at ws nodes newest) 5 (length-shown_at ws nodes newest) entry out out' to o e f
+
+-- ---- words copied to the same place
+
+pub copied-words : (ws out : List ℕ) (at count : ℕ) → at + count ≤ length ws → at + count ≤ length out
+    → take at out ++ (take count (drop at ws) ++ drop count (drop at out)) ≡ sets out at (tab (word_from ws at) count)
+unfolding word_from
+copied-words ws out at count l k =
+    let long : length (take count (drop at ws)) ≡ count = simp (length-take, length-drop) (omega arith) in
+    let same : tab (λ i. get_or ws (at + i) 0) count ≡ take count (drop at ws) =
+    tab-ext (λ i. get_or ws (at + i) 0) (λ i. get_or (take count (drop at ws)) i 0) count
+    (λ i il. sym (get_or-take count (drop at ws) i 0 il ∙ get_or-drop at ws i 0))
+    ∙ tab-get_d 0 (take count (drop at ws)) count long in
+    rw (same, sets-eq (take count (drop at ws)) out at (rw long k), long, drop-drop count at out, append_assoc) refl

@@ -60,11 +60,9 @@ pub fn copy_entry(
     ensures { out.new
         ≡ sets out.old to (entry_words words.now nodes entry newest.now) }
 {
-    let mut i = 0;
-    while i < GATE_SIZE {
+    for i in 0..GATE_SIZE {
         let w = entry_word(words, nodes, entry, newest, i);
         out[to + i] = w;
-        i += 1;
     }
 }
 
@@ -96,9 +94,5 @@ pub fn copy_words(words: &[u16], at: usize, count: usize, out: &mut [u16])
     requires { (at + count ≤ length words.now) × (at + count ≤ length out.old) }
     ensures { out.new ≡ sets out.old at (tab (word_from words.now at) count) }
 {
-    let mut i = 0;
-    while i < count {
-        out[at + i] = words[at + i];
-        i += 1;
-    }
+    out[at..at + count].copy_from_slice(&words[at..at + count]);
 }

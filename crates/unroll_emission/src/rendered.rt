@@ -50,10 +50,8 @@ fn copy_gates(
         (joined (tab (copy_at words.now nodes order.now newest.old) total)) }
     ensures newest_after { newest.new ≡ table_after nodes.inputs order.now newest.old total }
 {
-    let mut t = 0;
-    while t < total {
+    for t in 0..total {
         copy_gate(words, nodes, order[t] as usize, t, newest, out);
-        t += 1;
     }
 }
 
@@ -71,8 +69,7 @@ pub fn copy_outputs(
         ≡ sets out.old to (joined (tab (shown_at words.now nodes newest.now) k)) }
 {
     let from = nodes.start + GATE_SIZE * nodes.gates;
-    let mut o = 0;
-    while o < k {
+    for o in 0..k {
         let at = from + OUTPUT_SIZE * o;
         copy_entry(
             words,
@@ -86,7 +83,6 @@ pub fn copy_outputs(
             out,
             to + OUTPUT_SIZE * o,
         );
-        o += 1;
     }
 }
 

@@ -104,14 +104,7 @@ pub fn fit(words: &[u16], nodes: usize, at: usize, m: usize) -> bool
     requires m_in_bounds { at + gate_size * m ≤ length words.now }
     ensures { result ≡ gates_rule words.now nodes at m }
 {
-    let mut j = 0;
-    while j < m {
-        if !fits_at(words, nodes, at, j) {
-            return false;
-        }
-        j += 1;
-    }
-    true
+    (0..m).all(|j| fits_at(words, nodes, at, j))
 }
 
 // Is the block straight: does each gate keep its rule with only the inputs and the lower gates as nodes?
@@ -120,12 +113,5 @@ pub fn read_lower(words: &[u16], n: usize, at: usize, m: usize) -> bool
     requires m_in_bounds { at + gate_size * m ≤ length words.now }
     ensures { result ≡ lower_rule words.now n at m }
 {
-    let mut j = 0;
-    while j < m {
-        if !fits_at(words, n + j, at, j) {
-            return false;
-        }
-        j += 1;
-    }
-    true
+    (0..m).all(|j| fits_at(words, n + j, at, j))
 }

@@ -14,7 +14,7 @@ ghost use Rattle.words_block.specs.Steps.{front_rule, parts_rule};
 
 use netlist::Refusal;
 use words_layout::offsets;
-use words_refusals::{Test, refuse_if};
+use words_refusals::refuse_if;
 
 pub mod gates;
 mod header;
@@ -71,14 +71,14 @@ fn is_intact(words: &[u16]) -> bool
 }
 
 // Refusal 6, of a slice of any length and content: is it a stored block?
-pub fn check_words(words: &[u16]) -> Test
+pub fn check_words(words: &[u16]) -> Result<(), Refusal>
     ensures { result ≡ test_of (is_malformed words.now) MalformedBlock }
 {
     refuse_if(!is_intact(words), Refusal::MalformedBlock)
 }
 
 // Refusal 10, of a block that is not malformed: do all gates read only inputs, constants and lower gates?
-pub fn check_straight(words: &[u16]) -> Test
+pub fn check_straight(words: &[u16]) -> Result<(), Refusal>
     requires { is_malformed words.now ≡ false }
     ensures { result ≡ test_of (not (is_straight (decode words.now))) NotStraight }
 {

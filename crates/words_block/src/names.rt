@@ -33,12 +33,10 @@ fn only_zeros(words: &[u16], at: usize, i: usize) -> bool
     requires i_le_max_name { i ≤ max_name }
     ensures { result ≡ zeros_from (bytes_at words.now at) i }
 {
-    let mut j = i;
-    while j < MAX_NAME {
+    for j in i..MAX_NAME {
         if byte_at(words, at, j) != 0 {
             return false;
         }
-        j += 1;
     }
     true
 }
@@ -48,8 +46,7 @@ fn is_padded(words: &[u16], at: usize) -> bool
     requires { at ≤ max_word }
     ensures { result ≡ padded (bytes_at words.now at) }
 {
-    let mut i = 0;
-    while i < MAX_NAME {
+    for i in 0..MAX_NAME {
         let c = byte_at(words, at, i);
         if c == 0 {
             return only_zeros(words, at, i + 1);
@@ -57,7 +54,6 @@ fn is_padded(words: &[u16], at: usize) -> bool
         if !is_name_byte(c) {
             return false;
         }
-        i += 1;
     }
     true
 }
@@ -88,14 +84,7 @@ fn is_new(words: &[u16], at: usize, size: usize, j: usize) -> bool
     requires j_le_max_gates { j ≤ max_gates }
     ensures { result ≡ others_before words.now at size j }
 {
-    let mut i = 0;
-    while i < j {
-        if !differ(words, at, size, j, i) {
-            return false;
-        }
-        i += 1;
-    }
-    true
+    (0..j).all(|i| differ(words, at, size, j, i))
 }
 
 // Is name j legal, and not one of those before it?
@@ -115,12 +104,5 @@ pub fn fit(words: &[u16], at: usize, size: usize, count: usize) -> bool
     requires count_le_max_gates { count ≤ max_gates }
     ensures { result ≡ names_rule words.now at size count }
 {
-    let mut j = 0;
-    while j < count {
-        if !is_legal_and_new(words, at, size, j) {
-            return false;
-        }
-        j += 1;
-    }
-    true
+    (0..count).all(|j| is_legal_and_new(words, at, size, j))
 }

@@ -36,12 +36,5 @@ pub fn fit(words: &[u16], n: usize, at: usize, l: usize) -> bool
     requires l_le_max_nevers { l ≤ max_nevers }
     ensures { result ≡ nevers_rule words.now n at l }
 {
-    let mut i = 0;
-    while i < l {
-        if !fits_at(words, n, at, i) {
-            return false;
-        }
-        i += 1;
-    }
-    true
+    (0..l).all(|i| fits_at(words, n, at, i))
 }

@@ -23,12 +23,5 @@ pub fn fit(words: &[u16], nodes: usize, at: usize, k: usize) -> bool
     requires k_le_max_outputs { k ≤ max_outputs }
     ensures { result ≡ shown_rules words.now nodes at k }
 {
-    let mut o = 0;
-    while o < k {
-        if !fits(words, nodes, at, o) {
-            return false;
-        }
-        o += 1;
-    }
-    true
+    (0..k).all(|o| fits(words, nodes, at, o))
 }

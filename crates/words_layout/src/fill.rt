@@ -7,9 +7,5 @@ pub fn fill_words(words: &mut [u16], count: usize, value: u16)
     requires { count ≤ length words.old }
     ensures { words.new ≡ placed (replicate count value) words.old }
 {
-    let mut i = 0;
-    while i < count {
-        words[i] = value;
-        i += 1;
-    }
+    words[..count].fill(value);
 }

@@ -1,5 +1,6 @@
 // The kinds (SPECIFICATION 3.2): the table of controlling values, and every kind's operand counts and keyword. Code
-// reads them here.
+// reads them here. A kind is its number here and in every crate above, and no enum: the stored block has the number, and
+// the definitions of the table and of each gate speak of it, so that an enum would be turned into it at each use.
 ghost use Rattle.std.specs.Prelude.{◌≡◌, ◌≤◌};
 ghost use Rattle.netlist.specs.Kinds.{row_of, signature_of, fewest_operands, most_operands};
 

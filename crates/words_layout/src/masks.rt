@@ -9,14 +9,7 @@ fn is_within(n: usize, fixed: usize, ones: usize) -> bool
     requires { n ≤ max_inputs }
     ensures { result ≡ is_within n fixed ones }
 {
-    let mut i = 0;
-    while i < n {
-        if (fixed >> i) % 2 < (ones >> i) % 2 {
-            return false;
-        }
-        i += 1;
-    }
-    true
+    (0..n).all(|i| (ones >> i) % 2 <= (fixed >> i) % 2)
 }
 
 // Are these the masks of an assignment: no bit at or above n, and none in `ones` that is not in `fixed`?

@@ -14,12 +14,5 @@ pub fn is_same(ours: &[u16], at: usize, theirs: &[u16], other: usize) -> bool
     requires other_le_max_word { other ≤ max_word }
     ensures { result ≡ all (same_word_at ours.now at theirs.now other) (up_to name_size) }
 {
-    let mut i = 0;
-    while i < NAME_SIZE {
-        if word_at(ours, at + i) != word_at(theirs, other + i) {
-            return false;
-        }
-        i += 1;
-    }
-    true
+    (0..NAME_SIZE).all(|i| word_at(ours, at + i) == word_at(theirs, other + i))
 }

@@ -6,12 +6,10 @@ ghost use Rattle.prelude.specs.Lists.{trimmed};
 pub fn trimmed_length(bytes: &[u8]) -> usize
     ensures { (result ≤ length bytes.now) × (take result bytes.now ≡ trimmed bytes.now) }
 {
-    let mut count = bytes.len();
-    while 0 < count {
-        if bytes[count - 1] != 0 {
-            return count;
+    for i in (0..bytes.len()).rev() {
+        if bytes[i] != 0 {
+            return i + 1;
         }
-        count -= 1;
     }
     0
 }

@@ -39,9 +39,7 @@ pub fn masks_of(values: &[u8]) -> Masks
 {
     let mut defined: u16 = 0;
     let mut ones: u16 = 0;
-    let mut i = values.len();
-    while 0 < i {
-        i -= 1;
+    for i in (0..values.len()).rev() {
         let v = values[i];
         defined = 2 * defined + defined_bit(v);
         ones = 2 * ones + one_bit(v);

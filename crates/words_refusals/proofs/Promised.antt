@@ -15,20 +15,18 @@ use types.Run.{OneOf, miss}
 use denote.Enum.Declared.{tag_of}
 use lib.ListN.{length, get_or}
 use lib.Dec.{ltb}
+use Rattle.std.specs.Result.{IsErrAnd}
 use Rattle.prelude.specs.Lists.{placed}
 use Rattle.netlist.specs.declared.Refusal.{Refusal}
 use Rattle.netlist.specs.declared.Refusal.TheVariants.{TextTooLong, SyntaxError, OverLimit, DuplicateDeclaration}
 use Rattle.netlist.specs.declared.Refusal.TheVariants.{UndeclaredName, MalformedBlock}
 use Rattle.netlist.specs.declared.Refusal.TheVariants.{BadSetting, TooManyCopies, NotSettled, NotStraight, NoRoom}
 use Rattle.netlist.specs.declared.Refusal.TheVariants.{InterfaceMismatch, NotAPermutation}
-use Rattle.words_refusals.specs.declared.Test.{Test}
-use Rattle.words_refusals.specs.contracts.Test.{the_type}
-use Rattle.words_refusals.specs.declared.Test.TheVariants.{Passed, Failed}
-use Rattle.netlist.specs.declared.Answer.{Answer}
-use Rattle.netlist.specs.declared.Answer.TheVariants.{Done, Refused}
+use Rattle.std.specs.declared.result.Result.{Result}
+use Rattle.std.specs.declared.result.Result.TheVariants.{Ok, Err}
 use Rattle.netlist.specs.Answers.{refusal_number, refusal_detail, number_of, count_of, detail_of, Outcome, done, refused}
-use Rattle.netlist.specs.Answers.{refuse_if}
-use Rattle.words_refusals.specs.Tests.{test_of, test_at, refusal_of}
+use Rattle.netlist.specs.Answers.{Answer, refuse_if}
+use Rattle.words_refusals.specs.Tests.{Test, test_of, test_at}
 use Rattle.netlist.specs.Answers.{refuse_at, in_room, answer_of, left_in, Told, Promise}
 
 -- ---- answers and promises
@@ -45,38 +43,38 @@ promise e l = record { told = tell e; leaves = l }
 answer_with : ℕ → ℕ → ℕ → Answer
 answer_with number count detail =
     get_or
-    (Done count detail
-    ∷ Refused TextTooLong
-    ∷ Refused (SyntaxError detail)
-    ∷ Refused OverLimit
-    ∷ Refused (DuplicateDeclaration detail)
-    ∷ Refused (UndeclaredName detail)
-    ∷ Refused MalformedBlock
-    ∷ Refused BadSetting
-    ∷ Refused TooManyCopies
-    ∷ Refused (NotSettled detail)
-    ∷ Refused NotStraight
-    ∷ Refused NoRoom
-    ∷ Refused InterfaceMismatch
+    (Ok (record { count = count; detail = detail })
+    ∷ Err TextTooLong
+    ∷ Err (SyntaxError detail)
+    ∷ Err OverLimit
+    ∷ Err (DuplicateDeclaration detail)
+    ∷ Err (UndeclaredName detail)
+    ∷ Err MalformedBlock
+    ∷ Err BadSetting
+    ∷ Err TooManyCopies
+    ∷ Err (NotSettled detail)
+    ∷ Err NotStraight
+    ∷ Err NoRoom
+    ∷ Err InterfaceMismatch
     ∷ [])
-    number (Refused NotAPermutation)
+    number (Err NotAPermutation)
 
 answer-with : (r : Answer) → answer_with (number_of r) (count_of r) (detail_of r) ≡ r
 unfolding answer_with number_of count_of detail_of refusal_number refusal_detail
-answer-with (Done count detail) = refl
-answer-with (Refused TextTooLong) = refl
-answer-with (Refused (SyntaxError place)) = refl
-answer-with (Refused OverLimit) = refl
-answer-with (Refused (DuplicateDeclaration place)) = refl
-answer-with (Refused (UndeclaredName place)) = refl
-answer-with (Refused MalformedBlock) = refl
-answer-with (Refused BadSetting) = refl
-answer-with (Refused TooManyCopies) = refl
-answer-with (Refused (NotSettled setting)) = refl
-answer-with (Refused NotStraight) = refl
-answer-with (Refused NoRoom) = refl
-answer-with (Refused InterfaceMismatch) = refl
-answer-with (Refused NotAPermutation) = refl
+answer-with (Ok d) = refl
+answer-with (Err TextTooLong) = refl
+answer-with (Err (SyntaxError place)) = refl
+answer-with (Err OverLimit) = refl
+answer-with (Err (DuplicateDeclaration place)) = refl
+answer-with (Err (UndeclaredName place)) = refl
+answer-with (Err MalformedBlock) = refl
+answer-with (Err BadSetting) = refl
+answer-with (Err TooManyCopies) = refl
+answer-with (Err (NotSettled setting)) = refl
+answer-with (Err NotStraight) = refl
+answer-with (Err NoRoom) = refl
+answer-with (Err InterfaceMismatch) = refl
+answer-with (Err NotAPermutation) = refl
 
 pub told-answer : {o : Outcome} {r : Answer} → Told o r → r ≡ answer_of o
 told-answer {o} {r} t = sym (answer-with r) ∙ rw (t.number, t.count, t.detail) (answer-with (answer_of o))
@@ -86,11 +84,11 @@ promise-answer p = told-answer p.told
 
 -- ---- tests
 
--- the way behind `let Test::Passed = t else`
+-- the way behind a test that failed
 abbrev pub IsFailed : Test → Type 0
-IsFailed t = t ≡ Passed → ⊥
+IsFailed t = t ≡ Ok tt → ⊥
 
-pub passed-false : (b : Bool) (why : Refusal) {t : Test} → t ≡ test_of b why → t ≡ Passed → b ≡ false
+pub passed-false : (b : Bool) (why : Refusal) {t : Test} → t ≡ test_of b why → t ≡ Ok tt → b ≡ false
 unfolding test_of
 passed-false true why e f = let z : ◌≡◌ {A = ℕ} 0 1 = cc in absurd (omega arith)
 passed-false false why e f = refl
@@ -101,10 +99,29 @@ failed-true true why e k = refl
 failed-true false why e k = absurd (k e)
 
 -- a test of a condition that tells a place has passed where there is none
-pub passed_none : (p : Option ℕ) (why : ℕ → Refusal) {t : Test} → t ≡ test_at p why → t ≡ Passed → p ≡ none
+pub passed_none : (p : Option ℕ) (why : ℕ → Refusal) {t : Test} → t ≡ test_at p why → t ≡ Ok tt → p ≡ none
 unfolding test_at
 passed_none (some place) why e f = let z : ◌≡◌ {A = ℕ} 0 1 = cc in absurd (omega arith)
 passed_none none why e f = refl
+
+-- a test that failed has not passed
+pub not-err : {r : Refusal} → ◌≡◌ {A = Test} (Err r) (Ok tt) → ⊥
+not-err e = let z : ◌≡◌ {A = ℕ} 0 1 = cc in absurd (omega arith)
+
+-- what `?` answers for a refusal
+pub residual : {T : Type 0} {r : Refusal} (a : Result T Refusal) → IsErrAnd a (λ e. e ≡ r) → a ≡ Err r
+residual (Ok d) h = absurd h
+residual (Err e) h = ap Err h
+
+-- the refusal of a test that failed
+refusal_in : Refusal → Test → Refusal
+refusal_in r (Err why) = why
+refusal_in r (Ok u) = r
+
+-- an operation refuses as its test did
+pub same-refusal : {r why : Refusal} → ◌≡◌ {A = Test} (Err r) (Err why) → ◌≡◌ {A = Answer} (Err r) (Err why)
+unfolding refusal_in
+same-refusal {r} e = ap Err (ap (refusal_in r) e)
 
 -- ---- the conditions of an operation, one after the other
 
@@ -112,31 +129,36 @@ module _ (around : Outcome → Outcome) (keeps : (r : Refusal) → around (refus
     (next : Outcome) where
   module _ (b : Bool) (why : Refusal) {t : Test} (chain : o ≡ around (refuse_if b why next)) (answer : t ≡ test_of b why)
     where
-      pub passed : t ≡ Passed → o ≡ around next
+      pub passed : t ≡ Ok tt → o ≡ around next
       unfolding refuse_if
       passed f = rw (passed-false b why answer f) at chain
 
-      pub failed : {r : Answer} (entry : List ℕ) → IsFailed t → r ≡ refusal_of t → Promise o entry r entry
-      unfolding refuse_if test_of refusal_of answer_of left_in
-      failed entry k e =
-          let holds = failed-true b why answer k in
-          let is : o ≡ refused why = (rw holds at chain) ∙ keeps why in
-          let was : t ≡ Failed why = rw holds at answer in
-          promise (rw (is, e, was) refl) (rw is refl)
+      pub failed : {r : Refusal} {a : Answer} (entry : List ℕ) → t ≡ Err r → IsErrAnd a (λ e. e ≡ r)
+          → Promise o entry a entry
+      unfolding refuse_if test_of answer_of left_in
+      failed {r} {a = x} entry k g = go b chain answer
+        where
+          go : (b : Bool) → o ≡ around (refuse_if b why next) → t ≡ test_of b why → Promise o entry x entry
+          go true c a =
+              promise (rw (c ∙ keeps why) (residual x g ∙ same-refusal (sym k ∙ a))) (rw (c ∙ keeps why) refl)
+          go false c a = absurd (not-err (sym k ∙ a))
 
   module _ (p : Option ℕ) (why : ℕ → Refusal) {t : Test} (chain : o ≡ around (refuse_at p why next))
       (answer : t ≡ test_at p why) where
-    pub passed-at : t ≡ Passed → o ≡ around next
+    pub passed-at : t ≡ Ok tt → o ≡ around next
     unfolding refuse_at
     passed-at f = rw (passed_none p why answer f) at chain
 
-    pub failed-at : {r : Answer} (entry : List ℕ) → IsFailed t → r ≡ refusal_of t → Promise o entry r entry
-    unfolding refuse_at test_at refusal_of answer_of left_in
-    failed-at {r} entry k e = go p chain answer
+    pub failed-at : {r : Refusal} {a : Answer} (entry : List ℕ) → t ≡ Err r → IsErrAnd a (λ e. e ≡ r)
+        → Promise o entry a entry
+    unfolding refuse_at test_at answer_of left_in
+    failed-at {r} {a = x} entry k g = go p chain answer
       where
-        go : (p : Option ℕ) → o ≡ around (refuse_at p why next) → t ≡ test_at p why → Promise o entry r entry
-        go (some place) c a = promise (rw (c ∙ keeps (why place), e, a) refl) (rw (c ∙ keeps (why place)) refl)
-        go none c a = absurd (k a)
+        go : (p : Option ℕ) → o ≡ around (refuse_at p why next) → t ≡ test_at p why → Promise o entry x entry
+        go (some place) c a =
+            promise (rw (c ∙ keeps (why place)) (residual x g ∙ same-refusal (sym k ∙ a)))
+            (rw (c ∙ keeps (why place)) refl)
+        go none c a = absurd (not-err (sym k ∙ a))
 
 -- what stands around the conditions: the room, or nothing
 pub keeps-room : (room : ℕ) (r : Refusal) → in_room room (refused r) ≡ refused r
@@ -158,6 +180,6 @@ keeps-bare r = refl
 pub finished : {o : Outcome} {entry exit result : List ℕ} {count reported detail : ℕ} → o ≡ done result reported detail
     → count ≡ reported
     → exit ≡ placed result entry
-    → Promise o entry (Done count detail) exit
+    → Promise o entry (Ok (record { count = count; detail = detail })) exit
 unfolding answer_of left_in
 finished e c x = promise (rw (e, c) refl) (rw (e, x) refl)

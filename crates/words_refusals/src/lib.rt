@@ -3,49 +3,28 @@
 #![tactic(auto)]
 
 ghost use Rattle.std.specs.Prelude.{◌≡◌, ltb};
-ghost use Rattle.netlist.specs.declared.Answer.TheVariants.{Refused};
+ghost use Rattle.std.specs.declared.result.Result.TheVariants.{Err};
 ghost use Rattle.netlist.specs.declared.Refusal.TheVariants.{NoRoom};
 ghost use Rattle.netlist.specs.Answers.{refusal_number, refusal_detail, Shows};
-ghost use Rattle.words_refusals.specs.Tests.{test_of, refusal_of};
+ghost use Rattle.words_refusals.specs.Tests.{test_of};
 
 use netlist::{Answer, Refusal, Reply};
 
-// What a condition of an operation answers: the input passes, or the operation refuses.
-#[derive(Drop)]
-pub enum Test {
-    Passed,
-    Failed(Refusal),
-}
-
 // The test of a condition: refuses where it holds.
-pub fn refuse_if(holds: bool, why: Refusal) -> Test
+pub fn refuse_if(holds: bool, why: Refusal) -> Result<(), Refusal>
     ensures { result ≡ test_of holds why }
 {
     if holds {
-        Test::Failed(why)
-    } else {
-        Test::Passed
+        return Err(why);
     }
+    Ok(())
 }
 
 // Refusal 11: is a slice of `room` elements too short for a result of `needed`?
-pub fn test_room(room: usize, needed: usize) -> Test
+pub fn test_room(room: usize, needed: usize) -> Result<(), Refusal>
     ensures { result ≡ test_of (ltb room needed) NoRoom }
 {
     refuse_if(room < needed, Refusal::NoRoom)
-}
-
-// The answer of an operation whose test of a condition gave this.
-pub fn refusal(test: Test) -> Answer
-    ensures { result ≡ refusal_of test }
-{
-    match test {
-        Test::Failed(why) => Answer::Refused(why),
-        Test::Passed => Answer::Done {
-            count: 0,
-            detail: 0,
-        },
-    }
 }
 
 // A refusal's number in the table of refusals.
@@ -84,7 +63,7 @@ pub fn detail_of(why: Refusal) -> usize
 
 // The three numbers of a refusal; it counts nothing.
 fn reply_of_refusal(refusal: Refusal) -> Reply
-    ensures { Shows (Refused refusal) result }
+    ensures { Shows (Err refusal) result }
 {
     let number = number_of(refusal);
     let detail = detail_of(refusal);
@@ -100,11 +79,11 @@ pub fn reply_of(answer: Answer) -> Reply
     ensures { Shows answer result }
 {
     match answer {
-        Answer::Done { count, detail } => Reply {
+        Ok(done) => Reply {
             number: 0,
-            count,
-            detail,
+            count: done.count,
+            detail: done.detail,
         },
-        Answer::Refused(refusal) => reply_of_refusal(refusal),
+        Err(refusal) => reply_of_refusal(refusal),
     }
 }

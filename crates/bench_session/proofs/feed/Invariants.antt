@@ -1,12 +1,8 @@
 -- `bench_session::feed` meets its contract: what was taken so far led the run here, and until something is answered
 -- nothing is written. Assumes nothing.
-use Rattle.bench_session.proofs.Bytes.{at-start, one_byte, fed}
 use Rattle.bench_session.specs.Session.{run_of, Progressed}
 use lib.ListN.{length}
-use native.Mathlib.Omega.{arith}
-use mathlib.Core.Path.{◌≡◌, refl}
-use mathlib.Core.Logic.{inl, inr}
-use borrow.Author.Tests.{eqb-true, eqb-false}
+use mathlib.Core.Path.{◌≡◌}
 use Prim.Native.Nat.{◌-◌}
 use Rattle.bench_session.proofs.feed.Given as goal
 

@@ -19,7 +19,6 @@ overflow_mul-turns c =
 
 pub loop-t-init : goal.loop-t-init
 loop-t-init c = record {
-  in_turns = omega arith;
   records_are = sym (before-none c.args.block.now c.args.records.now);
   batch_at = batch-first c.args.block.now c.args.records.now zeros c.no_batch-batch.ensures;
 }
@@ -51,15 +50,10 @@ offset_bounds-records-i-in-loop-t c =
 pub bounds-records-i : goal.bounds-records-i
 bounds-records-i c = place_in (goal.at.bounds-records-i c).After-place_at-i
 
-pub overflow_add-t : goal.overflow_add-t
-overflow_add-t c =
-    omega (arith, turns_fit c.args.block.now c.args.records.now _ c.reply_to_sheet-reply.ensures)
-
 pub loop-t-preserved : goal.loop-t-preserved
 loop-t-preserved c =
     let turn = rw (c.loop-t.invariant.records_are, c.place_at-i.ensures) at c.advance-batch.ensures in
     record {
-      in_turns = omega arith;
       records_are = rw (add-one c.loop-t.t, c.answer.ensures, c.loop-t.invariant.records_are, c.place_at-i.ensures)
           (turn-record c.args.block.now c.args.records.now _ c.reply_to_sheet-reply.ensures zeros _
           c.loop-t-test.true);
@@ -70,6 +64,6 @@ loop-t-preserved c =
 
 pub returns-clause-leaves : goal.returns-clause-leaves
 returns-clause-leaves c =
-    let all : c.loop-t.t ≡ 2 * c.reply_to_sheet-reply.result.count = omega (arith, c.loop-t.invariant.in_turns) in
+    let all : c.loop-t.t ≡ 2 * c.reply_to_sheet-reply.result.count = omega arith in
     rw (c.loop-t.invariant.records_are, all)
     (turns-all c.args.block.now c.args.records.now _ c.reply_to_sheet-reply.ensures)

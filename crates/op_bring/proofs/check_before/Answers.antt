@@ -1,7 +1,6 @@
 -- `op_bring::check_before` meets its contract: what the old rules refuse at once, and then what is left.
 use mathlib.Core.Path.{refl}
 use native.Mathlib.Omega.{arith}
-use borrow.Author.Rules.{rules}
 use Rattle.words_refusals.specs.Tests.{test_of}
 use Rattle.op_bring.proofs.Words.{malformed-short, malformed-long, malformed-inputs}
 use Rattle.op_bring.proofs.check_before.Goals as goal

@@ -5,7 +5,6 @@ use mathlib.Core.Bool.{Bool}
 use native.Mathlib.Omega.{arith}
 use lib.ListN.{length, take}
 use lib.Seq.{length-take-le}
-use borrow.Author.Rules.{rules}
 use Rattle.prelude.proofs.Slices.{take-placed}
 use Rattle.netlist.specs.declared.Refusal.TheVariants.{MalformedBlock}
 use Rattle.netlist.specs.StoredBlock.{is_malformed}

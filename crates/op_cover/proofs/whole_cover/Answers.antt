@@ -1,6 +1,5 @@
 -- `op_cover::whole_cover` meets its contract: the entries over the table of settled settings are the block's cover.
 use mathlib.Core.Path.{◌≡◌, sym, ◌∙◌}
-use borrow.Author.Rules.{rules}
 use Rattle.netlist.specs.Netlist.{input_count}
 use Rattle.netlist.specs.StoredBlock.{decode}
 use Rattle.theory_encoding.proofs.Decoded.{decode-input_count}
@@ -23,13 +22,13 @@ cover_entries-count-requires c =
       table-room i.tabulate.ensures (inputs_are (goal.at.cover_entries-count-requires c).After-inputs_of-n),
     )
 
-pub returns-in_default : goal.returns-in_default
-returns-in_default c =
+pub returns-in_err-test_room : goal.returns-in_err-test_room
+returns-in_err-test_room c =
     let t = c in
     let e = t in
     let i = e in
-    cover-short _ i.requires.words_value i.tabulate.ensures (inputs_are (goal.at.returns-in_default c).After-inputs_of-n) e.cover_entries-count.ensures
-    e.cover_entries-count.auto.out t.test_room-tested.ensures c.in_default.not-Passed c.refusal.ensures
+    cover-short _ i.requires.words_value i.tabulate.ensures (inputs_are (goal.at.returns-in_err-test_room c).After-inputs_of-n) e.cover_entries-count.ensures
+    e.cover_entries-count.auto.out t.test_room.ensures c.in_err-test_room.was c.from_residual.ensures.1
 
 pub returns : goal.returns
 returns c =
@@ -37,4 +36,4 @@ returns c =
     let e = t in
     let i = e in
     cover-done _ i.requires.words_value i.tabulate.ensures (inputs_are (goal.at.returns c).After-inputs_of-n) e.cover_entries-count.ensures
-    e.cover_entries-count.auto.out t.test_room-tested.ensures c.in-Passed.is
+    e.cover_entries-count.auto.out t.test_room.ensures c.in_ok-test_room.was

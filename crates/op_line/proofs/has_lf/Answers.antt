@@ -1,19 +1,10 @@
 -- `op_line::has_lf` meets its contract: where nothing was found, no byte passed is an LF.
-use mathlib.Core.Path.{◌≡◌}
-use mathlib.Core.Bool.{false}
-use Prim.Native.Nat.{◌≤◌, ◌-◌}
 use native.Mathlib.Omega.{arith}
-use Rattle.op_line.proofs.Ends.{NoLf, no_more}
+use Rattle.op_line.proofs.Ends.{no_more}
 use Rattle.op_line.proofs.has_lf.Goals as goal
 
 pub loop-i-init : goal.loop-i-init
-loop-i-init c = (omega arith, λ e k l h. absurd (omega arith))
+loop-i-init c e k l h = absurd (omega arith)
 
 pub loop-i-preserved : goal.loop-i-preserved
-loop-i-preserved c =
-    let l = c in
-    let a = l.args in
-    (omega arith, no_more a.text.now a.at l.loop-i.i l.loop-i.found l.loop-i.invariant.1)
-
-pub returns : goal.returns
-returns c e k l = let p = c.loop-i in p.invariant.1 e k (omega arith)
+loop-i-preserved c = no_more c.args.text.now c.args.at c.loop-i.i c.loop-i.found c.loop-i.invariant

@@ -1,5 +1,4 @@
 -- `op_line::line` meets its contract: the part between the two ends, which lie in order inside the text.
-use borrow.Author.Rules.{rules}
 use native.Mathlib.Omega.{arith}
 use mathlib.Core.Path.{refl}
 use Rattle.netlist.specs.Line.{line_length, line_at}

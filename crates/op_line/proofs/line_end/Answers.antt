@@ -1,42 +1,27 @@
--- `op_line::line_end` meets its contract. The loop goes up from the part that has the LF; its invariant: the end from
--- `at` on is the end.
-use mathlib.Core.Path.{◌≡◌, sym, ap, ◌∙◌}
-use Prim.Native.Nat.{ℕ, ◌≤◌, ◌+◌, ◌-◌}
-use native.Mathlib.Numerals.{add-one}
+-- `op_line::line_end` meets its contract: the parts that are skipped have no LF.
+use mathlib.Core.Path.{sym, ap, ◌∙◌}
+use Prim.Native.Nat.{ℕ, ◌+◌, ◌-◌}
 use native.Mathlib.Omega.{arith}
-use lib.ListN.{length, drop}
+use lib.ListN.{length, take, drop, length-drop}
+use Rattle.std.proofs.lemmas.List.{take_rest}
 use Rattle.netlist.specs.Line.{until_lf, line_end}
-use Rattle.op_line.proofs.Ends.{end-at, end-behind, end-over, clamped-le}
+use Rattle.op_line.proofs.Ends.{clamped-le, until-le}
 use Rattle.op_line.proofs.line_end.Goals as goal
 
-pub skip_behind-at-requires : goal.skip_behind-at-requires
-skip_behind-at-requires c =
-    let a = c.args in rw c.clamp.ensures (clamped-le a.text.now a.place)
+pub skip_behind-from-requires : goal.skip_behind-from-requires
+skip_behind-from-requires c = rw c.clamp.ensures (clamped-le c.args.text.now c.args.place)
 
-pub loop-at-init : goal.loop-at-init
-unfolding line_end
-loop-at-init c =
-    let skip = c.skip_behind-at.ensures in
+pub overflow_add-result : goal.overflow_add-result
+overflow_add-result c =
     let text = c.args.text.now in
-    (skip.0, ap (λ (at : ℕ). at + until_lf (drop at text)) (sym c.clamp.ensures) ∙ skip.1)
-
-pub returns-then-text-at-eq10 : goal.returns-then-text-at-eq10
-returns-then-text-at-eq10 c =
-    let start = c in
-    let l = c in
-    end-at start.args.text.now l.loop-at.at c.loop-at-test.true c.if-text-at-eq10.true
-    ∙ sym l.loop-at.invariant.1
-
-pub loop-at-preserved : goal.loop-at-preserved
-loop-at-preserved c =
-    let start = c in
-    let l = c in
-    let e = l.loop-at.invariant.1 ∙ end-behind start.args.text.now l.loop-at.at c.loop-at-test.true
-    c.if-text-at-eq10.false in
-    (omega arith, rw (add-one l.loop-at.at) e)
+    let from = c.skip_behind-from.result in
+    let rest = take (length text - from) (drop from text) in
+    omega (arith, c.until_lf.ensures, until-le rest, length-drop from text, c.skip_behind-from.ensures.0)
 
 pub returns : goal.returns
+unfolding line_end
 returns c =
-    let start = c in
-    let l = c in
-    end-over start.args.text.now l.loop-at.at c.loop-at-test.false ∙ sym l.loop-at.invariant.1
+    let text = c.args.text.now in
+    let from = c.skip_behind-from.result in
+    ap (λ k. from + k) (c.until_lf.ensures ∙ ap until_lf (take_rest text from))
+    ∙ sym (ap (λ (at : ℕ). at + until_lf (drop at text)) (sym c.clamp.ensures) ∙ c.skip_behind-from.ensures.1)

@@ -1,5 +1,4 @@
 -- `op_line::line_length` meets its contract: the ends lie in order.
-use borrow.Author.Rules.{rules}
 use native.Mathlib.Omega.{arith}
 use Rattle.netlist.specs.Line.{line_length}
 use Rattle.op_line.proofs.Ends.{ends-in-order}

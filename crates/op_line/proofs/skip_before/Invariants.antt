@@ -1,11 +1,8 @@
 -- `op_line::skip_before` meets its contract: a part without an LF does not change where the line starts.
-use mathlib.Core.Path.{◌≡◌, refl, ap, ◌∙◌}
-use Prim.Native.Nat.{◌≤◌, ◌+◌, ◌-◌}
-use native.Mathlib.Omega.{arith}
-use borrow.Author.Rules.{rules}
+use mathlib.Core.Path.{◌≡◌}
+use Prim.Native.Nat.{◌≤◌}
 use lib.ListN.{length}
 use Rattle.netlist.specs.Line.{start_before}
-use Rattle.op_line.proofs.Ends.{start-skip}
 use Rattle.op_line.proofs.skip_before.Given as goal
 
 abbrev pub invariant-loop-start : goal.invariant-loop-start

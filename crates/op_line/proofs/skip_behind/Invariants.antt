@@ -1,11 +1,8 @@
 -- `op_line::skip_behind` meets its contract: a part without an LF does not change where the line ends.
-use mathlib.Core.Path.{◌≡◌, refl, ◌∙◌}
+use mathlib.Core.Path.{◌≡◌}
 use Prim.Native.Nat.{◌≤◌, ◌+◌, ◌-◌}
-use native.Mathlib.Omega.{arith}
-use borrow.Author.Rules.{rules}
 use lib.ListN.{length, drop}
 use Rattle.netlist.specs.Line.{until_lf}
-use Rattle.op_line.proofs.Ends.{end-skip}
 use Rattle.op_line.proofs.skip_behind.Given as goal
 
 abbrev pub invariant-loop-end : goal.invariant-loop-end

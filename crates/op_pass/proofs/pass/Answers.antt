@@ -3,7 +3,6 @@
 use mathlib.Core.Path.{◌≡◌, ◌∙◌}
 use mathlib.Core.Bool.{false, not}
 use mathlib.Core.List.{map}
-use borrow.Author.Rules.{rules}
 use borrow.Author.Tests.{ltb-false}
 use lib.ListN.{length, get_or}
 use lib.Dec.{ltb}
@@ -17,24 +16,24 @@ use Rattle.words_refusals.proofs.Promised.{passed, passed-false, failed, keeps-r
 use Rattle.op_pass.specs.Swept.{sweep_codes}
 use Rattle.op_settle.proofs.Settings.{good-setting}
 use Rattle.op_pass.proofs.Outcomes.{pass-chain, pass-room, pass-promise}
-use Rattle.op_pass.proofs.pass.Goals.{In-Passed, In-Passed-tested, In-Passed-tested-2}
+use Rattle.op_pass.proofs.pass.Goals.{In_ok-check_words, In_ok-check_straight, In_ok-test_setting}
 use Rattle.op_pass.proofs.pass.Goals as goal
 
 -- no word of the block breaks a rule
-whole : (c : In-Passed) → is_malformed c.args.words.now ≡ false
-whole c = passed-false _ MalformedBlock c.check_words-tested.ensures c.in-Passed.is
+whole : (c : In_ok-check_words) → is_malformed c.args.words.now ≡ false
+whole c = passed-false _ MalformedBlock c.check_words.ensures c.in_ok-check_words.was
 
 -- what is left of the chain of conditions behind each
-behind-words : (c : In-Passed) → let a = c.args in
+behind-words : (c : In_ok-check_words) → let a = c.args in
     pass a.words.now a.setting.now (length a.values.now)
     ≡ in_room (length a.values.now) (refuse_if (not (is_straight (decode a.words.now))) NotStraight
     (refuse_if (is_bad_setting (decode a.words.now) a.setting.now) BadSetting
     (pass_block (decode a.words.now) (map value_of a.setting.now))))
 behind-words c =
-    passed (in_room _) (keeps-room _) _ _ MalformedBlock (pass-chain _ _ _) c.check_words-tested.ensures
-    c.in-Passed.is
+    passed (in_room _) (keeps-room _) _ _ MalformedBlock (pass-chain _ _ _) c.check_words.ensures
+    c.in_ok-check_words.was
 
-behind-straight : (c : In-Passed-tested) → let a = c.args in
+behind-straight : (c : In_ok-check_straight) → let a = c.args in
     pass a.words.now a.setting.now (length a.values.now)
     ≡ in_room (length a.values.now) (refuse_if (is_bad_setting (decode a.words.now) a.setting.now) BadSetting
     (pass_block (decode a.words.now) (map value_of a.setting.now)))
@@ -44,11 +43,11 @@ behind-straight c =
     pass a.words.now a.setting.now (length a.values.now)
     ≡ in_room (length a.values.now) (refuse_if (not (is_straight (decode a.words.now))) NotStraight
     (refuse_if (is_bad_setting (decode a.words.now) a.setting.now) BadSetting
-    (pass_block (decode a.words.now) (map value_of a.setting.now))))) = passed (in_room _) (keeps-room _) _ _ MalformedBlock (pass-chain _ _ _) c.check_words-tested.ensures
-    c.in-Passed.is in behind-words_here)) t.check_straight-tested.ensures
-    c.in-Passed-tested.is
+    (pass_block (decode a.words.now) (map value_of a.setting.now))))) = passed (in_room _) (keeps-room _) _ _ MalformedBlock (pass-chain _ _ _) c.check_words.ensures
+    c.in_ok-check_words.was in behind-words_here)) t.check_straight.ensures
+    c.in_ok-check_straight.was
 
-behind-setting : (c : In-Passed-tested-2) → let a =
+behind-setting : (c : In_ok-test_setting) → let a =
     c.args in
     pass a.words.now a.setting.now (length a.values.now)
     ≡ refuse_if (ltb (length a.values.now) (get_or a.words.now 1 0)) NoRoom
@@ -63,60 +62,60 @@ behind-setting c =
     pass a.words.now a.setting.now (length a.values.now)
     ≡ in_room (length a.values.now) (refuse_if (not (is_straight (decode a.words.now))) NotStraight
     (refuse_if (is_bad_setting (decode a.words.now) a.setting.now) BadSetting
-    (pass_block (decode a.words.now) (map value_of a.setting.now))))) = passed (in_room _) (keeps-room _) _ _ MalformedBlock (pass-chain _ _ _) c.check_words-tested.ensures
-    c.in-Passed.is in behind-words_here)) t.check_straight-tested.ensures
-    c.in-Passed-tested.is in behind-straight_here))
-    c.test_setting-tested.ensures c.in-Passed-tested-2.is
+    (pass_block (decode a.words.now) (map value_of a.setting.now))))) = passed (in_room _) (keeps-room _) _ _ MalformedBlock (pass-chain _ _ _) c.check_words.ensures
+    c.in_ok-check_words.was in behind-words_here)) t.check_straight.ensures
+    c.in_ok-check_straight.was in behind-straight_here))
+    c.test_setting.ensures c.in_ok-test_setting.was
     ∙ pass-room a.words.now a.setting.now _
 
-pub returns-in_default : goal.returns-in_default
-returns-in_default c =
+pub returns-in_err-check_words : goal.returns-in_err-check_words
+returns-in_err-check_words c =
     let t = c in
-    pass-promise (failed (in_room _) (keeps-room _) _ _ MalformedBlock (pass-chain _ _ _) t.check_words-tested.ensures
-    t.args.values.now c.in_default.not-Passed c.refusal.ensures)
+    pass-promise (failed (in_room _) (keeps-room _) _ _ MalformedBlock (pass-chain _ _ _) t.check_words.ensures
+    t.args.values.now c.in_err-check_words.was c.from_residual.ensures.1)
 
-pub check_straight-tested-requires : goal.check_straight-tested-requires
-check_straight-tested-requires c = whole (goal.at.check_straight-tested-requires c).In-Passed
+pub check_straight-requires : goal.check_straight-requires
+check_straight-requires c = whole (goal.at.check_straight-requires c).In_ok-check_words
 
-pub returns-in_default-tested : goal.returns-in_default-tested
-returns-in_default-tested c =
+pub returns-in_err-check_straight : goal.returns-in_err-check_straight
+returns-in_err-check_straight c =
     let t = c in
     pass-promise
-    (failed (in_room _) (keeps-room _) _ _ NotStraight (behind-words (goal.at.returns-in_default-tested c).In-Passed) t.check_straight-tested.ensures
-    t.args.values.now c.in_default-tested.not-Passed c.refusal-in_default-tested.ensures)
+    (failed (in_room _) (keeps-room _) _ _ NotStraight (behind-words (goal.at.returns-in_err-check_straight c).In_ok-check_words) t.check_straight.ensures
+    t.args.values.now c.in_err-check_straight.was c.from_residual-in_err-check_straight.ensures.1)
 
-pub returns-in_default-tested-2 : goal.returns-in_default-tested-2
-returns-in_default-tested-2 c =
+pub returns-in_err-test_setting : goal.returns-in_err-test_setting
+returns-in_err-test_setting c =
     let t = c in
     let a = t.args in
     pass-promise
-    (failed (in_room _) (keeps-room _) _ _ BadSetting (behind-straight (goal.at.returns-in_default-tested-2 c).In-Passed-tested) t.test_setting-tested.ensures
-    a.values.now c.in_default-tested-2.not-Passed c.refusal-in_default-tested-2.ensures)
+    (failed (in_room _) (keeps-room _) _ _ BadSetting (behind-straight (goal.at.returns-in_err-test_setting c).In_ok-check_straight) t.test_setting.ensures
+    a.values.now c.in_err-test_setting.was c.from_residual-in_err-test_setting.ensures.1)
 
-pub returns-in_default-tested-3 : goal.returns-in_default-tested-3
-returns-in_default-tested-3 c =
+pub returns-in_err-test_room : goal.returns-in_err-test_room
+returns-in_err-test_room c =
     let after-enum-told5 = c in
     let t = c in
     let a = after-enum-told5.args in
-    pass-promise (failed bare keeps-bare _ _ NoRoom (behind-setting (goal.at.returns-in_default-tested-3 c).In-Passed-tested-2)
-    (rw (← t.gates_of.ensures) t.test_room-tested.ensures) a.values.now
-    c.in_default-tested-3.not-Passed c.refusal-in_default-tested-3.ensures)
+    pass-promise (failed bare keeps-bare _ _ NoRoom (behind-setting (goal.at.returns-in_err-test_room c).In_ok-test_setting)
+    (rw (← t.gates_of.ensures) t.test_room.ensures) a.values.now
+    c.in_err-test_room.was c.from_residual-in_err-test_room.ensures.1)
 
 pub sweep_into-count-requires : goal.sweep_into-count-requires
 sweep_into-count-requires c =
     let t = c in
     let s = t in
-    let w = whole (goal.at.sweep_into-count-requires c).In-Passed in (
+    let w = whole (goal.at.sweep_into-count-requires c).In_ok-check_words in (
       w,
-      good-setting _ _ w (passed-false _ BadSetting s.test_setting-tested.ensures s.in-Passed-tested-2.is),
+      good-setting _ _ w (passed-false _ BadSetting s.test_setting.ensures s.in_ok-test_setting.was),
       ltb-false _ _ (passed-false _ NoRoom
-          (rw (← t.gates_of.ensures) t.test_room-tested.ensures) t.in-Passed-tested-3.is),
+          (rw (← t.gates_of.ensures) t.test_room.ensures) t.in_ok-test_room.was),
     )
 
 pub returns : goal.returns
 returns c =
     let t = c in
     let d = c.sweep_into-count.ensures in
-    pass-promise (finished (passed bare keeps-bare _ _ NoRoom (behind-setting (goal.at.returns c).In-Passed-tested-2)
-    (rw (← t.gates_of.ensures) t.test_room-tested.ensures) t.in-Passed-tested-3.is)
+    pass-promise (finished (passed bare keeps-bare _ _ NoRoom (behind-setting (goal.at.returns c).In_ok-test_setting)
+    (rw (← t.gates_of.ensures) t.test_room.ensures) t.in_ok-test_room.was)
     d.value d.out_after)

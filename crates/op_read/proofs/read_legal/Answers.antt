@@ -13,12 +13,12 @@ slice_bounds-tally-start c = end-inside c.requires c.never_lines-lines.ensures
 pub tally-c-requires : goal.tally-c-requires
 tally-c-requires c = rest-short c.requires c.never_lines-lines.ensures
 
-pub returns-in_default : goal.returns-in_default
-returns-in_default c =
+pub returns-in_err-limits : goal.returns-in_err-limits
+returns-in_err-limits c =
     let t = c in
     let f = t in
-    over f.requires f.never_lines-lines.ensures t.tally-c.ensures t.limits-tested.ensures
-    f.args.block.now c.in_default.not-Passed c.refusal.ensures
+    over f.requires f.never_lines-lines.ensures t.tally-c.ensures t.limits.ensures
+    f.args.block.now c.in_err-limits.was c.from_residual.ensures.1
 
 pub read_nevers-told-requires : goal.read_nevers-told-requires
 read_nevers-told-requires c =
@@ -26,8 +26,8 @@ read_nevers-told-requires c =
     let f = t in
     record {
       ready =
-          nevers-ready f.requires f.never_lines-lines.ensures t.tally-c.ensures t.limits-tested.ensures
-          c.in-Passed.is;
+          nevers-ready f.requires f.never_lines-lines.ensures t.tally-c.ensures t.limits.ensures
+          c.in_ok-limits.was;
       room = omega arith;
     }
 
@@ -37,5 +37,5 @@ read_tables-requires c =
     let within = told in
     let t = within in
     let f = t in
-    tables-ready f.requires f.never_lines-lines.ensures t.tally-c.ensures t.limits-tested.ensures
-    within.in-Passed.is told.read_nevers-told.ensures
+    tables-ready f.requires f.never_lines-lines.ensures t.tally-c.ensures t.limits.ensures
+    within.in_ok-limits.was told.read_nevers-told.ensures

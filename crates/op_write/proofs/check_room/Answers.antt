@@ -5,7 +5,6 @@ use mathlib.Core.Path.{◌≡◌, ap, ◌∙◌}
 use native.Mathlib.Omega.{arith}
 use lib.ListN.{length}
 use lib.Dec.{ltb}
-use borrow.Author.Rules.{rules}
 use Rattle.netlist.specs.declared.Refusal.TheVariants.{NoRoom}
 use Rattle.words_refusals.specs.Tests.{test_of}
 use Rattle.op_write.specs.Lines.{block_text}

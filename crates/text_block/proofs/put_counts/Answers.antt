@@ -1,6 +1,5 @@
 -- `text_block::put_counts` meets its contract.
 use native.Mathlib.Omega.{arith}
-use borrow.Author.Rules.{rules}
 use lib.ListN.{length-set}
 use Rattle.text_block.proofs.put_counts.Goals as goal
 

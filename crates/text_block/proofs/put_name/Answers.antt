@@ -1,6 +1,5 @@
 -- `text_block::put_name` meets its contract.
 use native.Mathlib.Omega.{arith}
-use borrow.Author.Rules.{rules}
 use Prim.Native.Nat.{◌/◌, ◌%◌}
 use lib.ListN.{length-set}
 use Rattle.text_names.specs.Ports.{port_words}

@@ -1,10 +1,6 @@
 -- `text_block::put_names` meets its contract: one name a turn.
 use native.Mathlib.Omega.{arith}
 use mathlib.Core.Path.{◌≡◌, refl, ◌∙◌}
-use Prim.Native.Nat.{◌-◌, ◌≤◌}
-use lib.ListN.{length}
-use lib.Seq.{sets}
-use Rattle.prelude.specs.Lists.{tab, joined}
 use Rattle.prelude.proofs.Stores.{sets-joined-next}
 use Rattle.text_block.specs.Words.{name_of}
 use Rattle.text_block.proofs.BlockParts.{name-size}

@@ -1,18 +1,12 @@
 -- `text_block::put_names` meets its contract: one name a turn.
-use native.Mathlib.Omega.{arith}
-use mathlib.Core.Path.{◌≡◌, refl, ◌∙◌}
-use Prim.Native.Nat.{◌-◌, ◌≤◌}
+use mathlib.Core.Path.{◌≡◌}
+use Prim.Native.Nat.{◌≤◌}
 use lib.ListN.{length}
 use lib.Seq.{sets}
 use Rattle.prelude.specs.Lists.{tab, joined}
-use Rattle.prelude.proofs.Stores.{sets-joined-next}
 use Rattle.text_block.specs.Words.{name_of}
-use Rattle.text_block.proofs.BlockParts.{name-size}
 use Rattle.text_block.proofs.put_names.Given as goal
 
 abbrev pub invariant-loop-i : goal.invariant-loop-i
 invariant-loop-i l =
     (l.i ≤ l.n) × (l.block ≡ sets l.initial.block 4 (joined (tab (name_of l.names) l.i))) × (length l.block ≡ length l.initial.block)
-
-abbrev pub decreases-loop-i : goal.decreases-loop-i
-decreases-loop-i l = l.n - l.i

@@ -1,8 +1,9 @@
 -- `text_expressions::resolve` meets its contract: the two walks start where the lines of the tree stand, and together
 -- they have used its names in order.
 use native.Mathlib.Omega.{arith}
-use mathlib.Core.Path.{◌≡◌}
+use mathlib.Core.Path.{◌≡◌, sym, ◌∙◌}
 use mathlib.Core.List.{[]}
+use Rattle.std.specs.declared.option.Option.TheVariants.{None}
 use lib.ListN.{length}
 use Rattle.netlist.specs.Syntax.{Tree}
 use Rattle.netlist.specs.Reading.{bindings, gate_lines_at, output_lines_at}
@@ -12,7 +13,6 @@ use Rattle.text_expressions.proofs.WholeText.{nodes-few, numbers-length, values_
 use Rattle.text_expressions.proofs.WholeText.{end-inside, outputs-end}
 use Rattle.text_expressions.proofs.WholeText.{gates-here, outputs-here, gates-done, outputs-done}
 use Rattle.text_expressions.proofs.Answers.{known-done, undeclared-done, unknown-short}
-use borrow.Author.Rules.{rules}
 use Rattle.text_expressions.proofs.resolve.Goals.{After-gate_lines-walked, After-output_lines-last}
 use Rattle.text_expressions.proofs.resolve.Goals as goal
 
@@ -27,7 +27,7 @@ gates-walked : (c : After-output_lines-last) →
     let s = gates in
     (t : Tree) (w : TreeAt t s.args.text.now s.args.end s.args.c s.args.names.now
     s.args.words.now)
-    → LinesDone gate_form s.args.c.inputs (bindings t) t.gates (gate_lines_at t) (gates_text w) (outputs_text w) 0 0
+    → LinesDone gate_form s.args.c.inputs (bindings t) t.gates (gate_lines_at t) (gates_text w) (outputs_text w) 0 None
     s.args.gates.now gates.gate_lines-walked.new.gates gates.gate_lines-walked.result
 gates-walked c t w =
     let gates = c in
@@ -51,16 +51,20 @@ outputs-walked c t w =
     let s = gates in
     (t : Tree) (w : TreeAt t s.args.text.now s.args.end s.args.c s.args.names.now
     s.args.words.now)
-    → LinesDone gate_form s.args.c.inputs (bindings t) t.gates (gate_lines_at t) (gates_text w) (outputs_text w) 0 0
+    → LinesDone gate_form s.args.c.inputs (bindings t) t.gates (gate_lines_at t) (gates_text w) (outputs_text w) 0 None
     s.args.gates.now gates.gate_lines-walked.new.gates gates.gate_lines-walked.result) = λ t w. let gates = c in
     gates-done w gates.args.gates.now gates.gate_lines-walked.new.gates
     gates.gate_lines-walked.result gates.gate_lines-walked.ensures in gates-walked_here) t w).left (o.ensures s.args.c.inputs)
 
-pub slice_bounds-gate_lines-end-2 : goal.slice_bounds-gate_lines-end-2
-slice_bounds-gate_lines-end-2 c = numbers-length c.requires.resolve_ready.here
+pub slice_bounds-symbols-end : goal.slice_bounds-symbols-end
+slice_bounds-symbols-end c = numbers-length c.requires.resolve_ready.here
 
-pub slice_bounds-gate_lines-end-3 : goal.slice_bounds-gate_lines-end-3
-slice_bounds-gate_lines-end-3 c = values_length c.requires.resolve_ready.here
+pub slice_bounds-symbols-end-2 : goal.slice_bounds-symbols-end-2
+slice_bounds-symbols-end-2 c = values_length c.requires.resolve_ready.here
+
+pub invariant_of-symbols : goal.invariant_of-symbols
+invariant_of-symbols c =
+    let w = c.requires.resolve_ready.here in record { sized = sym (values_length w) ∙ numbers-length w }
 
 pub gate_lines-walked-requires : goal.gate_lines-walked-requires
 gate_lines-walked-requires c =
@@ -74,12 +78,6 @@ pub overflow_sub-length : goal.overflow_sub-length
 overflow_sub-length c =
     let gates = c in omega (arith, outputs-left (goal.at.overflow_sub-length c).After-gate_lines-walked, (outputs-end gates.requires.resolve_ready.here).within)
 
-pub slice_bounds-output_lines-end-2 : goal.slice_bounds-output_lines-end-2
-slice_bounds-output_lines-end-2 c = numbers-length c.requires.resolve_ready.here
-
-pub slice_bounds-output_lines-end-3 : goal.slice_bounds-output_lines-end-3
-slice_bounds-output_lines-end-3 c = values_length c.requires.resolve_ready.here
-
 pub output_lines-last-requires : goal.output_lines-last-requires
 output_lines-last-requires c =
     let gates = c in
@@ -92,44 +90,35 @@ output_lines-last-requires c =
       indexed = s.requires.nodes_indexed;
     }
 
-pub returns-then-last-eq0 : goal.returns-then-last-eq0
-returns-then-last-eq0 c =
-    let outputs = c in
-    let gates = outputs in
-    let s = gates in
+pub returns-in-None : goal.returns-in-None
+returns-in-None c =
+    let r = c.requires.resolve_ready in
+    let g = c.gate_lines-walked in
+    let o = c.output_lines-last in
+    let at = (goal.at.returns-in-None c).After-output_lines-last in
     record {
-      done = λ t w. known-done w s.args.gates.now gates.gate_lines-walked.new.gates
-          s.args.outputs.now outputs.output_lines-last.new.outputs gates.gate_lines-walked.result
-          outputs.output_lines-last.result (gates-walked (goal.at.returns-then-last-eq0 c).After-output_lines-last t w)
-          (outputs-walked (goal.at.returns-then-last-eq0 c).After-output_lines-last t w) c.if-last-eq0.true s.requires.resolve_ready.gate_room s.requires.resolve_ready.output_room;
+      done = λ t w. known-done w c.args.gates.now g.new.gates c.args.outputs.now o.new.outputs g.result o.result
+          (gates-walked at t w) (outputs-walked at t w) c.in-None.is r.gate_room r.output_room;
     }
-
-pub overflow_add-result : goal.overflow_add-result
-overflow_add-result c = let s = c in omega (arith, s.ranges)
 
 pub overflow_sub-result : goal.overflow_sub-result
 overflow_sub-result c =
-    let outputs = c in
-    let gates = outputs in
-    let s = gates in
-    let t = s.requires.resolve_ready.tree in
-    let w = s.requires.resolve_ready.here in omega (
-      arith,
-      unknown-short w s.args.gates.now gates.gate_lines-walked.new.gates s.args.outputs.now
-          outputs.output_lines-last.new.outputs gates.gate_lines-walked.result
-          outputs.output_lines-last.result (gates-walked (goal.at.overflow_sub-result c).After-output_lines-last t w) (outputs-walked (goal.at.overflow_sub-result c).After-output_lines-last t w),
-    )
+    let r = c.requires.resolve_ready in
+    let g = c.gate_lines-walked in
+    let o = c.output_lines-last in
+    let at = (goal.at.overflow_sub-result c).After-output_lines-last in
+    unknown-short r.here c.args.gates.now g.new.gates c.args.outputs.now o.new.outputs g.result o.result
+    (gates-walked at r.tree r.here) (outputs-walked at r.tree r.here) c.in-Some.is
 
-pub returns : goal.returns
-returns c =
-    let outputs = c in
-    let gates = outputs in
-    let s = gates in
+pub returns-in-Some : goal.returns-in-Some
+returns-in-Some c =
+    let r = c.requires.resolve_ready in
+    let g = c.gate_lines-walked in
+    let o = c.output_lines-last in
+    let at = (goal.at.returns-in-Some c).After-output_lines-last in
     record {
-      done = λ t w. undeclared-done w s.args.gates.now gates.gate_lines-walked.new.gates
-          s.args.outputs.now outputs.output_lines-last.new.outputs gates.gate_lines-walked.result
-          outputs.output_lines-last.result (gates-walked (goal.at.returns c).After-output_lines-last t w)
-          (outputs-walked (goal.at.returns c).After-output_lines-last t w) c.if-last-eq0.false s.requires.resolve_ready.gate_room s.requires.resolve_ready.output_room;
+      done = λ t w. undeclared-done w c.args.gates.now g.new.gates c.args.outputs.now o.new.outputs g.result o.result
+          (gates-walked at t w) (outputs-walked at t w) c.in-Some.is r.gate_room r.output_room;
     }
 
 pub overflow_add-nodes : goal.overflow_add-nodes

@@ -1,9 +1,5 @@
 -- `text_lines::has_lf` meets its contract: where nothing was found, no byte passed is an LF.
-use mathlib.Core.Path.{◌≡◌}
-use mathlib.Core.Bool.{false}
-use Prim.Native.Nat.{◌≤◌, ◌-◌}
 use native.Mathlib.Omega.{arith}
-use Rattle.text_lines.specs.Lines.{NoLf}
 use Rattle.text_lines.proofs.Scanning.{no_more}
 use Rattle.text_lines.proofs.has_lf.Goals as goal
 

@@ -1,10 +1,7 @@
 -- `text_lines::line_length` meets its contract: the bytes passed and the rest of the line are the line.
-use Prim.Native.Nat.{◌+◌, ◌-◌, ◌≤◌}
-use mathlib.Core.Path.{◌≡◌}
+use mathlib.Core.Path.{◌≡◌, sym, ◌∙◌}
 use native.Mathlib.Omega.{arith}
-use borrow.Author.Rules.{rules}
-use lib.ListN.{length, drop}
-use Rattle.text_lines.specs.Lines.{length_with_lf}
+use lib.ListN.{length}
 use Rattle.text_lines.proofs.Scanning.{length_more, length_last, length-end}
 use Rattle.text_lines.proofs.line_length.Goals as goal
 
@@ -26,6 +23,7 @@ loop-i-preserved c =
 
 pub returns : goal.returns
 returns c =
-    let start = c in
+    let s = c.args.s.now in
     let l = c.loop-i in
-    length-end start.args.s.now l.i l.i (omega arith) l.invariant.1
+    let e : l.i ≡ length s = omega arith in
+    sym e ∙ length-end s l.i l.i (omega arith) l.invariant.1

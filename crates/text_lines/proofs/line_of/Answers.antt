@@ -1,7 +1,6 @@
 -- `text_lines::line_of` meets its contract: a line's brackets are those among its bytes.
 use mathlib.Core.Path.{◌≡◌, ◌∙◌}
 use native.Mathlib.Omega.{arith}
-use borrow.Author.Rules.{rules}
 use Rattle.text_lines.specs.Lines.{line_opens}
 use Rattle.text_lines.proofs.Scanning.{line_length-le, line-part, opens-within}
 use Rattle.text_lines.proofs.line_of.Goals as goal
@@ -28,5 +27,5 @@ returns c =
     record {
       length = line.line_length-length.ensures;
       name = rw (← named.byte_at.ensures) named.name_offset-name.ensures;
-      gates = omega (arith, e, c.minus.ensures);
+      gates = omega (arith, e, c.saturating_sub.ensures);
     }

@@ -2,7 +2,6 @@
 use mathlib.Core.Path.{◌≡◌}
 use native.Mathlib.Omega.{arith}
 use lib.ListN.{drop, length-drop}
-use borrow.Author.Rules.{rules}
 use Rattle.prelude.proofs.Elements.{rest-is-drop}
 use Rattle.text_lines.specs.Lines.{length_with_lf}
 use Rattle.text_lines.proofs.Scanning.{line_length-le}

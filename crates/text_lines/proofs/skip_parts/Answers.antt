@@ -1,9 +1,5 @@
 -- `text_lines::skip_parts` meets its contract: a part without an LF and what is left of the line are the line.
-use mathlib.Core.Path.{◌≡◌}
-use Prim.Native.Nat.{◌≤◌, ◌+◌, ◌-◌}
 use native.Mathlib.Omega.{arith}
-use lib.ListN.{length, drop}
-use Rattle.text_lines.specs.Lines.{length_with_lf}
 use Rattle.text_lines.proofs.Scanning.{length-skip}
 use Rattle.text_lines.proofs.skip_parts.Goals as goal
 

@@ -1,7 +1,6 @@
 -- `text_pieces::name_bytes` meets its contract: a word below 65,536 is two bytes.
 use Prim.Native.Nat.{◌+◌}
 use native.Mathlib.Omega.{arith}
-use borrow.Author.Rules.{rules}
 use Rattle.text_pieces.proofs.NameLaws.{bytes-of-words}
 use Rattle.text_pieces.proofs.name_bytes.Goals as goal
 

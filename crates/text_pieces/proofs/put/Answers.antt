@@ -1,6 +1,5 @@
 -- `text_pieces::put` meets its contract: past the end of the text a store changes nothing.
 use native.Mathlib.Omega.{arith}
-use borrow.Author.Rules.{rules}
 use Rattle.text_pieces.proofs.Appending.{appended-out}
 use Rattle.text_pieces.proofs.put.Goals as goal
 

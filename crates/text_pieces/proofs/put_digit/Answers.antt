@@ -1,5 +1,4 @@
 -- `text_pieces::put_digit` meets its contract: nothing below the unit, and one digit from there on.
-use borrow.Author.Rules.{rules}
 use Rattle.text_pieces.proofs.DecimalLaws.{digit-none, digit-some}
 use Rattle.text_pieces.proofs.Appending.{appended-none}
 use Rattle.text_pieces.proofs.put_digit.Goals as goal

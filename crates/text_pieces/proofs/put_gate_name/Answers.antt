@@ -1,6 +1,5 @@
 -- `text_pieces::put_gate_name` meets its contract: `_`, and then the number.
 use native.Mathlib.Omega.{arith}
-use borrow.Author.Rules.{rules}
 use Rattle.prelude.specs.Lists.{ascii}
 use Rattle.netlist.specs.Writing.{gate_name, decimal}
 use Rattle.text_pieces.proofs.DecimalLaws.{short-smaller}

@@ -1,5 +1,4 @@
 -- `text_pieces::put_keyword` meets its contract: the keyword of the kind's signature, without the zeros at its end.
-use borrow.Author.Rules.{rules}
 use Rattle.netlist.specs.Kinds.{keyword}
 use Rattle.text_pieces.proofs.put_keyword.Goals as goal
 

@@ -1,5 +1,4 @@
 -- `text_pieces::put_name` meets its contract: a name is its eight bytes without the zeros at the end.
-use borrow.Author.Rules.{rules}
 use Rattle.netlist.specs.StoredBlock.{name_at}
 use Rattle.text_pieces.proofs.put_name.Goals as goal
 

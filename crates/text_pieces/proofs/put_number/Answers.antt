@@ -3,7 +3,6 @@
 use Prim.Native.Nat.{◌+◌, ◌%◌, ◌<◌}
 use mathlib.Core.List.{[], ◌∷◌, ◌++◌}
 use native.Mathlib.Omega.{arith}
-use borrow.Author.Rules.{rules}
 use Rattle.text_pieces.specs.Pieces.{Short, digit_at}
 use Rattle.text_pieces.proofs.DecimalLaws.{decimal-four}
 use Rattle.text_pieces.proofs.Appending.{appended_then, short-first, short-rest}

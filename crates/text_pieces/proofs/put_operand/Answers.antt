@@ -2,7 +2,6 @@
 use Prim.Native.Nat.{◌≤◌, ◌<◌}
 use native.Mathlib.Omega.{arith}
 use lib.ListN.{get_or}
-use borrow.Author.Rules.{rules}
 use Rattle.text_pieces.proofs.OperandLaws.{operand-input, operand-zero, operand-one, operand-gate}
 use Rattle.text_pieces.proofs.put_operand.Goals as goal
 

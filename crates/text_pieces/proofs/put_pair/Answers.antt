@@ -1,7 +1,6 @@
 -- `text_pieces::put_pair` meets its contract: its five pieces, one after the other.
 use mathlib.Core.List.{[], ◌∷◌}
 use native.Mathlib.Omega.{arith}
-use borrow.Author.Rules.{rules}
 use Rattle.prelude.specs.Lists.{ascii}
 use Rattle.text_pieces.specs.Pieces.{pair_piece}
 use Rattle.text_pieces.proofs.Appending.{appended_then, short-first, short-rest}

@@ -1,12 +1,9 @@
 -- `text_pieces::put_trimmed` meets its contract: the bytes before the first zero stay, and what is behind it is trimmed
 -- from the end.
 use mathlib.Core.Path.{◌∙◌}
-use Prim.Native.Nat.{◌-◌}
-use native.Mathlib.Omega.{arith}
-use lib.ListN.{length}
 use Rattle.prelude.proofs.Elements.{rest-is-drop}
 use Rattle.text_pieces.proofs.Appending.{appended-length}
-use Rattle.text_pieces.proofs.TrimLaws.{TrimmedPut, trim-none, trim-short, trim-more, rest-short, rest_put}
+use Rattle.text_pieces.proofs.TrimLaws.{trim-none, trim-short, trim-more, rest-short, rest_put}
 use Rattle.text_pieces.proofs.TrimLaws.{trim-every}
 use Rattle.text_pieces.proofs.put_trimmed.Goals as goal
 

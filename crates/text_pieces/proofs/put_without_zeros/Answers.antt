@@ -1,7 +1,6 @@
 -- `text_pieces::put_without_zeros` meets its contract: the bytes up to the trimmed length are the trimmed bytes.
 use mathlib.Core.Path.{sym}
 use lib.Seq.{length-take-le}
-use borrow.Author.Rules.{rules}
 use Rattle.text_pieces.proofs.put_without_zeros.Goals as goal
 
 pub slice_bounds-put_all-end : goal.slice_bounds-put_all-end

@@ -6,6 +6,6 @@ pub returns-then-holds : goal.returns-then-holds
 unfolding test_of
 returns-then-holds c = rw c.if-holds.true
 
-pub returns-else-holds : goal.returns-else-holds
+pub returns : goal.returns
 unfolding test_of
-returns-else-holds c = rw c.if-holds.false
+returns c = rw c.if-holds.false

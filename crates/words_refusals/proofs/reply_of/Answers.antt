@@ -4,8 +4,8 @@ use Rattle.words_refusals.proofs.Shown.{shows-done, shows_same}
 use borrow.Author.Rules.{rules}
 use Rattle.words_refusals.proofs.reply_of.Goals as goal
 
-pub returns-in-Done : goal.returns-in-Done
-returns-in-Done c = shows-done c.in-Done.is
+pub returns-in-Ok : goal.returns-in-Ok
+returns-in-Ok c = shows-done c.in-Ok.is
 
-pub returns-in-Refused : goal.returns-in-Refused
-returns-in-Refused c = shows_same (sym c.in-Refused.is) c.reply_of_refusal.ensures
+pub returns-in-Err : goal.returns-in-Err
+returns-in-Err c = shows_same (sym c.in-Err.is) c.reply_of_refusal.ensures

@@ -1,21 +1,12 @@
--- `bench_session::line_part::answer` meets its contract. Assumes nothing.
+-- `bench_session::line_part::answer` meets its contract.
 use Rattle.bench_session.proofs.Answers.{line_refused, line-done}
-use borrow.Author.Rules.{rules}
 use Rattle.bench_session.proofs.line_part.answer.Goals as goal
 
-pub returns-in-Refused : goal.returns-in-Refused
-returns-in-Refused c =
-    let a = c in
-    let start = c in
-    let x = start.args in
-    line_refused x.words.now x.line.now start.requires.0 x.out.now _ start.requires.2 _
-    a.answer_line.ensures c.in-Refused.why _ _ c.in-Refused.is
-    c.tell.ensures
+pub returns-in-Err : goal.returns-in-Err
+returns-in-Err c =
+    line_refused _ c.args.line.now c.requires.1 c.args.out.now _ c.requires.3 _ c.answer_line.ensures c.in-Err.why _ _
+    c.in-Err.is c.tell.ensures
 
-pub returns-in-Done : goal.returns-in-Done
-returns-in-Done c =
-    let a = c in
-    let start = c in
-    let x = start.args in
-    line-done x.words.now x.line.now start.requires.0 x.out.now _ start.requires.2 _ a.answer_line.ensures
-    c.in-Done.count _ c.in-Done.is
+pub returns-in-Ok : goal.returns-in-Ok
+returns-in-Ok c =
+    line-done _ c.args.line.now c.requires.1 c.args.out.now _ c.requires.3 _ c.answer_line.ensures c.in-Ok.done c.in-Ok.is

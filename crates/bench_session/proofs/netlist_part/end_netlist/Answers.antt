@@ -3,11 +3,8 @@ use mathlib.Core.List.{[]}
 use lib.ListN.{take}
 use Rattle.netlist.specs.Operations.{read_text}
 use Rattle.bench_session.proofs.NetlistSteps.{opened-ends}
-use borrow.Author.Rules.{rules}
 use Rattle.bench_session.proofs.netlist_part.end_netlist.Goals as goal
 
 pub returns : goal.returns
 returns c =
-    let o = c in
-    let start = c in
-    rw (← opened-ends (read_text (take start.args.held start.args.text.now))) (o.open-fed.ensures []).output
+    rw (← opened-ends (read_text (take c.args.held c.args.text.now))) (c.open-fed.ensures []).output

@@ -1,11 +1,9 @@
 -- `bench_session::state::is_over` meets its contract: behind a refused netlist, and nowhere else. Assumes nothing.
 use mathlib.Core.Path.{◌≡◌, refl}
 use mathlib.Core.Bool.{false}
-use mathlib.Core.List.{[], ◌∷◌}
 use Rattle.bench_session.specs.declared.state.State.{State}
 use Rattle.bench_session.specs.declared.state.State.TheVariants.{Netlist, Lines, Ended}
 use Rattle.bench_session.specs.Session.{has_ended}
-use borrow.Author.Rules.{rules}
 use Rattle.bench_session.proofs.state.is_over.Goals as goal
 
 -- any other state than `Ended`

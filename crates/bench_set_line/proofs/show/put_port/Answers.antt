@@ -1,5 +1,4 @@
 -- `bench_set_line::show::put_port` meets its contract: its five pieces, one after the other. Assumes nothing.
-use borrow.Author.Rules.{rules}
 use Prim.Native.Nat.{ℕ, ◌+◌, ◌*◌}
 use mathlib.Core.Path.{◌≡◌, ap, ◌∙◌}
 use mathlib.Core.List.{[], ◌∷◌}
@@ -21,76 +20,58 @@ byte-is : (c : After-value_byte) → let a = c.args in
     ≡ value_text (value_of (get_or a.values.now (place_of (operand_of (get_or a.words.now 0 0) (get_or a.words.now
     (a.from + output_size * a.o + name_size) 0))) 0))
 byte-is c =
-    let q = c in
-    rw (← q.inputs_of.ensures)
-    (c.value_byte.ensures ∙ ap (λ (v : ℕ). value_text (value_of v)) q.shown_value-value.ensures)
+    rw (← c.inputs_of.ensures)
+    (c.value_byte.ensures ∙ ap (λ (v : ℕ). value_text (value_of v)) c.shown_value-value.ensures)
 
 pub overflow_mul-port : goal.overflow_mul-port
 overflow_mul-port c =
-    let s = c in
-    omega (arith, s.requires.port_of.below, ports-near s.args.words.now s.requires.port_of.whole s.requires.port_of.start)
+    omega (arith, c.requires.port_of.below, ports-near c.args.words.now c.requires.port_of.whole c.requires.port_of.start)
 
 pub overflow_add-port : goal.overflow_add-port
 overflow_add-port c =
-    let s = c in
-    omega (arith, s.requires.port_of.below, ports-near s.args.words.now s.requires.port_of.whole s.requires.port_of.start)
+    omega (arith, c.requires.port_of.below, ports-near c.args.words.now c.requires.port_of.whole c.requires.port_of.start)
 
 pub shown_value-value-requires : goal.shown_value-value-requires
 shown_value-value-requires c = port-ready c.requires.port_of c.inputs_of.ensures
 
 pub put_all-opened-requires : goal.put_all-opened-requires
 unfolding port_piece pair_text
-put_all-opened-requires c =
-    short-first {xs = ascii " ("} _ c.requires.short
+put_all-opened-requires c = short-first {xs = ascii " ("} _ c.requires.short
 
 pub put_name-named-requires : goal.put_name-named-requires
 unfolding port_piece pair_text
 put_name-named-requires c =
-    let o = c in
-    let s = o in record {
-      from_le_written_room = omega (arith, s.requires.port_of.below, ports-near s.args.words.now s.requires.port_of.whole s.requires.port_of.start);
+    record {
+      from_le_written_room = omega (arith, c.requires.port_of.below, ports-near c.args.words.now c.requires.port_of.whole c.requires.port_of.start);
       short = short-first _
-          (short-rest {xs = ascii " ("} _ s.requires.short o.put_all-opened.ensures);
+          (short-rest {xs = ascii " ("} _ c.requires.short c.put_all-opened.ensures);
     }
 
 pub put-spaced-requires : goal.put-spaced-requires
 unfolding port_piece pair_text
 put-spaced-requires c =
-    let n = c in
-    let o = n in
-    let a = short-rest {xs = ascii " ("} _ o.requires.short o.put_all-opened.ensures in
-    short-first {xs = ascii " "} _ (short-rest _ a n.put_name-named.ensures)
+    let a = short-rest {xs = ascii " ("} _ c.requires.short c.put_all-opened.ensures in
+    short-first {xs = ascii " "} _ (short-rest _ a c.put_name-named.ensures)
 
 pub put-filled-requires : goal.put-filled-requires
 unfolding port_piece pair_text
 put-filled-requires c =
-    let s = c in
-    let n = s in
-    let o = n in
-    let a = short-rest {xs = ascii " ("} _ o.requires.short o.put_all-opened.ensures in
-    let b = short-rest _ a n.put_name-named.ensures in
-    rw (byte-is (goal.at.put-filled-requires c).After-value_byte) (short-first _ (short-rest {xs = ascii " "} _ b s.put-spaced.ensures))
+    let a = short-rest {xs = ascii " ("} _ c.requires.short c.put_all-opened.ensures in
+    let b = short-rest _ a c.put_name-named.ensures in
+    rw (byte-is (goal.at.put-filled-requires c).After-value_byte) (short-first _ (short-rest {xs = ascii " "} _ b c.put-spaced.ensures))
 
 pub put-requires : goal.put-requires
 unfolding port_piece pair_text
 put-requires c =
-    let f = c in
-    let s = f in
-    let n = s in
-    let o = n in
-    let a = short-rest {xs = ascii " ("} _ o.requires.short o.put_all-opened.ensures in
-    let b = short-rest _ a n.put_name-named.ensures in
-    let d = short-rest {xs = ascii " "} _ b s.put-spaced.ensures in
-    short-rest _ d (rw (byte-is (goal.at.put-requires c).After-value_byte) at f.put-filled.ensures)
+    let a = short-rest {xs = ascii " ("} _ c.requires.short c.put_all-opened.ensures in
+    let b = short-rest _ a c.put_name-named.ensures in
+    let d = short-rest {xs = ascii " "} _ b c.put-spaced.ensures in
+    short-rest _ d (rw (byte-is (goal.at.put-requires c).After-value_byte) at c.put-filled.ensures)
 
 pub returns : goal.returns
 unfolding port_piece pair_text
 returns c =
-    let closed = c in
-    let f = c in
-    let s = f in
-    let n = s in
-    appended_then n.put_all-opened.ensures
-    (appended_then n.put_name-named.ensures
-    (appended_then s.put-spaced.ensures (appended_then (rw (byte-is (goal.at.returns c).After-value_byte) at f.put-filled.ensures)
-    closed.put.ensures)))
+    appended_then c.put_all-opened.ensures
+    (appended_then c.put_name-named.ensures
+    (appended_then c.put-spaced.ensures (appended_then (rw (byte-is (goal.at.returns c).After-value_byte) at c.put-filled.ensures)
+    c.put.ensures)))

@@ -1,5 +1,4 @@
 -- `bench_set_line::show::put_show` meets its contract: its three parts, one after the other. Assumes nothing.
-use borrow.Author.Rules.{rules}
 use mathlib.Core.List.{◌++◌}
 use mathlib.Core.Path.{◌≡◌}
 use Rattle.prelude.specs.Lists.{ascii}
@@ -11,54 +10,35 @@ use Rattle.bench_set_line.proofs.show.put_show.Goals.{After-outputs_of-k}
 use Rattle.bench_set_line.proofs.show.put_show.Goals as goal
 
 -- the three parts, from the header that was read
-parts : (c : After-outputs_of-k) → let o = c in
-    let a = o.args in
+parts : (c : After-outputs_of-k) → let a = c.args in
     show_text a.words.now a.values.now
     ≡ ascii "(show"
-    ++ (pieces (port_piece a.words.now c.outputs_at-from.result a.values.now) c.outputs_of-k.result
-    ++ ascii ")\n")
-parts c =
-    let start = c in
-    let a = start.args in
-    show-of a.words.now a.values.now c.outputs_of-k.ensures c.outputs_at-from.ensures
+    ++ (pieces (port_piece a.words.now c.outputs_at-from.result a.values.now) c.outputs_of-k.result ++ ascii ")\n")
+parts c = show-of c.args.words.now c.args.values.now c.outputs_of-k.ensures c.outputs_at-from.ensures
 
-whole : (c : After-outputs_of-k) → let o = c in
-    let a = o.args in
+whole : (c : After-outputs_of-k) → let a = c.args in
     Short
     (ascii "(show"
-    ++ (pieces (port_piece a.words.now c.outputs_at-from.result a.values.now) c.outputs_of-k.result
-    ++ ascii ")\n")) 0
+    ++ (pieces (port_piece a.words.now c.outputs_at-from.result a.values.now) c.outputs_of-k.result ++ ascii ")\n")) 0
 whole c =
-    let s = c in
-    rw ((let parts_here : (let o = c in
-    let a = o.args in
-    show_text a.words.now a.values.now
-    ≡ ascii "(show"
-    ++ (pieces (port_piece a.words.now c.outputs_at-from.result a.values.now) c.outputs_of-k.result
-    ++ ascii ")\n")) = let start = c in
-    let a = start.args in
-    show-of a.words.now a.values.now c.outputs_of-k.ensures c.outputs_at-from.ensures in parts_here)) at (show-short s.args.words.now s.args.values.now s.requires)
+    rw (show-of c.args.words.now c.args.values.now c.outputs_of-k.ensures c.outputs_at-from.ensures)
+    at (show-short c.args.words.now c.args.values.now c.requires)
 
 pub put_ports-filled-requires : goal.put_ports-filled-requires
 put_ports-filled-requires c =
-    let o = c in
-    let h = o in
-    let s = c in record {
-      ports_of = record { whole = s.requires; start = h.outputs_at-from.ensures; many = h.outputs_of-k.ensures };
-      short = short-first _ (short-rest {xs = ascii "(show"} _ (whole (goal.at.put_ports-filled-requires c).After-outputs_of-k) o.put_all-opened.ensures);
+    let rest = short-rest {xs = ascii "(show"} _ (whole (goal.at.put_ports-filled-requires c).After-outputs_of-k)
+    c.put_all-opened.ensures in
+    record {
+      ports_of = record { whole = c.requires; start = c.outputs_at-from.ensures; many = c.outputs_of-k.ensures };
+      short = short-first _ rest;
     }
 
 pub put_all-requires : goal.put_all-requires
 put_all-requires c =
-    let p = c in
-    let o = c in
-    short-rest _ (short-rest {xs = ascii "(show"} _ (whole (goal.at.put_all-requires c).After-outputs_of-k) o.put_all-opened.ensures)
-    p.put_ports-filled.ensures
+    short-rest _ (short-rest {xs = ascii "(show"} _ (whole (goal.at.put_all-requires c).After-outputs_of-k)
+    c.put_all-opened.ensures) c.put_ports-filled.ensures
 
 pub returns : goal.returns
 returns c =
-    let closed = c in
-    let p = c in
-    let o = c in
     rw (parts (goal.at.returns c).After-outputs_of-k)
-    (appended_then o.put_all-opened.ensures (appended_then p.put_ports-filled.ensures closed.put_all.ensures))
+    (appended_then c.put_all-opened.ensures (appended_then c.put_ports-filled.ensures c.put_all.ensures))

@@ -1,39 +1,27 @@
 -- `graph_scc::closure::gate_target` meets its contract: a gate has four slots, and each is looked at.
-use Prim.Native.Nat.{ℕ, ◌+◌}
-use mathlib.Core.Path.{◌≡◌}
-use native.Mathlib.Omega.{arith}
+use Prim.Native.Nat.{ℕ, ◌<◌}
+use mathlib.Core.List.{List}
+use mathlib.Core.Bool.{Bool}
 use borrow.Author.Rules.{rules}
-use Rattle.graph_gates.specs.Places.{first_gate}
-use Rattle.graph_gates.specs.Graph.{place_at}
-use Rattle.graph_scc.specs.Closure.{Shut}
-use Rattle.graph_scc.proofs.Slots.{by-slot}
+use Rattle.std.specs.declared.option.Option.{Option}
+use Rattle.std.specs.declared.option.Option.TheVariants.{None, Some}
+use Rattle.std.specs.Option.{MatchOption}
+use Rattle.graph_gates.specs.Graph.{slots, Graph}
+use Rattle.graph_scc.specs.Closure.{SlotShut, OpenGate, GateTarget}
+use Rattle.graph_scc.proofs.Ranges.{find_map-of_range}
 use Rattle.graph_scc.proofs.Reaching.{none-by-slots}
 use Rattle.graph_scc.proofs.closure.gate_target.Goals as goal
 
-pub returns-then-t-m : goal.returns-then-t-m
-returns-then-t-m c =
-    record { found = c.slot_target-t.ensures.found; none = λ past. absurd (omega (arith, c.if-t-m.true)) }
-
-pub returns-then-t-m-2 : goal.returns-then-t-m-2
-returns-then-t-m-2 c =
-    record { found = c.slot_target-t-2.ensures.found; none = λ past. absurd (omega (arith, c.if-t-m-2.true)) }
-
-pub returns-then-t-m-3 : goal.returns-then-t-m-3
-returns-then-t-m-3 c =
-    record { found = c.slot_target-t-3.ensures.found; none = λ past. absurd (omega (arith, c.if-t-m-3.true)) }
+by-slots : (m : ℕ) (graph : List ℕ) → Graph m graph → (k : ℕ) → k < m → (back : Bool) (flags : List ℕ) (r : Option ℕ)
+    → MatchOption r ((s : ℕ) → s < slots → SlotShut graph back flags k s) (OpenGate m graph back flags)
+    → GateTarget m graph back flags k r
+by-slots m graph legal k kl back flags None shut = none-by-slots legal k kl back flags shut
+by-slots m graph legal k kl back flags (Some t) open' = open'
 
 pub returns : goal.returns
 returns c =
-    let third = c in
-    let second = third in
-    let first = second in
-    let s = first in
-    let a = s.args in
-    record {
-      found = c.slot_target.ensures.found;
-      none = λ past. none-by-slots s.requires.0 a.k s.requires.1 a.back a.flags.now
-          (by-slot (λ i. (j : ℕ) → place_at a.graph.now a.k i ≡ first_gate + j
-          → Shut a.back a.flags.now a.k j) (first.slot_target-t.ensures.none second.if-t-m.false)
-          (second.slot_target-t-2.ensures.none third.if-t-m-2.false)
-          (third.slot_target-t-3.ensures.none c.if-t-m-3.false) (c.slot_target.ensures.none past));
-    }
+    let a = c.args in
+    by-slots a.m a.graph.now c.requires.0 a.k c.requires.1 a.back a.flags.now c.find_map.result
+    (find_map-of_range c.find_map.result (SlotShut a.graph.now a.back a.flags.now a.k)
+    (OpenGate a.m a.graph.now a.back a.flags.now) slots c.find_map.ensures.runs (search rules) (λ x q k. search rules)
+    (λ x y q k. search rules))

@@ -1,31 +1,12 @@
 -- `graph_scc::closure::grow` meets its contract: each turn adds a gate, and at the end none can be added.
-use borrow.Author.Rules.{rules}
-use Rattle.graph_scc.specs.Closure.{Target, Growing, outside}
 use Rattle.graph_scc.proofs.Reaching.{growing-more, fewer, reached}
 use Rattle.graph_scc.proofs.closure.grow.Goals as goal
 
 pub loop-t-smaller : goal.loop-t-smaller
-loop-t-smaller c =
-    let test = c in
-    let turn = test in
-    let s = turn in
-    fewer s.requires.0.few turn.loop-t.invariant.growing test.loop-t-test.true
-    (turn.loop-t.invariant.target.found test.loop-t-test.true)
+loop-t-smaller c = fewer c.requires.0.few c.loop-t.invariant c.in-Some.ensures.below c.in-Some.ensures.adds
 
 pub loop-t-preserved : goal.loop-t-preserved
-loop-t-preserved c =
-    let test = c in
-    let turn = test in
-    let s = turn in
-    record {
-      growing =
-          growing-more s.requires.0.few turn.loop-t.invariant.growing test.loop-t-test.true
-          (turn.loop-t.invariant.target.found test.loop-t-test.true);
-      target = c.next_target-t-in-loop-t.ensures;
-    }
+loop-t-preserved c = growing-more c.requires.0.few c.loop-t.invariant c.in-Some.ensures.below c.in-Some.ensures.adds
 
 pub returns : goal.returns
-returns c =
-    let turn = c in
-    let s = turn in
-    reached s.requires.0 s.requires.1 turn.loop-t.invariant.growing turn.loop-t.invariant.target c.loop-t-test.false
+returns c = reached c.requires.0 c.requires.1 c.loop-t.invariant c.in_default.ensures

@@ -2,8 +2,7 @@
 use Prim.Native.Nat.{◌<◌}
 use native.Mathlib.Omega.{arith}
 use Rattle.graph_simulation.proofs.State.{legal-gate}
-use Rattle.graph_simulation.proofs.Updates.{one_kept, one-undefined, one-room, one-new}
-use borrow.Author.Rules.{rules}
+use Rattle.graph_simulation.proofs.Updates.{one-room, one-new}
 use Rattle.graph_simulation.proofs.changes.update.Goals.{Else-value-eq-UNDEFINED}
 use Rattle.graph_simulation.proofs.changes.update.Goals as goal
 
@@ -12,17 +11,8 @@ room c =
     one-room c.requires.1 c.args.j c.requires.2 c.gate_value-value.result
     c.if-found-j-ne-UNDEFINED.false c.if-value-eq-UNDEFINED.false
 
-pub returns-then-found-j-ne-UNDEFINED : goal.returns-then-found-j-ne-UNDEFINED
-returns-then-found-j-ne-UNDEFINED c = search one_kept
-
-pub gate_value-value-requires-clause-table_value : goal.gate_value-value-requires-clause-table_value
-gate_value-value-requires-clause-table_value c = search legal-gate
-
 pub gate_value-value-requires-clause-legal_gate : goal.gate_value-value-requires-clause-legal_gate
 gate_value-value-requires-clause-legal_gate c = search legal-gate
-
-pub returns-then-value-eq-UNDEFINED : goal.returns-then-value-eq-UNDEFINED
-returns-then-value-eq-UNDEFINED c = search one-undefined
 
 pub offset_bounds-queue-end : goal.offset_bounds-queue-end
 offset_bounds-queue-end c = omega (arith, room (goal.at.offset_bounds-queue-end c).Else-value-eq-UNDEFINED, c.requires.1.legal.few)

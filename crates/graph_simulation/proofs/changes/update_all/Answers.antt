@@ -1,8 +1,6 @@
 -- `graph_simulation::changes::update_all` meets its contract: after j turns the first j gates have their values.
-use Prim.Native.Nat.{◌-◌, ◌≤◌}
 use native.Mathlib.Omega.{arith}
-use Rattle.graph_simulation.specs.Changes.{Updated}
-use Rattle.graph_simulation.proofs.Updates.{DoneBelow, updated_none, updated-then, updated-ready, below_next}
+use Rattle.graph_simulation.proofs.Updates.{updated_none, updated-then, updated-ready, below_next}
 use Rattle.graph_simulation.proofs.changes.update_all.Goals as goal
 
 pub loop-j-init : goal.loop-j-init

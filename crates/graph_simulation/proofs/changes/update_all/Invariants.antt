@@ -1,8 +1,7 @@
 -- `graph_simulation::changes::update_all` meets its contract: after j turns the first j gates have their values.
-use Prim.Native.Nat.{◌-◌, ◌≤◌}
-use native.Mathlib.Omega.{arith}
+use Prim.Native.Nat.{◌≤◌}
 use Rattle.graph_simulation.specs.Changes.{Updated}
-use Rattle.graph_simulation.proofs.Updates.{DoneBelow, updated_none, updated-then, updated-ready, below_next}
+use Rattle.graph_simulation.proofs.Updates.{DoneBelow}
 use Rattle.graph_simulation.proofs.changes.update_all.Given as goal
 
 abbrev pub invariant-loop-j : goal.invariant-loop-j
@@ -12,6 +11,3 @@ invariant-loop-j l =
       updated : Updated l.m l.graph l.values l.initial.found l.initial.queue 0 l.found l.queue l.end;
       done_below : DoneBelow l.graph l.values l.found l.j;
     }
-
-abbrev pub decreases-loop-j : goal.decreases-loop-j
-decreases-loop-j l = l.m - l.j

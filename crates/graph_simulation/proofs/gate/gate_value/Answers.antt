@@ -12,7 +12,6 @@ use Rattle.words_layout.proofs.KindLaws.{kind-last}
 use Rattle.graph_gates.specs.Graph.{kind_at, count_at}
 use Rattle.graph_simulation.specs.State.{slot_value, gate_code}
 use Rattle.graph_simulation.proofs.GateTable.{table_at, gate-entry}
-use borrow.Author.Rules.{rules}
 use Rattle.graph_simulation.proofs.gate.gate_value.Goals as goal
 
 pub bounds-table-operation : goal.bounds-table-operation
@@ -57,6 +56,3 @@ returns c =
       o.operand_code-d.ensures.0,
     )
     (gate-entry kind vs k fits))
-
-pub overflow_cast-operation : goal.overflow_cast-operation
-overflow_cast-operation c = omega (arith, c.requires.legal_gate.0.small)

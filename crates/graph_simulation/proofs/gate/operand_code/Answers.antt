@@ -8,26 +8,13 @@ use Rattle.graph_gates.specs.Graph.{place_at}
 use Rattle.graph_simulation.specs.State.{slot_value}
 use Rattle.graph_simulation.proofs.Codes.{code_same}
 use Rattle.graph_simulation.proofs.GateTable.{operand-code-at, operand-code-past}
-use borrow.Author.Rules.{rules}
 use Rattle.graph_simulation.proofs.gate.operand_code.Goals as goal
-
-pub overflow_cast-place : goal.overflow_cast-place
-unfolding place_at
-overflow_cast-place c =
-    let start = c in
-    omega (arith, c.requires.0.inside start.args.i start.requires.2)
 
 pub bounds-values-place : goal.bounds-values-place
 unfolding place_at
 bounds-values-place c =
     let start = c in
     omega (arith, c.requires.0.inside start.args.i start.requires.2)
-
-pub overflow_cast-result : goal.overflow_cast-result
-overflow_cast-result c =
-    let s = c in
-    let a = s.args in
-    omega (arith, s.requires.1.most (get_or a.graph.now (5 * a.j + 1 + a.i) 0))
 
 pub returns-then-i-count : goal.returns-then-i-count
 unfolding slot_value place_at

@@ -3,9 +3,8 @@
 -- that count.
 use mathlib.Core.Path.{◌≡◌}
 use lib.ListN.{get_or}
-use Prim.Native.Nat.{ℕ, ◌+◌, ◌-◌, ◌<◌}
+use Prim.Native.Nat.{ℕ, ◌+◌, ◌<◌}
 use native.Mathlib.Omega.{arith}
-use borrow.Author.Rules.{rules}
 use Rattle.theory_fixpoint.proofs.Rounds.{rounds-le}
 use Rattle.graph_gates.specs.Graph.{network}
 use Rattle.graph_gates.proofs.Network.{network-count}
@@ -17,29 +16,16 @@ use Rattle.graph_simulation.proofs.round.settle_with.Goals as goal
 
 -- a round that changed something, so that the count before it is below the number of gates
 more : (d : After-next_round-end) → let a = d.args in
-    Rounding a.m a.graph.now a.values.now d.next_round-end.new.values
-    d.next_round-end.new.found
-    d.next_round-end.new.queue d.loop-head.tail d.next_round-end.result (d.loop-head.count + 1)
+    Rounding a.m a.graph.now a.values.now d.next_round-end.new.values d.next_round-end.new.found
+    d.next_round-end.new.queue d.loop-changed.changed.tail d.next_round-end.result (d.loop-changed.count + 1)
 more d =
-    let turn = d in
-    rounding-more _ d.requires.0.legal d.loop-head.invariant turn.loop-head-test.true
-    d.next_round-end.ensures
+    rounding-more _ d.requires.0.legal d.loop-changed.invariant d.loop-changed-test.true d.next_round-end.ensures
 
-below : (d : After-next_round-end) → d.loop-head.count < d.args.m
+below : (d : After-next_round-end) → d.loop-changed.count < d.args.m
 below d =
     let a = d.args in
     let b = network a.m a.graph.now in
-    omega (
-      arith,
-      ((let more_here : (let a = d.args in
-          Rounding a.m a.graph.now a.values.now d.next_round-end.new.values
-          d.next_round-end.new.found
-          d.next_round-end.new.queue d.loop-head.tail d.next_round-end.result (d.loop-head.count + 1)) = let turn = d in
-          rounding-more _ d.requires.0.legal d.loop-head.invariant turn.loop-head-test.true
-          d.next_round-end.ensures in more_here)).reached,
-      rounds-le b (inputs_in a.values.now),
-      network-count a.m a.graph.now,
-    )
+    omega (arith, (more d).reached, rounds-le b (inputs_in a.values.now), network-count a.m a.graph.now)
 
 pub update_all-tail-requires : goal.update_all-tail-requires
 update_all-tail-requires c =
@@ -50,8 +36,8 @@ update_all-tail-requires c =
       first-ready g _ s.requires.1 (λ j l. k.none j (omega (arith, g.few))) k.found_room k.queue_room,
     )
 
-pub loop-head-init : goal.loop-head-init
-loop-head-init c =
+pub loop-changed-init : goal.loop-changed-init
+loop-changed-init c =
     let s = c in
     let k = s.requires.2 in
     let g = s.requires.0.legal in
@@ -63,11 +49,11 @@ loop-head-init c =
 pub overflow_add-count : goal.overflow_add-count
 overflow_add-count c = omega (arith, below (goal.at.overflow_add-count c).After-next_round-end, c.requires.0.legal.few)
 
-pub loop-head-preserved : goal.loop-head-preserved
-loop-head-preserved c = more (goal.at.loop-head-preserved c).After-next_round-end
+pub loop-changed-preserved : goal.loop-changed-preserved
+loop-changed-preserved c = more (goal.at.loop-changed-preserved c).After-next_round-end
 
-pub loop-head-smaller : goal.loop-head-smaller
-loop-head-smaller c = omega (arith, below (goal.at.loop-head-smaller c).After-next_round-end)
+pub loop-changed-smaller : goal.loop-changed-smaller
+loop-changed-smaller c = omega (arith, below (goal.at.loop-changed-smaller c).After-next_round-end)
 
 pub returns : goal.returns
 returns c = search rounding-end

@@ -1,6 +1,5 @@
 -- `graph_simulation::values::put_constants` meets its contract.
 use Rattle.graph_simulation.proofs.Starts.{starting-none}
-use borrow.Author.Rules.{rules}
 use Rattle.graph_simulation.proofs.values.put_constants.Goals as goal
 
 pub returns : goal.returns

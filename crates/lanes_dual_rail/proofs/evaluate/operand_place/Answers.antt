@@ -5,10 +5,6 @@ use Rattle.graph_gates.specs.Graph.{place_at}
 use borrow.Author.Rules.{rules}
 use Rattle.lanes_dual_rail.proofs.evaluate.operand_place.Goals as goal
 
-pub overflow_cast-result : goal.overflow_cast-result
-unfolding place_at
-overflow_cast-result c = let s = c in omega (arith, s.requires.0.inside s.args.i s.requires.2)
-
 pub returns : goal.returns
 unfolding place_at
 returns c = let s = c in (refl, omega (arith, s.requires.0.inside s.args.i s.requires.2))

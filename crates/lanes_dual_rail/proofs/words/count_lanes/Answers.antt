@@ -4,8 +4,5 @@ use lib.Count.{ones-le}
 use Rattle.lanes_dual_rail.proofs.WordLaws.{ones-count}
 use Rattle.lanes_dual_rail.proofs.words.count_lanes.Goals as goal
 
-pub overflow_cast-result : goal.overflow_cast-result
-overflow_cast-result c = record { fits = omega (arith, ones-le 64 c.args.word c.ranges.word.fits) }
-
 pub returns : goal.returns
 returns c = ones-count 64 c.args.word c.ranges.word.fits

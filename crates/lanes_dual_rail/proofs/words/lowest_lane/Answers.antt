@@ -4,8 +4,5 @@ use lib.Count.{trailing_le}
 use Rattle.lanes_dual_rail.proofs.WordLaws.{trailing-least}
 use Rattle.lanes_dual_rail.proofs.words.lowest_lane.Goals as goal
 
-pub overflow_cast-result : goal.overflow_cast-result
-overflow_cast-result c = record { fits = omega (arith, trailing_le 64 c.args.word) }
-
 pub returns : goal.returns
 returns c = trailing-least c.args.word

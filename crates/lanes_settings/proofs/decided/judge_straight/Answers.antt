@@ -1,36 +1,28 @@
 -- `lanes_settings::decided::judge_straight` meets its contract.
 use mathlib.Core.Path.{refl}
-use borrow.Author.Rules.{rules}
 use Rattle.theory_encoding.proofs.Readers.{whole_parts}
 use Rattle.lanes_batch.proofs.Layering.{settled-decoded, straight-decoded}
 use Rattle.lanes_settings.proofs.decided.judge_straight.Goals as goal
 
 pub decide_straight-requires : goal.decide_straight-requires
 decide_straight-requires c =
-    let n = c in
-    let m = n in
-    let s = m in
-    let p = s.requires.0 in
-    let few = (whole_parts s.args.words.now p.whole).few_inputs in record {
+    let p = c.requires.0 in
+    let few = (whole_parts c.args.words.now p.whole).few_inputs in record {
       graph = (
-        rw m.gates_of-m.ensures p.decoded.legal,
-        rw m.gates_of-m.ensures (straight-decoded p.decoded p.straight),
+        rw c.gates_of-m.ensures p.decoded.legal,
+        rw c.gates_of-m.ensures (straight-decoded p.decoded p.straight),
       );
-      n_le_max_inputs = (rw n.inputs_of-n.ensures few, s.requires.1, s.requires.2);
+      n_le_max_inputs = (rw c.inputs_of-n.ensures few, c.requires.1);
     }
 
 pub returns : goal.returns
 returns c =
-    let n = c in
-    let m = n in
-    let s = m in
-    let p = s.requires.0 in
+    let p = c.requires.0 in
     record {
       whole = p.whole;
       settled =
-          settled-decoded p.decoded
-          (rw (m.gates_of-m.ensures, n.inputs_of-n.ensures) at c.decide_straight.ensures);
+          settled-decoded p.decoded (rw (c.gates_of-m.ensures, c.inputs_of-n.ensures) at c.decide_straight.ensures);
       inputs = refl;
-      few_inputs = (whole_parts s.args.words.now p.whole).few_inputs;
-      aligned = s.requires.1;
+      few_inputs = (whole_parts c.args.words.now p.whole).few_inputs;
+      aligned = c.requires.1;
     }

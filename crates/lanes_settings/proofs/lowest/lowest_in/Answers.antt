@@ -2,7 +2,6 @@
 use mathlib.Core.Path.{ap, ◌∙◌}
 use Prim.Native.Nat.{◌+◌, ◌^◌, ◌≤◌, ◌<◌}
 use native.Mathlib.Omega.{arith}
-use borrow.Author.Rules.{rules}
 use lib.ListN.{get_or}
 use Rattle.prelude.proofs.Least.{least-le}
 use Rattle.theory_encoding.proofs.Readers.{whole_parts}
@@ -16,41 +15,29 @@ few : (s : Start) → get_or s.args.words.now 0 0 ≤ 12
 few s = (whole_parts s.args.words.now s.requires.0).few_inputs
 
 -- there is such a batch
-inside : (c : Then-base-setting_count) → let s = c in s.args.base < 2 ^ get_or s.args.words.now 0 0
-inside c =
-    let k = c in omega (arith, rw k.inputs_of-n.ensures at k.setting_count.ensures, c.if-base-setting_count.true)
-
-pub unsound_lanes-requires : goal.unsound_lanes-requires
-unsound_lanes-requires c =
-    let k = c in
-    rw k.inputs_of-n.ensures (k.requires.1.judged (inside (goal.at.unsound_lanes-requires c).Then-base-setting_count))
+inside : (c : Then-base-setting_count) → c.args.base < 2 ^ get_or c.args.words.now 0 0
+inside c = omega (arith, rw c.inputs_of-n.ensures at c.setting_count.ensures, c.if-base-setting_count.true)
 
 pub overflow_add-result : goal.overflow_add-result
 overflow_add-result c =
-    let u = c in
-    let s = u in
     omega (
       arith,
       c.lowest_lane.ensures,
-      least-le (has_lane u.unsound_lanes.result) 64,
-      s.requires.1.within,
-      few-settings (get_or s.args.words.now 0 0) (few (goal.at.overflow_add-result c).Start),
+      least-le (has_lane c.unsound_lanes.result) 64,
+      c.requires.1.within,
+      few-settings (get_or c.args.words.now 0 0) (few (goal.at.overflow_add-result c).Start),
     )
 
 pub returns-then-base-setting_count : goal.returns-then-base-setting_count
 returns-then-base-setting_count c =
-    let u = c in
-    let k = u in
-    let s = k in
-    ap (λ k. s.args.base + k) c.lowest_lane.ensures
-    ∙ lowest-in-batch s.requires.1 (inside (goal.at.returns-then-base-setting_count c).Then-base-setting_count)
-    (rw k.inputs_of-n.ensures at u.unsound_lanes.ensures)
+    ap (λ k. c.args.base + k) c.lowest_lane.ensures
+    ∙ lowest-in-batch c.requires.1 (inside (goal.at.returns-then-base-setting_count c).Then-base-setting_count)
+    (rw c.inputs_of-n.ensures at c.unsound_lanes.ensures)
 
 pub returns : goal.returns
 returns c =
-    let k = c in
-    lowest-nowhere k.requires.1
-    (omega (arith, rw k.inputs_of-n.ensures at k.setting_count.ensures, c.if-base-setting_count.false))
+    lowest-nowhere c.requires.1
+    (omega (arith, rw c.inputs_of-n.ensures at c.setting_count.ensures, c.if-base-setting_count.false))
 
 pub setting_count-requires : goal.setting_count-requires
 setting_count-requires c = rw c.inputs_of-n.ensures (few (goal.at.setting_count-requires c).Start)

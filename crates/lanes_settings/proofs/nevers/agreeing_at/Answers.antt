@@ -1,5 +1,4 @@
 -- `lanes_settings::nevers::agreeing_at` meets its contract: an input that is not fixed, fixed at 1, fixed at 0.
-use borrow.Author.Rules.{rules}
 use Rattle.netlist.specs.Assignments.{bit, Assignment}
 use Rattle.lanes_settings.proofs.NeverLaws.{free-tells, one-tells, zero-tells}
 use Rattle.lanes_settings.proofs.nevers.agreeing_at.Goals.{Start}

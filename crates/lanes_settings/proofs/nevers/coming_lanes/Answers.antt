@@ -1,5 +1,4 @@
 -- `lanes_settings::nevers::coming_lanes` meets its contract.
-use borrow.Author.Rules.{rules}
 use Rattle.lanes_settings.proofs.NeverLaws.{coming-tells}
 use Rattle.lanes_settings.proofs.nevers.coming_lanes.Goals as goal
 

@@ -1,13 +1,10 @@
 -- `lanes_settings::nevers::excluded_lanes` meets its contract: after i turns the word tells the first i lines.
 use mathlib.Core.Path.{◌≡◌}
-use Prim.Native.Nat.{◌-◌, ◌≤◌}
+use Prim.Native.Nat.{◌≤◌}
 use native.Mathlib.Omega.{arith}
 use lib.ListN.{get_or}
-use borrow.Author.Rules.{rules}
 use Rattle.netlist.specs.StoredBlock.{nevers_at}
-use Rattle.lanes_dual_rail.specs.Batches.{lanes_of}
-use Rattle.lanes_dual_rail.specs.Words.{Tells}
-use Rattle.lanes_settings.proofs.NeverLaws.{line_at, excluded_by, lines_none, lines_more, lines-all}
+use Rattle.lanes_settings.proofs.NeverLaws.{line_at, lines_none, lines_more, lines-all}
 use Rattle.lanes_settings.proofs.nevers.excluded_lanes.Goals.{After-nevers_at-first}
 use Rattle.lanes_settings.proofs.nevers.excluded_lanes.Goals as goal
 
@@ -46,9 +43,6 @@ returns c =
 
 pub loop-i-init : goal.loop-i-init
 loop-i-init c = (omega arith, lines_none c.args.words.now)
-
-pub overflow_mul-i : goal.overflow_mul-i
-overflow_mul-i c = omega (arith, small (goal.at.overflow_mul-i c).After-nevers_at-first)
 
 pub overflow_add-first : goal.overflow_add-first
 overflow_add-first c = omega (arith, small (goal.at.overflow_add-first c).After-nevers_at-first)

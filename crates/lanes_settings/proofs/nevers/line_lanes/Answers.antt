@@ -1,5 +1,4 @@
 -- `lanes_settings::nevers::line_lanes` meets its contract.
-use borrow.Author.Rules.{rules}
 use Rattle.netlist.specs.StoredBlock.{never_at}
 use Rattle.lanes_settings.proofs.nevers.line_lanes.Goals as goal
 

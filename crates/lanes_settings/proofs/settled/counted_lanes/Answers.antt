@@ -1,6 +1,5 @@
 -- `lanes_settings::settled::counted_lanes` meets its contract.
 use Rattle.lanes_settings.proofs.SettledLaws.{counted-tells}
-use borrow.Author.Rules.{rules}
 use Rattle.lanes_settings.proofs.settled.counted_lanes.Goals as goal
 
 pub returns : goal.returns

@@ -1,6 +1,5 @@
 -- `lanes_settings::settled::sound_lanes` meets its contract.
 use Rattle.lanes_settings.proofs.SettledLaws.{sound-tells}
-use borrow.Author.Rules.{rules}
 use Rattle.lanes_settings.proofs.settled.sound_lanes.Goals as goal
 
 pub returns : goal.returns

@@ -1,5 +1,4 @@
 -- `lanes_settings::settled::undecided_lanes` meets its contract.
-use borrow.Author.Rules.{rules}
 use Rattle.lanes_settings.proofs.OutputLaws.{outputs-there, unsettled-tells}
 use Rattle.lanes_settings.proofs.settled.undecided_lanes.Goals as goal
 

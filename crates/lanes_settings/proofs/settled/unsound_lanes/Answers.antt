@@ -1,6 +1,5 @@
 -- `lanes_settings::settled::unsound_lanes` meets its contract.
 use Rattle.lanes_settings.proofs.SettledLaws.{unsound-tells}
-use borrow.Author.Rules.{rules}
 use Rattle.lanes_settings.proofs.settled.unsound_lanes.Goals as goal
 
 pub returns : goal.returns

@@ -1,7 +1,6 @@
 -- `op_cells::legal::are_legal` meets its contract: one law for each test.
 use mathlib.Core.Path.{sym, ◌∙◌}
 use native.Mathlib.Omega.{arith}
-use borrow.Author.Rules.{rules}
 use Rattle.netlist.specs.Cells.{cell_count}
 use Rattle.op_cells.proofs.Earlier.{many-inputs, many-cells, cut_off, all-earlier}
 use Rattle.op_cells.proofs.legal.are_legal.Goals as goal

@@ -1,5 +1,4 @@
 -- `op_cells::legal::check_cells` meets its contract.
-use borrow.Author.Rules.{rules}
 use Rattle.op_cells.proofs.legal.check_cells.Goals as goal
 
 pub returns : goal.returns

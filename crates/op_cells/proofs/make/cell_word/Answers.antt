@@ -1,6 +1,5 @@
 -- `op_cells::make::cell_word` meets its contract: one law for each kind of word.
 use mathlib.Core.Path.{sym}
-use borrow.Author.Rules.{rules}
 use native.Mathlib.Omega.{arith}
 use Rattle.op_cells.proofs.Made.{at-truth, at-operand, at-absent}
 use Rattle.op_cells.proofs.make.cell_word.Goals as goal

@@ -1,6 +1,5 @@
 -- `op_cells::make::put_cell` meets its contract: five stores, each of the cell's word there.
 use native.Mathlib.Omega.{arith}
-use borrow.Author.Rules.{rules}
 use lib.ListN.{length-set}
 use Rattle.op_cells.specs.Made.{cell_put}
 use Rattle.op_cells.proofs.make.put_cell.Goals as goal

@@ -1,11 +1,10 @@
 -- `op_cells::run::run_each` meets its contract: it fills the slice cell by cell, each from the values already there.
 use mathlib.Core.Path.{◌≡◌, sym}
-use Prim.Native.Nat.{◌≤◌, ◌-◌}
 use native.Mathlib.Omega.{arith}
 use lib.Seq.{length-take-le}
-use Rattle.prelude.proofs.Filling.{Filling, filling-none, filling-more}
+use Rattle.prelude.proofs.Filling.{filling-none, filling-more}
 use Rattle.netlist.specs.Cells.{cell_count}
-use Rattle.op_cells.proofs.Running.{ran, ran-none, ran-more, ran-all, found-bits}
+use Rattle.op_cells.proofs.Running.{ran-none, ran-more, ran-all, found-bits}
 use Rattle.op_cells.proofs.run.run_each.Goals as goal
 
 pub loop-j-init : goal.loop-j-init

@@ -1,5 +1,4 @@
 -- `op_cells::truth::truth_word` meets its contract: the table is read at the first word.
-use borrow.Author.Rules.{rules}
 use native.Mathlib.Omega.{arith}
 use Rattle.op_cells.proofs.TruthWords.{head-low, truth-entry}
 use Rattle.op_cells.proofs.truth.truth_word.Goals as goal

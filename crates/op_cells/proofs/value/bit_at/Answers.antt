@@ -1,5 +1,4 @@
 -- `op_cells::value::bit_at` meets its contract: it reads the operand's word.
-use borrow.Author.Rules.{rules}
 use Rattle.op_cells.proofs.value.bit_at.Goals as goal
 
 pub returns : goal.returns

@@ -1,6 +1,5 @@
 -- `op_cells::value::operand_bit` meets its contract: one law for each thing that a word can be.
 use mathlib.Core.Path.{sym, ◌∙◌}
-use borrow.Author.Rules.{rules}
 use native.Mathlib.Omega.{arith}
 use Rattle.op_cells.proofs.Running.{input-bit, zero_bit, one_bit, cell-bit}
 use Rattle.op_cells.proofs.value.operand_bit.Goals as goal

@@ -13,6 +13,3 @@ use Rattle.op_compare.proofs.interface.are_same.Given as goal
 abbrev pub invariant-loop-i : goal.invariant-loop-i
 invariant-loop-i l =
     (l.i ≤ l.count) × (all (same_name_at l.ours l.at l.theirs l.other l.size) (up_to l.i) ≡ true)
-
-abbrev pub decreases-loop-i : goal.decreases-loop-i
-decreases-loop-i l = l.count - l.i

@@ -1,19 +1,13 @@
 -- `op_compare::settings::search_settings` meets its contract: no setting of a batch passed disagrees.
-use mathlib.Core.Path.{◌≡◌}
-use mathlib.Core.Bool.{false}
-use mathlib.Core.List.{List}
-use Prim.Native.Nat.{ℕ, ◌-◌, ◌+◌, ◌≤◌, ◌<◌}
+use Prim.Native.Nat.{◌+◌, ◌≤◌}
 use native.Mathlib.Omega.{arith}
-use borrow.Author.Rules.{rules}
-use lib.ListN.{length, get_or}
+use lib.ListN.{get_or}
 use Rattle.prelude.proofs.Least.{least-le}
 use Rattle.netlist.specs.Limits.{max_inputs}
 use Rattle.netlist.specs.StoredBlock.{decode}
-use Rattle.netlist.specs.Compare.{disagrees}
 use Rattle.theory_encoding.proofs.Readers.{whole_parts}
 use Rattle.lanes_dual_rail.proofs.InputLaws.{lanes_of-most}
 use Rattle.lanes_dual_rail.specs.Words.{has_lane}
-use Rattle.lanes_dual_rail.specs.LaneWords.{lane_size}
 use Rattle.lanes_settings.proofs.Counting.{few-settings}
 use Rattle.lanes_settings.proofs.Batching.{Place, place-first, place-next, lanes_of-some}
 use Rattle.op_compare.specs.Ready.{BothJudged}
@@ -26,7 +20,7 @@ use Rattle.op_compare.proofs.settings.search_settings.Goals as goal
 few : (l : At-loop-base) → l.inputs_of-n.result ≤ max_inputs
 few l =
     let s = l in
-    omega (arith, l.inputs_of-n.ensures, (whole_parts s.args.ours.now s.requires.compare_ready.plan.whole).few_inputs)
+    omega (arith, l.inputs_of-n.ensures, (whole_parts s.args.ours.now s.requires.plan.whole).few_inputs)
 
 next : (d : After-judge_batch) → let l = d in
     Place l.inputs_of-n.result (l.loop-base.base + l.lane_count-batch.result)
@@ -42,58 +36,39 @@ both : (d : After-judge_straight) → let l = d in let a = l.args in
 both d =
     let s = d in
     record {
-      pair = s.requires.compare_ready.pair;
+      pair = s.requires.pair;
       our-values = d.judge_batch.ensures;
-      their-values = rw (← s.requires.compare_ready.pair.inputs) d.judge_straight.ensures;
+      their-values = rw (← s.requires.pair.inputs) d.judge_straight.ensures;
     }
 
 pub setting_count-count-requires : goal.setting_count-count-requires
 setting_count-count-requires c =
     let s = c in
-    omega (arith, c.inputs_of-n.ensures, (whole_parts s.args.ours.now s.requires.compare_ready.plan.whole).few_inputs)
+    omega (arith, c.inputs_of-n.ensures, (whole_parts s.args.ours.now s.requires.plan.whole).few_inputs)
 
 pub loop-base-init : goal.loop-base-init
 loop-base-init c =
-    let s = c in
-    record {
-      place = place-first _;
-      none = λ i l. absurd (omega arith);
-      our_long = s.requires.lanes_len.0;
-      their_long = s.requires.lanes_len.1;
-    }
+    record { place = place-first _; none = λ i l. absurd (omega arith) }
 
 pub judge_batch-requires : goal.judge_batch-requires
-judge_batch-requires c =
-    let t = c in
-    let l = t in
-    let i = l.loop-base.invariant in (
-      l.requires.compare_ready.plan,
-      i.place.aligned (omega (arith, l.setting_count-count.ensures, t.loop-base-test.true)),
-      i.our_long,
-    )
+judge_batch-requires c = (
+  c.requires.plan,
+  c.loop-base.invariant.place.aligned (omega (arith, c.setting_count-count.ensures, c.loop-base-test.true)),
+)
 
 pub judge_straight-requires : goal.judge_straight-requires
-judge_straight-requires c =
-    let d = c in
-    let l = d in
-    (l.requires.compare_ready.their_plan, d.judge_batch.ensures.aligned, l.loop-base.invariant.their_long)
+judge_straight-requires c = (c.requires.their_plan, c.judge_batch.ensures.aligned)
 
 pub lowest_differing-o-requires : goal.lowest_differing-o-requires
 lowest_differing-o-requires c =
-    let f = c in
-    let d = f in
-    let l = d in
-    let n = get_or l.args.ours.now 0 0 in
-    let low = marked-lowest n d.disagreeing_lanes-word.ensures f.if-word-ne0.true in (
-      l.requires.compare_ready.pair,
-      l.inputs_of-n.ensures,
-      omega (arith, f.lowest_lane-lane.ensures, low.0, lanes_of-most n),
-    )
+    let n = get_or c.args.ours.now 0 0 in
+    let low = marked-lowest n c.disagreeing_lanes-word.ensures c.if-word-ne0.true in
+    omega (arith, c.lowest_lane-lane.ensures, low.0, lanes_of-most n)
 
 pub overflow_add-result : goal.overflow_add-result
 overflow_add-result c =
     let l = c in
-    omega (arith, lowest-few _ l.requires.compare_ready.plan.whole _ c.lowest_differing-o.ensures)
+    omega (arith, lowest-few _ l.requires.plan.whole _ c.lowest_differing-o.ensures)
 
 pub overflow_add-result-then-word-ne0 : goal.overflow_add-result-then-word-ne0
 overflow_add-result-then-word-ne0 c =
@@ -144,8 +119,6 @@ loop-base-preserved c =
       none =
           search-passed (both (goal.at.loop-base-preserved c).After-judge_straight) d.disagreeing_lanes-word.ensures l.inputs_of-n.ensures l.loop-base.invariant.none
           l.lane_count-batch.ensures c.if-word-ne0.false;
-      our_long = j.judge_batch.ensures.settled.filled.long;
-      their_long = j.judge_straight.ensures.settled.filled.long;
     }
 
 pub returns : goal.returns

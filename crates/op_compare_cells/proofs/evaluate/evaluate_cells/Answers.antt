@@ -13,15 +13,15 @@ pub loop-j-init : goal.loop-j-init
 loop-j-init c = (omega arith, c.put_inputs.ensures.ready _)
 
 pub overflow_cast-count : goal.overflow_cast-count
-overflow_cast-count c = let s = c in omega (arith, s.requires.n_le_max_inputs.2.few)
+overflow_cast-count c = let s = c in omega (arith, s.requires.2.few)
 
 pub cell_word_at-requires : goal.cell_word_at-requires
 cell_word_at-requires c =
     let turn = c in
     let s = turn in
-    let few = s.requires.n_le_max_inputs.2.few in (
+    let few = s.requires.2.few in (
       omega arith,
-      places-there s.args.n s.args.base s.args.table.now s.requires.n_le_max_inputs.2 turn.loop-j.j
+      places-there s.args.n s.args.base s.args.table.now s.requires.2 turn.loop-j.j
           c.loop-j-test.true,
     )
 
@@ -32,7 +32,7 @@ loop-j-preserved c =
     let s = turn in
     let inputs = turn in (
       omega arith,
-      evaluated-more s.args.n s.args.base s.args.table.now s.requires.n_le_max_inputs.2 turn.loop-j.j
+      evaluated-more s.args.n s.args.base s.args.table.now s.requires.2 turn.loop-j.j
           test.loop-j-test.true
           turn.loop-j.invariant.1 inputs.used_lanes-used.ensures c.cell_word_at.ensures,
     )

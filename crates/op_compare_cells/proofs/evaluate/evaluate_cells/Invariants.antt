@@ -11,6 +11,3 @@ use Rattle.op_compare_cells.proofs.evaluate.evaluate_cells.Given as goal
 
 abbrev pub invariant-loop-j : goal.invariant-loop-j
 invariant-loop-j l = (l.j ≤ count_in l.table) × Evaluated l.n l.base (table_cells l.table) l.j l.nodes
-
-abbrev pub decreases-loop-j : goal.decreases-loop-j
-decreases-loop-j l = count_in l.table - l.j

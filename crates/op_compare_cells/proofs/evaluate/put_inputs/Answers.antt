@@ -10,8 +10,7 @@ use Rattle.op_compare_cells.proofs.evaluate.put_inputs.Goals as goal
 
 pub loop-i-init : goal.loop-i-init
 loop-i-init c =
-    let s = c in
-    (omega arith, filled-first s.args.n s.args.base s.args.nodes.now s.requires.2 c.used_lanes.ensures)
+    (omega arith, filled-first c.args.n c.args.base c.args.nodes.now (omega arith) c.used_lanes.ensures)
 
 pub loop-i-preserved : goal.loop-i-preserved
 loop-i-preserved c =

@@ -10,6 +10,3 @@ use Rattle.op_compare_cells.proofs.evaluate.put_inputs.Given as goal
 
 abbrev pub invariant-loop-i : goal.invariant-loop-i
 invariant-loop-i l = (l.i ≤ max_inputs) × Filled l.n l.base l.i l.nodes
-
-abbrev pub decreases-loop-i : goal.decreases-loop-i
-decreases-loop-i l = max_inputs - l.i

@@ -11,6 +11,3 @@ use Rattle.op_compare_cells.proofs.miter.any_differing.Given as goal
 abbrev pub invariant-loop-o : goal.invariant-loop-o
 invariant-loop-o l =
     (l.o ≤ l.count) × (l.differing ≡ differing_words l.words l.shown l.lanes l.nodes l.o)
-
-abbrev pub decreases-loop-o : goal.decreases-loop-o
-decreases-loop-o l = l.count - l.o

@@ -10,8 +10,6 @@ use Rattle.prelude.specs.Lists.{least}
 use Rattle.prelude.proofs.Least.{least-le}
 use Rattle.netlist.specs.Limits.{max_inputs}
 use Rattle.theory_encoding.proofs.Readers.{whole_parts}
-use Rattle.graph_gates.specs.Places.{place_count}
-use Rattle.lanes_dual_rail.specs.LaneWords.{lane_size}
 use Rattle.lanes_dual_rail.specs.Words.{has_lane}
 use Rattle.lanes_settings.proofs.Counting.{few-settings}
 use Rattle.lanes_settings.proofs.Batching.{Place, place-first, place-next, lanes_of-some}
@@ -25,7 +23,7 @@ use Rattle.op_compare_cells.proofs.settings.search_settings.Goals as goal
 few : (l : At-loop-base) → l.inputs_of-n.result ≤ max_inputs
 few l =
     let s = l in
-    omega (arith, l.inputs_of-n.ensures, (whole_parts s.args.words.now s.requires.planned.0.whole).few_inputs)
+    omega (arith, l.inputs_of-n.ensures, (whole_parts s.args.words.now s.requires.0.whole).few_inputs)
 
 next : (d : After-disagreeing_lanes-word) → let l = d in
     Place l.inputs_of-n.result (l.loop-base.base + l.lane_count-batch.result)
@@ -55,46 +53,42 @@ differing c =
 pub setting_count-count-requires : goal.setting_count-count-requires
 setting_count-count-requires c =
     let s = c in
-    omega (arith, c.inputs_of-n.ensures, (whole_parts s.args.words.now s.requires.planned.0.whole).few_inputs)
+    omega (arith, c.inputs_of-n.ensures, (whole_parts s.args.words.now s.requires.0.whole).few_inputs)
 
 pub loop-base-init : goal.loop-base-init
 loop-base-init c =
-    let s = c in
-    record { place = place-first _; agreed = agreed-none _ _ _; lanes_long = s.requires.lanes_len.0; nodes_long = s.requires.lanes_len.1 }
+    record { place = place-first _; agreed = agreed-none _ _ _ }
 
 pub judge_batch-requires : goal.judge_batch-requires
 judge_batch-requires c =
     let t = c in
     let l = t in
-    (l.requires.planned.0, aligned (goal.at.judge_batch-requires c).In-loop-base, l.loop-base.invariant.lanes_long)
+    (l.requires.0, aligned (goal.at.judge_batch-requires c).In-loop-base)
 
 pub evaluate_cells-requires : goal.evaluate_cells-requires
 evaluate_cells-requires c =
     let t = c in
     let l = t in
-    record {
-      n_le_max_inputs = (few (goal.at.evaluate_cells-requires c).At-loop-base, aligned (goal.at.evaluate_cells-requires c).In-loop-base, l.requires.planned.1.places);
-      nodes_len = l.loop-base.invariant.nodes_long;
-    }
+    (few (goal.at.evaluate_cells-requires c).At-loop-base, aligned (goal.at.evaluate_cells-requires c).In-loop-base, l.requires.1.places)
 
 pub disagreeing_lanes-word-requires : goal.disagreeing_lanes-word-requires
 disagreeing_lanes-word-requires c =
     let b = c in
     let l = b in
-    (l.requires.planned.1.list, b.judge_batch.ensures)
+    (l.requires.1.list, b.judge_batch.ensures)
 
 pub lowest_differing-o-requires : goal.lowest_differing-o-requires
 lowest_differing-o-requires c =
     let low = c in
     let d = low in
-    (d.requires.planned.1.list, omega (arith, low.lowest_lane-lane.ensures, lane-small (goal.at.lowest_differing-o-requires c).After-lowest_lane-lane))
+    (d.requires.1.list, omega (arith, low.lowest_lane-lane.ensures, lane-small (goal.at.lowest_differing-o-requires c).After-lowest_lane-lane))
 
 pub overflow_add-result : goal.overflow_add-result
 overflow_add-result c =
     let d = c in
     let s = d in
     let words = s.args.words.now in
-    let few = (whole_parts words s.requires.planned.0.whole).few_outputs in
+    let few = (whole_parts words s.requires.0.whole).few_outputs in
     omega (arith, c.lowest_differing-o.ensures, least-le (differing (goal.at.overflow_add-result c).After-lowest_differing-o) (get_or words 2 0), few)
 
 pub overflow_add-result-then-word-ne0 : goal.overflow_add-result-then-word-ne0
@@ -110,7 +104,7 @@ returns-then-word-ne0 c =
     let d = low in
     let e = d in
     let l = d in
-    found_here l.requires.planned.1 l.inputs_of-n.ensures e.evaluate_cells.ensures
+    found_here l.requires.1 l.inputs_of-n.ensures e.evaluate_cells.ensures
     d.disagreeing_lanes-word.ensures l.loop-base.invariant.agreed e.judge_batch.ensures low.if-word-ne0.true
     l.setting_count-count.ensures l.loop-base.invariant.place d.loop-base-test.true
     low.lowest_lane-lane.ensures c.lowest_differing-o.ensures
@@ -134,10 +128,8 @@ loop-base-preserved c =
     record {
       place = next (goal.at.loop-base-preserved c).After-disagreeing_lanes-word;
       agreed =
-          agreed-more l.requires.planned.1 l.inputs_of-n.ensures e.evaluate_cells.ensures
+          agreed-more l.requires.1 l.inputs_of-n.ensures e.evaluate_cells.ensures
           d.disagreeing_lanes-word.ensures l.loop-base.invariant.agreed l.lane_count-batch.ensures c.if-word-ne0.false;
-      lanes_long = e.judge_batch.ensures.settled.filled.long;
-      nodes_long = e.evaluate_cells.ensures.long;
     }
 
 pub returns : goal.returns

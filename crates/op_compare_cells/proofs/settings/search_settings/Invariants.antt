@@ -10,8 +10,6 @@ use Rattle.prelude.specs.Lists.{least}
 use Rattle.prelude.proofs.Least.{least-le}
 use Rattle.netlist.specs.Limits.{max_inputs}
 use Rattle.theory_encoding.proofs.Readers.{whole_parts}
-use Rattle.graph_gates.specs.Places.{place_count}
-use Rattle.lanes_dual_rail.specs.LaneWords.{lane_size}
 use Rattle.lanes_dual_rail.specs.Words.{has_lane}
 use Rattle.lanes_settings.proofs.Counting.{few-settings}
 use Rattle.lanes_settings.proofs.Batching.{Place, place-first, place-next, lanes_of-some}
@@ -21,15 +19,12 @@ use Rattle.op_compare_cells.proofs.Searching.{marked-below, agreed-none, agreed-
 use Rattle.op_compare_cells.proofs.settings.search_settings.Given as goal
 
 -- block and cells agree under the settings before `base`
-pub record Agreeing (words shown table : List ℕ) (n base : ℕ) (lanes nodes : List ℕ) : Type 0 where
+pub record Agreeing (words shown table : List ℕ) (n base : ℕ) : Type 0 where
   pub place : Place n base
   pub agreed : Agreed words shown table base
-  pub lanes_long : length lanes ≡ lane_size
-  pub nodes_long : length nodes ≡ place_count
 
 abbrev pub invariant-loop-base : goal.invariant-loop-base
-invariant-loop-base l =
-    Agreeing l.words l.shown l.table l.n l.base l.lanes l.nodes
+invariant-loop-base l = Agreeing l.words l.shown l.table l.n l.base
 
 abbrev pub decreases-loop-base : goal.decreases-loop-base
 decreases-loop-base l = l.count - l.base

@@ -11,12 +11,11 @@ use Rattle.op_compare_cells.proofs.table.decode_cells.Goals.{At-loop-p}
 use Rattle.op_compare_cells.proofs.table.decode_cells.Goals as goal
 
 legal : (c : At-loop-p) → let a = c.args in LegalParts a.n a.cells.now
-legal c = let s = c in legal-parts s.args.n s.args.cells.now s.requires.0
+legal c = legal-parts c.args.n c.args.cells.now c.requires
 
 pub loop-p-init : goal.loop-p-init
 loop-p-init c =
-    let s = c in
-    (omega arith, tabled-none (legal-parts s.args.n s.args.cells.now s.requires.0) s.requires.1)
+    (omega arith, tabled-none (legal-parts c.args.n c.args.cells.now c.requires) (omega arith))
 
 pub offset_bounds-table-p : goal.offset_bounds-table-p
 offset_bounds-table-p c = let few = legal (goal.at.offset_bounds-table-p c).At-loop-p in omega arith

@@ -11,6 +11,3 @@ use Rattle.op_compare_cells.proofs.table.decode_cells.Given as goal
 
 abbrev pub invariant-loop-p : goal.invariant-loop-p
 invariant-loop-p l = (l.p ≤ length l.cells) × Tabled l.n l.cells l.p l.table
-
-abbrev pub decreases-loop-p : goal.decreases-loop-p
-decreases-loop-p l = length l.cells - l.p

@@ -4,7 +4,6 @@ use native.Mathlib.Omega.{arith}
 use lib.ListN.{get_or}
 use Rattle.netlist.specs.Limits.{max_inputs}
 use Rattle.op_cover.proofs.Rows.{number-below, left_is}
-use borrow.Author.Rules.{rules}
 use Rattle.op_cover.proofs.entries.is_left.Goals.{Start}
 use Rattle.op_cover.proofs.entries.is_left.Goals as goal
 

@@ -1,15 +1,7 @@
 -- `entries::list_entries` meets its contract: each turn lists a row; where all entries are counted, their words are
 -- there.
-use Prim.Native.Nat.{◌-◌, ◌*◌, ◌^◌, ◌≤◌, ◌<◌}
-use mathlib.Core.Path.{ap, ◌∙◌}
-use native.Mathlib.Omega.{arith}
-use mathlib.Core.List.{List}
-use Rattle.prelude.specs.Lists.{placed}
-use Rattle.netlist.specs.Assignments.{Assignment}
-use Rattle.theory_cover.specs.Over.{assignment_words}
+use Prim.Native.Nat.{◌-◌, ◌*◌, ◌^◌, ◌≤◌}
 use Rattle.theory_cover.specs.Entries.{EntriesReached, Words}
-use Rattle.op_cover.proofs.Bounds.{two_fits}
-use Rattle.op_cover.proofs.Listing.{reached-first, words-first, all-reached, row-left}
 use Rattle.op_cover.proofs.entries.list_entries.Given as goal
 
 abbrev pub invariant-loop-count : goal.invariant-loop-count

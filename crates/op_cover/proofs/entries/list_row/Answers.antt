@@ -1,19 +1,15 @@
 -- `entries::list_row` meets its contract: the words of the entries among the pairs passed stand in front (`Words`), and
 -- there is room for the next, since there is room for all.
-use Prim.Native.Nat.{ℕ, ◌+◌, ◌-◌, ◌*◌, ◌^◌, ◌≤◌, ◌<◌}
+use Prim.Native.Nat.{◌+◌, ◌*◌, ◌^◌, ◌≤◌, ◌<◌}
 use mathlib.Core.Path.{◌≡◌, refl, sym, ◌∙◌}
-use mathlib.Core.List.{List}
-use mathlib.Core.Logic.{⊎_elim}
 use native.Mathlib.Nat.{add-zero}
 use native.Mathlib.Omega.{arith}
 use lib.Arith.{digits_div, digits_mod}
 use lib.ListN.{length, length-set}
 use Rattle.netlist.specs.Limits.{max_inputs}
-use Rattle.theory_cover.specs.Entries.{EntriesReached, Words}
 use Rattle.op_cover.proofs.Bounds.{two_fits, shifted}
 use Rattle.op_cover.proofs.Rows.{row_below, row-end}
 use Rattle.op_cover.proofs.Listing.{reached-skip, reached-add, one_more, words-skip, words-add}
-use borrow.Author.Rules.{rules}
 use Rattle.op_cover.proofs.entries.list_row.Goals.{Then-is_left}
 use Rattle.op_cover.proofs.entries.list_row.Goals.{then-is_left, else-is_left}
 use Rattle.op_cover.proofs.entries.list_row.Goals as goal
@@ -21,12 +17,13 @@ use Rattle.op_cover.proofs.entries.list_row.Goals as goal
 below : (c : Then-is_left) → c.loop-ones.ones < 2 ^ c.args.n
 below c = omega (arith, c.loop-ones.invariant.ends, c.loop-ones-test.true)
 
-room : (c : Then-is_left)
-    → 2 * c.loop-ones.count + 2 ≤ length c.args.out.now
+room : (c : Then-is_left) → 2 * c.loop-ones.count + 2 ≤ length c.args.out.now
 room c =
-    let inv = c.loop-ones.invariant.reached in
-    let p = row_below inv c.requires.row.0.legal ((let below_here : (c.loop-ones.ones < 2 ^ c.args.n) = omega (arith, c.loop-ones.invariant.ends, c.loop-ones-test.true) in below_here)) in
-    omega (arith, one_more inv p.below (sym c.is_left.ensures ∙ c.if-is_left.true), c.requires.n_in_bounds)
+    let inv = c.loop-ones.invariant in
+    let l : c.loop-ones.ones < 2 ^ c.args.n = omega (arith, inv.ends, c.loop-ones-test.true) in
+    let row = row_below inv.reached c.requires.row.0.legal l in
+    let left = sym c.is_left.ensures ∙ c.if-is_left.true in
+    omega (arith, one_more inv.reached row.below left, c.requires.n_in_bounds)
 
 small : (c : Then-is_left) → 2 ^ c.args.n ≤ 2 ^ max_inputs
 small c = two_fits {i = c.args.n} {n = c.args.n} (omega arith) c.requires.row.0.weighed.few
@@ -50,10 +47,14 @@ is_left-requires c =
     (start.requires.row.0, l, row_below c.loop-ones.invariant.reached start.requires.row.0.legal l)
 
 pub bounds-out-count : goal.bounds-out-count
-bounds-out-count c = omega (arith, room (goal.at.bounds-out-count c).Then-is_left, c.loop-ones.invariant.same_length)
+bounds-out-count c =
+    let left = (goal.at.bounds-out-count c).Then-is_left in
+    omega (arith, room left, c.loop-ones.invariant.same_length)
 
 pub bounds-out-count-then-is_left : goal.bounds-out-count-then-is_left
-bounds-out-count-then-is_left c = simp length-set (omega (arith, room (goal.at.bounds-out-count-then-is_left c).Then-is_left, c.loop-ones.invariant.same_length))
+bounds-out-count-then-is_left c =
+    let left = (goal.at.bounds-out-count-then-is_left c).Then-is_left in
+    simp length-set (omega (arith, room left, c.loop-ones.invariant.same_length))
 
 pub next_ones-ones-requires : goal.next_ones-ones-requires
 next_ones-ones-requires c =
@@ -120,16 +121,20 @@ pub offset_bounds-out-count : goal.offset_bounds-out-count
 offset_bounds-out-count c = omega (arith, room (goal.at.offset_bounds-out-count c).Then-is_left, c.well_formed)
 
 pub overflow_cast-out-then-is_left : goal.overflow_cast-out-then-is_left
-overflow_cast-out-then-is_left c = omega (arith, small (goal.at.overflow_cast-out-then-is_left c).Then-is_left, below (goal.at.overflow_cast-out-then-is_left c).Then-is_left)
+overflow_cast-out-then-is_left c =
+    let left = (goal.at.overflow_cast-out-then-is_left c).Then-is_left in
+    omega (arith, small left, below left)
 
 pub overflow_mul-out-then-is_left : goal.overflow_mul-out-then-is_left
-overflow_mul-out-then-is_left c = omega (arith, room (goal.at.overflow_mul-out-then-is_left c).Then-is_left, c.well_formed)
+overflow_mul-out-then-is_left c =
+    omega (arith, room (goal.at.overflow_mul-out-then-is_left c).Then-is_left, c.well_formed)
 
 pub overflow_add-out : goal.overflow_add-out
 overflow_add-out c = omega (arith, room (goal.at.overflow_add-out c).Then-is_left, c.well_formed)
 
 pub offset_bounds-out-count-then-is_left : goal.offset_bounds-out-count-then-is_left
-offset_bounds-out-count-then-is_left c = omega (arith, room (goal.at.offset_bounds-out-count-then-is_left c).Then-is_left, c.well_formed)
+offset_bounds-out-count-then-is_left c =
+    omega (arith, room (goal.at.offset_bounds-out-count-then-is_left c).Then-is_left, c.well_formed)
 
 pub overflow_add-count : goal.overflow_add-count
 overflow_add-count c = omega (arith, room (goal.at.overflow_add-count c).Then-is_left, c.well_formed)

@@ -7,7 +7,6 @@ use Rattle.netlist.specs.Limits.{max_inputs}
 use Rattle.theory_cover.specs.Tables.{weight_of}
 use Rattle.op_cover.proofs.Bounds.{three-fits}
 use Rattle.op_cover.proofs.Rows.{row_fits}
-use borrow.Author.Rules.{rules}
 use Rattle.op_cover.proofs.entries.row_base.Goals.{Start}
 use Rattle.op_cover.proofs.entries.row_base.Goals as goal
 

@@ -6,7 +6,6 @@ use Rattle.netlist.specs.Limits.{max_inputs}
 use Rattle.theory_cover.specs.Entries.{entries_by}
 use Rattle.op_cover.proofs.Bounds.{pairs-fit}
 use Rattle.op_cover.proofs.Listing.{entries-few, with-room, without-room}
-use borrow.Author.Rules.{rules}
 use Rattle.op_cover.proofs.entries.write_entries.Goals as goal
 
 pub overflow_mul-total : goal.overflow_mul-total

@@ -1,6 +1,5 @@
 -- `everywhere::write_nothing` meets its contract: one law for each of its two answers.
 use Rattle.op_cover.proofs.Listing.{nothing_written, nothing-kept}
-use borrow.Author.Rules.{rules}
 use Rattle.op_cover.proofs.everywhere.write_nothing.Goals as goal
 
 pub returns-then-out-ge2 : goal.returns-then-out-ge2

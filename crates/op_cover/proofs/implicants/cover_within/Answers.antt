@@ -3,7 +3,6 @@ use native.Mathlib.Omega.{arith}
 use Rattle.op_cover.proofs.Dropping.{minimal-counted}
 use Rattle.op_cover.proofs.Joining.{filled-all}
 use Rattle.op_cover.proofs.TableCover.{cover-written}
-use borrow.Author.Rules.{rules}
 use Rattle.op_cover.proofs.implicants.cover_within.Goals as goal
 
 pub write_entries-requires : goal.write_entries-requires

@@ -1,13 +1,11 @@
 -- `minimal::is_minimal` meets its contract: each input passed is free or needed (`Scanned`); one that can be dropped
 -- decides at once.
 use Prim.Native.Nat.{◌+◌, ◌-◌, ◌*◌, ◌%◌, ◌^◌, ◌≤◌, ◌<◌}
-use mathlib.Core.Logic.{⊎_elim}
 use native.Mathlib.Omega.{arith}
 use lib.ListN.{length}
-use borrow.Author.Rules.{rules}
 use Rattle.netlist.specs.Limits.{max_inputs}
 use Rattle.op_cover.proofs.Bounds.{three-fits}
-use Rattle.op_cover.proofs.Dropping.{Scanned, scan-start, freed-lt, scan-next, needed-free, needed-fixed}
+use Rattle.op_cover.proofs.Dropping.{scan-start, freed-lt, scan-next, needed-free, needed-fixed}
 use Rattle.op_cover.proofs.Dropping.{not-minimal, scan-all}
 use Rattle.op_cover.proofs.minimal.is_minimal.Goals.{Then-digit-ne2}
 use Rattle.op_cover.proofs.minimal.is_minimal.Goals.{then-digit-ne2+else-sound-k-eq1, else-digit-ne2}

@@ -1,12 +1,9 @@
 -- `minimal::keep_minimal` meets its contract: the bytes passed are cleared or right, the others as they were
 -- (`OnlyMinimal`).
-use Prim.Native.Nat.{◌-◌, ◌^◌, ◌≤◌, ◌<◌}
+use Prim.Native.Nat.{◌^◌, ◌<◌}
 use mathlib.Core.Path.{◌≡◌, refl, sym, ◌∙◌}
-use mathlib.Core.Logic.{⊎_elim}
 use native.Mathlib.Omega.{arith}
 use lib.ListN.{length, length-set}
-use borrow.Author.Rules.{rules}
-use Rattle.theory_cover.specs.Entries.{OnlyMinimal}
 use Rattle.op_cover.proofs.Dropping.{minimal-none, minimal-unsound, minimal-stays, minimal-cleared}
 use Rattle.op_cover.proofs.minimal.keep_minimal.Goals.{then-sound-k-eq1+then-is_minimal, then-sound-k-eq1+else-is_minimal, else-sound-k-eq1}
 use Rattle.op_cover.proofs.minimal.keep_minimal.Goals as goal

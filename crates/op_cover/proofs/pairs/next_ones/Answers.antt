@@ -6,7 +6,6 @@ use lib.Bits.{and_le_r}
 use Rattle.netlist.specs.Limits.{max_inputs}
 use Rattle.op_cover.proofs.Bounds.{two_fits, shifted}
 use Rattle.op_cover.proofs.PairWalk.{next_row, next-in-row}
-use borrow.Author.Rules.{rules}
 use Rattle.op_cover.proofs.pairs.next_ones.Goals.{Start}
 use Rattle.op_cover.proofs.pairs.next_ones.Goals as goal
 

@@ -1,7 +1,6 @@
 -- `op_cover::table::tabulate` meets its contract: the table is filled by the block's plan.
 use mathlib.Core.Path.{sym}
 use Prim.Native.Nat.{◌^◌, ◌≤◌}
-use borrow.Author.Rules.{rules}
 use lib.ListN.{length, get_or}
 use Rattle.netlist.specs.StoredBlock.{decode}
 use Rattle.theory_encoding.proofs.Decoded.{decode-input_count}
@@ -13,13 +12,11 @@ use Rattle.op_cover.proofs.table.tabulate.Goals as goal
 
 -- the table has a byte for each setting
 room : (s : Start) → 2 ^ get_or s.args.words.now 0 0 ≤ length s.args.settled.now
-room s = rw s.requires.cover_room.settled_room (few-settings _ (whole_parts s.args.words.now s.requires.words_value).few_inputs)
+room s = rw s.requires.settled_room (few-settings _ (whole_parts s.args.words.now s.requires.words_value).few_inputs)
 
 pub fill_sound-requires : goal.fill_sound-requires
 fill_sound-requires c =
-    let p = c in
-    let s = p in
-    (p.plan_block.ensures, s.requires.cover_room.lane_room, room (goal.at.fill_sound-requires c).Start)
+    (c.plan_block.ensures, room (goal.at.fill_sound-requires c).Start)
 
 pub returns : goal.returns
 returns c =

@@ -1,10 +1,9 @@
 -- `op_cover::table::write_flags` meets its contract: after s turns s bytes are written.
 use mathlib.Core.Path.{◌≡◌, refl, ◌∙◌}
-use Prim.Native.Nat.{◌+◌, ◌-◌, ◌≤◌}
+use Prim.Native.Nat.{◌+◌}
 use native.Mathlib.Numerals.{add-one}
 use native.Mathlib.Omega.{arith}
-use lib.ListN.{length, length-set}
-use borrow.Author.Rules.{rules}
+use lib.ListN.{length-set}
 use Rattle.netlist.specs.Assignments.{bit}
 use Rattle.op_cover.specs.Table.{flagged}
 use Rattle.op_cover.proofs.table.write_flags.Goals as goal

@@ -1,14 +1,11 @@
 -- `tables::add_setting` meets its contract: while the setting's inputs are at 1 (`Joining`), both halves stand right
 -- below `end`.
-use Prim.Native.Nat.{◌-◌}
 use mathlib.Core.Path.{◌≡◌, refl, sym, ◌∙◌}
-use mathlib.Core.Logic.{⊎_elim}
-use lib.ListN.{length, length-set}
+use lib.ListN.{length-set}
 use Rattle.theory_cover.specs.Tables.{settled_by, byte_of}
 use native.Mathlib.Omega.{arith}
-use borrow.Author.Rules.{rules}
 use Rattle.op_cover.proofs.Bounds.{three-fits}
-use Rattle.op_cover.proofs.Joining.{byte_one, byte-none, Joining, setting-below, joining-start}
+use Rattle.op_cover.proofs.Joining.{byte_one, byte-none, setting-below, joining-start}
 use Rattle.op_cover.proofs.Joining.{joining-in, joining-room, joining-next, joining-end}
 use Rattle.op_cover.proofs.tables.add_setting.Goals.{then-settled-setting-eq1, else-settled-setting-eq1}
 use Rattle.op_cover.proofs.tables.add_setting.Goals as goal

@@ -1,10 +1,7 @@
 -- `tables::fill_sound` meets its contract: each turn adds a setting.
-use Prim.Native.Nat.{◌-◌, ◌^◌, ◌≤◌}
+use Prim.Native.Nat.{◌^◌}
 use mathlib.Core.Path.{◌≡◌}
-use lib.ListN.{length}
 use native.Mathlib.Omega.{arith}
-use borrow.Author.Rules.{rules}
-use Rattle.theory_cover.specs.Tables.{Filled}
 use Rattle.op_cover.proofs.Bounds.{shifted}
 use Rattle.op_cover.proofs.Joining.{filled_none}
 use Rattle.op_cover.proofs.tables.fill_sound.Goals as goal

@@ -1,16 +1,14 @@
 -- `tables::fill_weights` meets its contract: the weights of the masks passed are right, and a mask's half is one of
 -- them.
-use Prim.Native.Nat.{ℕ, ◌+◌, ◌-◌, ◌*◌, ◌/◌, ◌%◌, ◌^◌, ◌≤◌, ◌<◌}
-use mathlib.Core.Path.{◌≡◌, refl, ◌∙◌}
+use Prim.Native.Nat.{◌+◌, ◌*◌, ◌/◌, ◌%◌, ◌^◌, ◌<◌}
+use mathlib.Core.Path.{refl, ◌∙◌}
 use native.Mathlib.Omega.{arith}
 use lib.ListN.{length, get_or, length-set}
 use lib.Pow.{pow_pos}
 use Rattle.netlist.specs.Limits.{max_inputs}
-use Rattle.theory_cover.specs.Tables.{weight_of}
 use Rattle.op_cover.proofs.Bounds.{two_fits, three-fits, shifted}
 use Rattle.theory_cover.proofs.Numbers.{weight-lt}
 use Rattle.op_cover.proofs.Weights.{weight-from-half, weights-first, weights-next}
-use borrow.Author.Rules.{rules}
 use Rattle.op_cover.proofs.tables.fill_weights.Goals.{In-loop-mask}
 use Rattle.op_cover.proofs.tables.fill_weights.Goals as goal
 

@@ -1,16 +1,9 @@
 -- `tables::fill_weights` meets its contract: the weights of the masks passed are right, and a mask's half is one of
 -- them.
-use Prim.Native.Nat.{ℕ, ◌+◌, ◌-◌, ◌*◌, ◌/◌, ◌%◌, ◌^◌, ◌≤◌, ◌<◌}
-use mathlib.Core.Path.{◌≡◌, refl, ◌∙◌}
-use native.Mathlib.Omega.{arith}
-use lib.ListN.{length, get_or, length-set}
-use lib.Pow.{pow_pos}
-use Rattle.netlist.specs.Limits.{max_inputs}
+use Prim.Native.Nat.{ℕ, ◌^◌, ◌≤◌, ◌<◌}
+use mathlib.Core.Path.{◌≡◌}
+use lib.ListN.{length, get_or}
 use Rattle.theory_cover.specs.Tables.{weight_of}
-use Rattle.op_cover.proofs.Bounds.{two_fits, three-fits, shifted}
-use Rattle.theory_cover.proofs.Numbers.{weight-lt}
-use Rattle.op_cover.proofs.Weights.{weight-from-half, weights-first, weights-next}
-use borrow.Author.Rules.{rules}
 use Rattle.op_cover.proofs.tables.fill_weights.Given as goal
 
 abbrev pub invariant-loop-mask : goal.invariant-loop-mask
@@ -22,6 +15,3 @@ invariant-loop-mask l =
       same_length : length l.weights ≡ length l.initial.weights;
       right : (m : ℕ) → m < l.mask → get_or l.weights m 0 ≡ weight_of l.n m;
     }
-
-abbrev pub decreases-loop-mask : goal.decreases-loop-mask
-decreases-loop-mask l = 2 ^ l.n - l.mask

@@ -1,9 +1,6 @@
 -- `tables::join_halves` meets its contract: what it reads stands below what it writes.
-use Prim.Native.Nat.{◌-◌, ◌≤◌}
 use mathlib.Core.Path.{◌≡◌}
 use native.Mathlib.Omega.{arith}
-use borrow.Author.Rules.{rules}
-use Rattle.theory_cover.specs.Tables.{HalvesJoined}
 use Rattle.op_cover.proofs.Joining.{joined-none, joined-next}
 use Rattle.op_cover.proofs.tables.join_halves.Goals as goal
 

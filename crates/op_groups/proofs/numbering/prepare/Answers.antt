@@ -1,9 +1,8 @@
 -- `op_groups::numbering::prepare` meets its contract: each array is made from the graph and its leaders, before any
 -- gate has a number.
 use Prim.Native.Nat.{ℕ, ◌≤◌, ◌<◌}
-use mathlib.Core.Path.{◌≡◌, ◌∙◌}
+use mathlib.Core.Path.{◌≡◌}
 use native.Mathlib.Omega.{arith}
-use borrow.Author.Rules.{rules}
 use lib.ListN.{length, get_or}
 use Rattle.netlist.specs.Limits.{max_gates}
 use Rattle.graph_scc.proofs.Leader.{filled}
@@ -22,13 +21,9 @@ zeroed : (c : After-fill_words-2)
     → (length c.fill_words-2.new.words ≡ max_gates)
     × ((l : ℕ) → l < c.args.m → get_or c.fill_words-2.new.words l 0 ≡ 0)
 zeroed c =
-    let linked = c in
-    let s = linked in
-    let room : length linked.link.new.firsts ≡ max_gates =
-    linked.link.auto.firsts ∙ s.requires.count_room in
-    let fits : s.args.m ≤ length linked.link.new.firsts = omega (arith, s.requires.legal.few) in
-    let f = filled s.args.m 0 linked.link.new.firsts fits c.fill_words-2.ensures in
-    (f.0 ∙ room, f.1)
+    let fits : c.args.m ≤ length c.link.new.firsts = omega (arith, c.requires.legal.few) in
+    let f = filled c.args.m 0 c.link.new.firsts fits c.fill_words-2.ensures in
+    (omega arith, f.1)
 
 pub count_slots-requires : goal.count_slots-requires
 count_slots-requires c =
@@ -37,29 +32,15 @@ count_slots-requires c =
 
 pub add_all_ready-requires : goal.add_all_ready-requires
 add_all_ready-requires c =
-    let counted = c in
-    let s = counted in
-    (ready-none s.requires.ready_room s.requires.none, s.requires.legal.few)
+    (ready-none (omega arith) c.requires.none, c.requires.legal.few)
 
 pub returns : goal.returns
 returns c =
-    let counted = c in
-    let cleared = counted in
-    let linked = cleared in
-    let s = linked in
     let r = prepared (goal.at.returns c).After-link in
-    let bare = cleared in
-    let slots = c in
-    let none = filled s.args.m no_number s.args.numbers.now
-    (omega (arith, s.requires.number_room, s.requires.legal.few)) bare.fill_words.ensures in
+    let none = filled c.args.m no_number c.args.numbers.now (omega (arith, c.requires.legal.few)) c.fill_words.ensures in
     record {
-      linked = record {
-        prepared = r;
-        nexts_are = nexts-are r linked.link.ensures;
-        linked = slots.link_slots.ensures;
-      };
-      numbers_are = numbers-none (none.0 ∙ s.requires.number_room) none.1;
+      linked = record { prepared = r; nexts_are = nexts-are r c.link.ensures; linked = c.link_slots.ensures };
+      numbers_are = numbers-none (omega arith) none.1;
       waiting =
-          waiting-start (bare-all bare.fill_words.new.words none.1) counted.count_slots.ensures
-          c.add_all_ready.ensures;
+          waiting-start (bare-all c.fill_words.new.words none.1) c.count_slots.ensures c.add_all_ready.ensures;
     }

@@ -1,8 +1,7 @@
 -- `op_pass::sweep::sweep_gates` meets its contract: each gate is evaluated from the values already there.
-use Prim.Native.Nat.{◌-◌, ◌≤◌}
 use native.Mathlib.Omega.{arith}
 use Rattle.graph_simulation.proofs.State.{legal-gate}
-use Rattle.op_pass.proofs.Sweeps.{Sweeping, sweeping-none, sweeping-more, sweeping-end}
+use Rattle.op_pass.proofs.Sweeps.{sweeping-none, sweeping-more, sweeping-end}
 use Rattle.op_pass.proofs.sweep.sweep_gates.Goals as goal
 
 pub loop-j-init : goal.loop-j-init

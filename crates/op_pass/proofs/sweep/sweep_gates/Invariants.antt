@@ -1,12 +1,7 @@
 -- `op_pass::sweep::sweep_gates` meets its contract: each gate is evaluated from the values already there.
-use Prim.Native.Nat.{◌-◌, ◌≤◌}
-use native.Mathlib.Omega.{arith}
-use Rattle.graph_simulation.proofs.State.{legal-gate}
-use Rattle.op_pass.proofs.Sweeps.{Sweeping, sweeping-none, sweeping-more, sweeping-end}
+use Prim.Native.Nat.{◌≤◌}
+use Rattle.op_pass.proofs.Sweeps.{Sweeping}
 use Rattle.op_pass.proofs.sweep.sweep_gates.Given as goal
 
 abbrev pub invariant-loop-j : goal.invariant-loop-j
 invariant-loop-j l = (l.j ≤ l.m) × Sweeping l.m l.graph l.initial.values l.values l.j
-
-abbrev pub decreases-loop-j : goal.decreases-loop-j
-decreases-loop-j l = l.m - l.j

@@ -1,7 +1,6 @@
 -- `op_pass::sweep::sweep_into` meets its contract: the sweep of the graph is the block's (`swept-bytes`).
 use Rattle.graph_simulation.proofs.Starts.{blank}
 use Rattle.op_pass.proofs.Sweeps.{swept-bytes}
-use borrow.Author.Rules.{rules}
 use Rattle.op_pass.proofs.sweep.sweep_into.Goals as goal
 
 pub put_setting-requires : goal.put_setting-requires

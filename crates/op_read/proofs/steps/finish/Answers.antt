@@ -18,12 +18,12 @@ pub overflow_add-count : goal.overflow_add-count
 unfolding outputs_at gates_at nevers_at
 overflow_add-count c = omega (arith, few c.requires, c.outputs_behind.ensures)
 
-pub returns-in_default : goal.returns-in_default
-returns-in_default c =
+pub returns-in_err-test_room : goal.returns-in_err-test_room
+returns-in_err-test_room c =
     let t = c in
     let s = t in
     no_room s.requires s.args.block.now (all_words s.requires t.outputs_behind.ensures)
-    t.test_room-tested.ensures c.in_default.not-Passed c.refusal.ensures
+    t.test_room.ensures c.in_err-test_room.was c.from_residual.ensures.1
 
 pub put_block-requires : goal.put_block-requires
 put_block-requires c =
@@ -32,7 +32,7 @@ put_block-requires c =
     let s = t in
     put-ready s.requires s.args.block.now
     (fits s.requires s.args.block.now (all_words s.requires t.outputs_behind.ensures)
-    t.test_room-tested.ensures e.in-Passed.is)
+    t.test_room.ensures e.in_ok-test_room.was)
 
 pub returns : goal.returns
 returns c =
@@ -40,7 +40,7 @@ returns c =
     let t = e in
     let s = t in
     all-written s.requires s.args.block.now (all_words s.requires t.outputs_behind.ensures)
-    t.test_room-tested.ensures e.in-Passed.is _ c.put_block.ensures
+    t.test_room.ensures e.in_ok-test_room.was _ c.put_block.ensures
 
 pub overflow_mul-count : goal.overflow_mul-count
 overflow_mul-count c = omega (arith, few c.requires)

@@ -26,24 +26,24 @@ duplicate-requires c =
     index-ready f.requires _ _ _ (omega (arith, d.name_size)) (omega (arith, d.place_size)) (omega arith)
     (λ j. get_d-replicate-default (hashes + max_inputs + max_gates + 1) j 0)
 
-pub returns-in_default : goal.returns-in_default
-returns-in_default c =
+pub returns-in_err-earlier_repeat : goal.returns-in_err-earlier_repeat
+returns-in_err-earlier_repeat c =
     let e = c in
     let r = e in
     let f = r in
     let s = f in
-    twice s.requires f.declare.ensures r.duplicate.ensures e.earlier_repeat-tested.ensures s.args.block.now
-    c.in_default.not-Passed c.refusal.ensures
+    twice s.requires f.declare.ensures r.duplicate.ensures e.earlier_repeat.ensures s.args.block.now
+    c.in_err-earlier_repeat.was c.from_residual.ensures.1
 
-pub returns-in_default-tested : goal.returns-in_default-tested
-returns-in_default-tested c =
+pub returns-in_err-told : goal.returns-in_err-told
+returns-in_err-told c =
     let once = c in
     let e = once in
     let r = e in
     let f = r in
     let s = f in
-    outsider s.requires f.declare.ensures r.duplicate.ensures e.earlier_repeat-tested.ensures
-    once.in-Passed.is s.args.block.now c.in_default-tested.not-Passed c.refusal-in_default-tested.ensures
+    outsider s.requires f.declare.ensures r.duplicate.ensures e.earlier_repeat.ensures
+    once.in_ok-earlier_repeat.was s.args.block.now c.in_err-told.was c.from_residual-in_err-told.ensures.1
 
 pub read_terms-requires : goal.read_terms-requires
 read_terms-requires c =
@@ -53,5 +53,5 @@ read_terms-requires c =
     let e = once in
     let r = e in
     let f = r in
-    terms-ready f.requires f.declare.ensures r.duplicate.ensures e.earlier_repeat-tested.ensures
-    once.in-Passed.is inside.in-Passed-tested.is
+    terms-ready f.requires f.declare.ensures r.duplicate.ensures e.earlier_repeat.ensures
+    once.in_ok-earlier_repeat.was inside.in_ok-told.was

@@ -4,21 +4,21 @@ use Rattle.op_read.proofs.Stages.{resolve-ready, unknown, write-ready}
 use borrow.Author.Rules.{rules}
 use Rattle.op_read.proofs.steps.read_terms.Goals as goal
 
-pub resolve-tested-requires : goal.resolve-tested-requires
-resolve-tested-requires c =
+pub resolve-requires : goal.resolve-requires
+resolve-requires c =
     let p = c.requires in record {
       resolve_ready = resolve-ready p _ _ (omega arith) (omega arith);
       nodes_indexed = p.indexed;
     }
 
-pub returns-in_default : goal.returns-in_default
-returns-in_default c =
+pub returns-in_err-resolve : goal.returns-in_err-resolve
+returns-in_err-resolve c =
     let r = c in
     let s = r in
-    unknown s.requires r.resolve-tested.ensures s.args.block.now c.in_default.not-Passed c.refusal.ensures
+    unknown s.requires r.resolve.ensures s.args.block.now c.in_err-resolve.was c.from_residual.ensures.1
 
 pub finish-requires : goal.finish-requires
 finish-requires c =
     let told = c in
     let r = told in
-    write-ready r.requires r.resolve-tested.ensures told.in-Passed.is
+    write-ready r.requires r.resolve.ensures told.in_ok-resolve.was

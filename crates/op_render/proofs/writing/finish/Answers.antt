@@ -5,7 +5,6 @@ use mathlib.Core.Path.{◌≡◌, sym}
 use native.Mathlib.Omega.{arith}
 use lib.ListN.{length}
 use lib.Dec.{ltb}
-use borrow.Author.Rules.{rules}
 use borrow.Author.Tests.{ltb-false}
 use Rattle.netlist.specs.declared.Refusal.TheVariants.{NoRoom}
 use Rattle.netlist.specs.StoredBlock.{nevers_at, gates_at, outputs_at, encode, decode}
@@ -16,7 +15,7 @@ use Rattle.theory_encoding.proofs.Readers.{whole_parts}
 use Rattle.words_refusals.proofs.Promised.{passed, passed-false, failed, bare, keeps-bare, finished}
 use Rattle.op_render.proofs.Cases.{roomed, render-left}
 use Rattle.op_render.proofs.Told.{rendered-size}
-use Rattle.op_render.proofs.writing.finish.Goals.{After-outputs_behind, After-test_room-tested}
+use Rattle.op_render.proofs.writing.finish.Goals.{After-outputs_behind, After-test_room}
 use Rattle.op_render.proofs.writing.finish.Goals as goal
 
 -- the rendered block's length
@@ -32,16 +31,16 @@ size_is c =
     c.outputs_behind.ensures
 
 -- nothing but the room is left to refuse for, and that is what is tested
-left_is : (c : After-test_room-tested) → let a = c.args in
+left_is : (c : After-test_room) → let a = c.args in
     render a.words.now (length a.rendered.now) ≡ roomed a.words.now (length a.rendered.now)
 left_is c =
     let s = c in
     let r = s.requires.ready in
     render-left s.args.words.now _ r.whole (rw (← r.total_is) r.fits) s.requires.settled
 
-room-told : (c : After-test_room-tested) → let a = c.args in
+room-told : (c : After-test_room) → let a = c.args in
     let size = length (encode (rendering (decode a.words.now))) in
-    c.test_room-tested.result ≡ test_of (ltb (length a.rendered.now) size) NoRoom
+    c.test_room.result ≡ test_of (ltb (length a.rendered.now) size) NoRoom
 room-told c = rw ((let size_is_here : (let words = c.args.words.now in
     length (encode (rendering (decode words))) ≡ c.outputs_behind.result + 5 * c.outputs_of-k.result) = let n = c in
     let s = n in
@@ -49,7 +48,7 @@ room-told c = rw ((let size_is_here : (let words = c.args.words.now in
     let shown = c.outputs_of-k in
     rendered-size s.args.words.now n.inputs_of-n.result lines.result shown.result s.args.total
     c.outputs_behind.result n.inputs_of-n.ensures lines.ensures shown.ensures s.requires.ready.total_is
-    c.outputs_behind.ensures in size_is_here)) c.test_room-tested.ensures
+    c.outputs_behind.ensures in size_is_here)) c.test_room.ensures
 
 pub outputs_behind-requires : goal.outputs_behind-requires
 outputs_behind-requires c =
@@ -88,22 +87,22 @@ overflow_add-size c =
       s.requires.ready.fits,
     )
 
-pub returns-in_default : goal.returns-in_default
-returns-in_default c =
+pub returns-in_err-test_room : goal.returns-in_err-test_room
+returns-in_err-test_room c =
     let t = c in
-    failed bare keeps-bare _ _ NoRoom (left_is (goal.at.returns-in_default c).After-test_room-tested) (room-told (goal.at.returns-in_default c).After-test_room-tested) t.args.rendered.now
-    c.in_default.not-Passed c.refusal.ensures
+    failed bare keeps-bare _ _ NoRoom (left_is (goal.at.returns-in_err-test_room c).After-test_room) (room-told (goal.at.returns-in_err-test_room c).After-test_room) t.args.rendered.now
+    c.in_err-test_room.was c.from_residual.ensures.1
 
 pub write_copies-requires : goal.write_copies-requires
 write_copies-requires c =
     let p = c in
     let t = p in
-    (t.requires.ready, ltb-false _ _ (passed-false _ NoRoom (room-told (goal.at.write_copies-requires c).After-test_room-tested) p.in-Passed.is))
+    (t.requires.ready, ltb-false _ _ (passed-false _ NoRoom (room-told (goal.at.write_copies-requires c).After-test_room) p.in_ok-test_room.was))
 
 pub returns : goal.returns
 returns c =
     let w = c in
     let p = w in
     let t = p in
-    finished (passed bare keeps-bare _ _ NoRoom (left_is (goal.at.returns c).After-test_room-tested) (room-told (goal.at.returns c).After-test_room-tested) p.in-Passed.is)
+    finished (passed bare keeps-bare _ _ NoRoom (left_is (goal.at.returns c).After-test_room) (room-told (goal.at.returns c).After-test_room) p.in_ok-test_room.was)
     (sym (size_is (goal.at.returns c).After-outputs_behind)) w.write_copies.ensures

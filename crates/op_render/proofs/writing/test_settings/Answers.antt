@@ -1,7 +1,6 @@
 -- `op_render::writing::test_settings` meets its contract: what is lowest among 2 ^ n settings tells whether the block
 -- is sound.
 use native.Mathlib.Omega.{arith}
-use borrow.Author.Rules.{rules}
 use Rattle.theory_encoding.proofs.Readers.{whole_parts}
 use Rattle.op_render.proofs.Told.{settings-tested}
 use Rattle.op_render.proofs.writing.test_settings.Goals as goal

@@ -1,6 +1,5 @@
 -- `op_render::writing::write_copies` meets its contract: the parts one behind the other are the schedule.
 use native.Mathlib.Omega.{arith}
-use borrow.Author.Rules.{rules}
 use Rattle.theory_encoding.proofs.Readers.{whole_parts}
 use Rattle.op_render.proofs.Told.{scheduled, schedule-length}
 use Rattle.op_render.proofs.writing.write_copies.Goals as goal

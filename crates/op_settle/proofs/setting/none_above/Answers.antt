@@ -1,34 +1,16 @@
--- `op_settle::setting::none_above` meets its contract. The loop's invariant: no byte passed is above `most`.
-use mathlib.Core.Path.{◌≡◌, sym, ◌∙◌}
-use mathlib.Core.Bool.{true, false, true≢false}
-use Prim.Native.Nat.{ℕ, ◌≤◌, ◌<◌, ◌-◌}
-use native.Mathlib.Omega.{arith}
-use lib.ListN.{length, get_or}
-use borrow.Author.Count.{below_more}
-use borrow.Author.Tests.{le-leb, lt-leb}
-use Rattle.prelude.specs.Lists.{all}
-use Rattle.prelude.proofs.Tests.{not-true-false}
-use Rattle.prelude.proofs.Quantifiers.{all-at, all_from}
+-- `op_settle::setting::none_above` meets its contract: each byte is compared.
+use mathlib.Core.Path.{◌∙◌}
+use borrow.Author.Rules.{rules}
+use borrow.Author.Tests.{tests}
+use Rattle.std.proofs.lemmas.Iterator.{YieldsList-from_slice}
+use Rattle.std.proofs.lemmas.Iterator.Search.{all_from_yields_List}
+use Rattle.prelude.proofs.Ranges.{list_all-all}
 use Rattle.op_settle.specs.Tests.{at_most}
 use Rattle.op_settle.proofs.setting.none_above.Goals as goal
-
-pub loop-i-init : goal.loop-i-init
-loop-i-init c = (omega arith, λ k h. absurd (omega arith))
-
-pub returns-then-most-bytes : goal.returns-then-most-bytes
-returns-then-most-bytes c =
-    let start = c in
-    let a = start.args in
-    let s = a.bytes.now in
-    let i = c.loop-i.i in
-    sym (not-true-false (all (at_most a.most) s)
-    (λ h. true≢false (sym (all-at (at_most a.most) s i 0 h (omega arith))
-    ∙ lt-leb (get_or s i 0) a.most c.if-most-bytes.true)))
-
-pub loop-i-preserved : goal.loop-i-preserved
-loop-i-preserved c = (omega arith, below_more _ _ c.loop-i.invariant.1 (le-leb _ _ c.if-most-bytes.false))
 
 pub returns : goal.returns
 returns c =
     let a = c.args in
-    sym (all_from (at_most a.most) a.bytes.now 0 (λ k h. c.loop-i.invariant.1 k (omega arith)))
+    all_from_yields_List (at_most a.most) _ _ _ c.all.ensures.ran (YieldsList-from_slice a.bytes.now c.iter.ensures.rest)
+    (λ x b q k. search (rules, tests))
+    ∙ list_all-all (at_most a.most) a.bytes.now

@@ -1,7 +1,6 @@
 -- `op_settle::setting::test_bytes` meets its contract: the length is tested, and then the bytes.
 use mathlib.Core.Path.{◌≡◌}
 use mathlib.Core.Bool.{not}
-use borrow.Author.Rules.{rules}
 use Rattle.words_refusals.specs.Tests.{test_of}
 use Rattle.op_settle.specs.Tests.{is_bad_bytes}
 use Rattle.op_settle.proofs.Settings.{bad-length, bad-bytes}

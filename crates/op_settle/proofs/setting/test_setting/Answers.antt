@@ -1,5 +1,4 @@
 -- `op_settle::setting::test_setting` meets its contract: the bytes of a block's inputs, in three values.
-use borrow.Author.Rules.{rules}
 use Rattle.op_settle.proofs.Settings.{bad-setting}
 use Rattle.op_settle.proofs.setting.test_setting.Goals as goal
 

@@ -3,7 +3,6 @@ use mathlib.Core.Path.{refl}
 use Rattle.graph_simulation.proofs.Starts.{empty, blank}
 use Rattle.graph_simulation.proofs.Rounds.{prepared-with}
 use Rattle.op_settle.proofs.Outcomes.{settled-bytes}
-use borrow.Author.Rules.{rules}
 use Rattle.op_settle.proofs.settle.settle_into.Goals as goal
 
 pub prepare-requires : goal.prepare-requires

@@ -1,10 +1,7 @@
 -- `op_sheet::inputs::put_records` meets its contract: after k turns the first k inputs' pairs stand there.
 use mathlib.Core.Path.{◌≡◌}
-use Prim.Native.Nat.{◌-◌, ◌≤◌}
 use native.Mathlib.Omega.{arith}
-use Rattle.lanes_batch.specs.Layered.{InputsPut}
 use Rattle.lanes_batch.proofs.Starting.{inputs-none, inputs-more}
-use Rattle.op_sheet.specs.Records.{record_pair}
 use Rattle.op_sheet.proofs.inputs.put_records.Goals as goal
 
 pub loop-k-init : goal.loop-k-init
@@ -23,7 +20,7 @@ loop-k-preserved c =
     let l = turn in
     let s = l in (
       omega arith,
-      inputs-more l.loop-k.invariant.1 s.requires.2 (omega (arith, turn.loop-k-test.true, s.requires.0))
+      inputs-more l.loop-k.invariant.1 (omega arith) (omega (arith, turn.loop-k-test.true, s.requires.0))
           p.record_pair.ensures c.put_pair.ensures,
     )
 

@@ -1,14 +1,8 @@
 -- `op_sheet::inputs::put_records` meets its contract: after k turns the first k inputs' pairs stand there.
-use mathlib.Core.Path.{◌≡◌}
-use Prim.Native.Nat.{◌-◌, ◌≤◌}
-use native.Mathlib.Omega.{arith}
+use Prim.Native.Nat.{◌≤◌}
 use Rattle.lanes_batch.specs.Layered.{InputsPut}
-use Rattle.lanes_batch.proofs.Starting.{inputs-none, inputs-more}
 use Rattle.op_sheet.specs.Records.{record_pair}
 use Rattle.op_sheet.proofs.inputs.put_records.Given as goal
 
 abbrev pub invariant-loop-k : goal.invariant-loop-k
 invariant-loop-k l = (l.k ≤ l.n) × InputsPut (record_pair l.count l.fixed l.ones) l.k l.initial.lanes l.lanes
-
-abbrev pub decreases-loop-k : goal.decreases-loop-k
-decreases-loop-k l = l.n - l.k

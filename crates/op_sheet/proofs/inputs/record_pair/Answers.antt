@@ -10,7 +10,7 @@ use Rattle.prelude.proofs.Tab.{length-tab}
 use Rattle.netlist.specs.Values.{undefined}
 use Rattle.netlist.specs.Assignments.{is_one}
 use Rattle.op_sheet.specs.Records.{is_zero, lane_value, record_pair}
-use Rattle.op_sheet.proofs.SideLaws.{Packed, packed_none, packed-next, packed_all, zeros-half, zeros-fit}
+use Rattle.op_sheet.proofs.SideLaws.{packed_none, packed-next, packed_all, zeros-half, zeros-fit}
 use Rattle.op_sheet.proofs.SideLaws.{ones_half, ones-fit, lane-bit}
 use Rattle.op_sheet.proofs.inputs.record_pair.Goals.{After-one_bit, After-zero_bit, In-loop-s}
 use Rattle.op_sheet.proofs.inputs.record_pair.Goals as goal

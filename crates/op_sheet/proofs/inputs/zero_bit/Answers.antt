@@ -1,7 +1,6 @@
 -- `op_sheet::inputs::zero_bit` meets its contract.
 use mathlib.Core.Path.{refl}
 use native.Mathlib.Omega.{arith}
-use borrow.Author.Rules.{rules}
 use borrow.Author.Tests.{eq-eqb, ne_eqb}
 use Rattle.netlist.specs.Values.{value_of}
 use Rattle.netlist.specs.Assignments.{bit}

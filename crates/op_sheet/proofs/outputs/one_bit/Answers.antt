@@ -1,6 +1,5 @@
 -- `op_sheet::outputs::one_bit` meets its contract.
 use mathlib.Core.Path.{sym}
-use borrow.Author.Rules.{rules}
 use Rattle.netlist.specs.Assignments.{bit}
 use Rattle.lanes_dual_rail.specs.LaneWords.{pair_at}
 use Rattle.op_sheet.proofs.SettledLaws.{one-zero, one-other}

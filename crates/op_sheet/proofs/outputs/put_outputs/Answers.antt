@@ -1,14 +1,11 @@
 -- `op_sheet::outputs::put_outputs` meets its contract: after o turns the first o outputs' pairs stand there.
 use mathlib.Core.Path.{◌≡◌, refl, ◌∙◌}
-use Prim.Native.Nat.{◌-◌, ◌≤◌, ◌<◌}
+use Prim.Native.Nat.{◌<◌}
 use native.Mathlib.Omega.{arith}
-use borrow.Author.Rules.{rules}
 use lib.ListN.{get_or}
-use Rattle.netlist.specs.StoredBlock.{outputs_at}
 use Rattle.theory_encoding.proofs.Readers.{whole_parts}
 use Rattle.lanes_dual_rail.specs.LaneWords.{put_pair}
 use Rattle.lanes_settings.proofs.OutputLaws.{output-there}
-use Rattle.op_sheet.specs.Records.{OutputsPut}
 use Rattle.op_sheet.proofs.SettledLaws.{outputs-none, outputs-more}
 use Rattle.op_sheet.proofs.outputs.put_outputs.Goals.{In-loop-o}
 use Rattle.op_sheet.proofs.outputs.put_outputs.Goals as goal
@@ -17,7 +14,7 @@ there : (c : In-loop-o) → c.loop-o.o < get_or c.args.words.now 2 0
 there c = let i = c.loop-o.invariant in omega (arith, c.loop-o-test.true, i.2)
 
 small : (c : In-loop-o) → c.loop-o.o < 16
-small c = omega (arith, (let there_here : (c.loop-o.o < get_or c.args.words.now 2 0) = let i = c.loop-o.invariant in omega (arith, c.loop-o-test.true, i.2) in there_here), (whole_parts c.args.words.now c.requires.0).few_outputs)
+small c = omega (arith, (let there_here : (c.loop-o.o < get_or c.args.words.now 2 0) = let i = c.loop-o.invariant in omega (arith, c.loop-o-test.true, i.2) in there_here), (whole_parts c.args.words.now c.requires).few_outputs)
 
 pub loop-o-init : goal.loop-o-init
 loop-o-init c =
@@ -28,13 +25,13 @@ loop-o-init c =
       at.outputs_at-at.ensures,
       c.outputs_of-count.ensures,
       omega arith,
-      outputs-none _ _ _ s.requires.1,
+      outputs-none _ _ _ (omega arith),
     )
 
 pub output_pair-pair-requires : goal.output_pair-pair-requires
 output_pair-pair-requires c =
     let i = c.loop-o.invariant in
-    output-there c.args.words.now c.requires.0 i.0 i.1 c.loop-o.o (there (goal.at.output_pair-pair-requires c).In-loop-o)
+    output-there c.args.words.now c.requires i.0 i.1 c.loop-o.o (there (goal.at.output_pair-pair-requires c).In-loop-o)
 
 pub loop-o-preserved : goal.loop-o-preserved
 unfolding put_pair
@@ -72,6 +69,3 @@ offset_bounds-shown-o-in-loop-o c = omega (arith, small (goal.at.offset_bounds-s
 
 pub bounds-shown-o-in-loop-o : goal.bounds-shown-o-in-loop-o
 bounds-shown-o-in-loop-o c = omega (arith, small (goal.at.bounds-shown-o-in-loop-o c).In-loop-o)
-
-pub overflow_add-o : goal.overflow_add-o
-overflow_add-o c = omega (arith, small (goal.at.overflow_add-o c).In-loop-o)

@@ -3,12 +3,11 @@ use mathlib.Core.Path.{◌≡◌, sym, ◌∙◌}
 use mathlib.Core.Bool.{cond}
 use Prim.Native.Nat.{◌-◌, ◌<◌}
 use native.Mathlib.Omega.{arith}
-use borrow.Author.Rules.{rules}
 use lib.ListN.{get_or}
 use Rattle.netlist.specs.Values.{undefined, is_defined}
 use Rattle.netlist.specs.Assignments.{is_one}
 use Rattle.theory_encoding.proofs.Readers.{whole_parts}
-use Rattle.words_layout.proofs.Gathered.{Gathered, gathered_none, gathered_next, defined-half, defined-fits, one-half}
+use Rattle.words_layout.proofs.Gathered.{gathered_none, gathered_next, defined-half, defined-fits, one-half}
 use Rattle.words_layout.proofs.Gathered.{one-fits}
 use Rattle.op_sheet.specs.Records.{shown_at}
 use Rattle.op_sheet.proofs.SettledLaws.{length-shown, shown-bit}

@@ -1,5 +1,4 @@
 -- `op_sheet::settling::settle_looped` meets its contract: the lanes are settled by the plan.
-use borrow.Author.Rules.{rules}
 use Rattle.op_sheet.proofs.SettledLaws.{fixed-decoded}
 use Rattle.op_sheet.proofs.settling.settle_looped.Goals as goal
 
@@ -10,7 +9,7 @@ settle_layers-requires c =
     let s = m in (
       rw m.gates_of.ensures p.decoded.legal,
       rw m.gates_of.ensures p.layers,
-      rw m.gates_of.ensures s.requires.2,
+      rw m.gates_of.ensures s.requires.1,
     )
 
 pub returns : goal.returns

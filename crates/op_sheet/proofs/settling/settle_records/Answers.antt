@@ -1,5 +1,4 @@
 -- `op_sheet::settling::settle_records` meets its contract: the lanes are started, settled and shown.
-use borrow.Author.Rules.{rules}
 use Rattle.theory_encoding.proofs.Readers.{whole_parts}
 use Rattle.op_sheet.proofs.SettledLaws.{settled-lanes}
 use Rattle.op_sheet.proofs.settling.settle_records.Goals as goal
@@ -12,7 +11,6 @@ start_records-requires c =
       rw n.gates_of.ensures parts.few_gates,
       rw n.inputs_of.ensures parts.few_inputs,
       s.requires.1,
-      search rules,
     )
 
 pub settle_lanes-requires : goal.settle_lanes-requires
@@ -22,11 +20,7 @@ settle_lanes-requires c =
     (n.requires.0, rw n.gates_of.ensures at w.start_records.ensures.fresh)
 
 pub put_outputs-requires : goal.put_outputs-requires
-put_outputs-requires c =
-    let settled = c in
-    let w = settled in
-    let s = w in
-    (s.requires.0, s.requires.2)
+put_outputs-requires c = c.requires.0
 
 pub returns : goal.returns
 returns c =

@@ -1,7 +1,6 @@
 -- `op_sheet::turns::advance` meets its contract: the batch is kept, or has one record more, or is settled.
 use Prim.Native.Nat.{◌%◌, ◌<◌}
 use native.Mathlib.Omega.{arith}
-use borrow.Author.Rules.{rules}
 use Rattle.op_sheet.specs.Order.{size_at}
 use Rattle.op_sheet.proofs.TurnLaws.{advanced-kept, advanced-read, advanced-full}
 use Rattle.op_sheet.proofs.turns.advance.Goals.{After-shown-1}

@@ -1,6 +1,5 @@
 -- `op_sheet::turns::answer` meets its contract: the record as it was, or the answer.
 use mathlib.Core.Path.{refl}
-use borrow.Author.Rules.{rules}
 use borrow.Author.Tests.{lt-ltb, le-ltb}
 use Rattle.netlist.specs.Sheet.{answered_record}
 use Rattle.op_sheet.specs.Order.{reads_at, turned}

@@ -1,7 +1,6 @@
 -- `op_sheet::turns::answer_lane` meets its contract: 7, or the outputs under the settled values.
 use mathlib.Core.Path.{◌∙◌}
 use native.Mathlib.Omega.{arith}
-use borrow.Author.Rules.{rules}
 use Rattle.theory_encoding.proofs.Readers.{whole_parts}
 use Rattle.op_sheet.proofs.RecordLaws.{bad-as, record-refused, shown-record}
 use Rattle.op_sheet.proofs.turns.answer_lane.Goals as goal

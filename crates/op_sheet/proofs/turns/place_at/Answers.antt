@@ -1,6 +1,5 @@
 -- `op_sheet::turns::place_at` meets its contract.
 use mathlib.Core.Path.{refl}
-use borrow.Author.Rules.{rules}
 use borrow.Author.Tests.{lt-ltb, le-ltb}
 use Rattle.op_sheet.specs.Order.{reads_at, record_at}
 use Rattle.op_sheet.proofs.turns.place_at.Goals as goal

@@ -1,6 +1,5 @@
 -- `op_sheet::turns::refuse` meets its contract.
 use native.Mathlib.Omega.{arith}
-use borrow.Author.Rules.{rules}
 use Rattle.netlist.specs.Answers.{refusal_number}
 use Rattle.netlist.specs.Sheet.{refused_record}
 use Rattle.op_sheet.proofs.turns.refuse.Goals as goal

@@ -1,6 +1,5 @@
 -- `op_verdict::settings::count_held` meets its contract.
 use mathlib.Core.Path.{◌∙◌}
-use borrow.Author.Rules.{rules}
 use Rattle.lanes_dual_rail.proofs.InputLaws.{lanes_of-most}
 use Rattle.lanes_dual_rail.proofs.WordLaws.{tells-count}
 use Rattle.op_verdict.specs.Counts.{counted_from}

@@ -1,18 +1,15 @@
 -- `op_verdict::settings::count_settled` meets its contract: `settled` counts the settled settings of the batches
 -- passed.
 use mathlib.Core.Path.{◌≡◌, refl, sym, ap, ◌∙◌}
-use mathlib.Core.List.{List}
-use Prim.Native.Nat.{ℕ, ◌-◌, ◌+◌, ◌^◌, ◌≤◌, ◌<◌}
+use Prim.Native.Nat.{ℕ, ◌+◌, ◌^◌, ◌≤◌, ◌<◌}
 use native.Mathlib.Omega.{arith}
-use borrow.Author.Rules.{rules}
-use lib.ListN.{length, get_or}
+use lib.ListN.{get_or}
 use Rattle.prelude.specs.Lists.{count_below}
 use Rattle.netlist.specs.StoredBlock.{decode}
 use Rattle.netlist.specs.Rounds.{is_counted}
 use Rattle.theory_encoding.proofs.Decoded.{decode-input_count}
 use Rattle.theory_encoding.proofs.Readers.{whole_parts}
 use Rattle.lanes_dual_rail.specs.Batches.{lanes_of}
-use Rattle.lanes_dual_rail.specs.LaneWords.{lane_size}
 use Rattle.lanes_settings.proofs.Counting.{setting-count, few-settings}
 use Rattle.lanes_settings.proofs.Batching.{Place, place-first, place-next, lanes_of-some}
 use Rattle.op_verdict.proofs.Counts.{count-le, count-end, count-batch, reached}
@@ -32,85 +29,72 @@ many : (l : At-loop-base)
 many l = l.lane_count-batch.ensures ∙ ap lanes_of l.inputs_of-n.ensures
 
 -- one batch more, and all of it
-counted : (f : After-count_batch-settled) → let l = f in let b = decode l.args.words.now in
-    l.loop-base.settled + f.count_batch-settled.result ≡ count_below (is_counted b) (l.loop-base.base + l.lane_count-batch.result)
+counted : (f : After-count_batch-settled) → let b = decode f.args.words.now in
+    f.loop-base.settled + f.count_batch-settled.result
+    ≡ count_below (is_counted b) (f.loop-base.base + f.lane_count-batch.result)
 counted f =
-    let l = f in
-    count-batch (decode l.args.words.now) l.loop-base.base ((let many_here : (f.lane_count-batch.result ≡ lanes_of (get_or f.args.words.now 0 0)) = f.lane_count-batch.ensures ∙ ap lanes_of f.inputs_of-n.ensures in many_here)) l.loop-base.invariant.count
-    f.count_batch-settled.ensures.count
+    count-batch (decode f.args.words.now) f.loop-base.base
+    (f.lane_count-batch.ensures ∙ ap lanes_of f.inputs_of-n.ensures)
+    f.loop-base.invariant.count f.count_batch-settled.ensures.count
 
-next : (f : After-count_batch-settled) → let l = f in
-    Place (get_or l.args.words.now 0 0) (l.loop-base.base + l.lane_count-batch.result)
+next : (f : After-count_batch-settled)
+    → Place (get_or f.args.words.now 0 0) (f.loop-base.base + f.lane_count-batch.result)
 next f =
-    let l = f in
-    place-next ((let many_here : (f.lane_count-batch.result ≡ lanes_of (get_or f.args.words.now 0 0)) = f.lane_count-batch.ensures ∙ ap lanes_of f.inputs_of-n.ensures in many_here)) ((let all-settings_here : (f.setting_count-count.result ≡ 2 ^ get_or f.args.words.now 0 0) = f.setting_count-count.ensures ∙ ap (λ (k : ℕ). 2 ^ k) f.inputs_of-n.ensures in all-settings_here)) l.loop-base.invariant.place f.loop-base-test.true
+    place-next (f.lane_count-batch.ensures ∙ ap lanes_of f.inputs_of-n.ensures)
+    (f.setting_count-count.ensures ∙ ap (λ (k : ℕ). 2 ^ k) f.inputs_of-n.ensures) f.loop-base.invariant.place
+    f.loop-base-test.true
 
 pub loop-base-init : goal.loop-base-init
 loop-base-init c =
-    let s = c in
-    record {
-      place = place-first (get_or s.args.words.now 0 0);
-      count = refl;
-      long = s.requires.1.long;
-      kept = λ h.
-          refl;
-    }
+    record { place = place-first (get_or c.args.words.now 0 0); count = refl; kept = λ h. refl }
 
 pub count_batch-settled-requires : goal.count_batch-settled-requires
 count_batch-settled-requires c =
-    let l = c in
-    let s = l in
-    let inv = l.loop-base.invariant in
-    let inside : l.loop-base.base < 2 ^ get_or s.args.words.now 0 0 =
+    let inv = c.loop-base.invariant in
+    let inside : c.loop-base.base < 2 ^ get_or c.args.words.now 0 0 =
     omega (arith, all-settings (goal.at.count_batch-settled-requires c).At-loop-base, c.loop-base-test.true) in
     record {
-      planned = (s.requires.0, inv.long);
-      first_reached = reached s.requires.1 inv.place (few (goal.at.count_batch-settled-requires c).Start) inside inv.kept;
+      planned = c.requires.0;
+      first_reached =
+          reached c.requires.1 inv.place (few (goal.at.count_batch-settled-requires c).Start) inside inv.kept;
     }
 
 pub overflow_add-settled : goal.overflow_add-settled
 overflow_add-settled c =
-    let l = c in
-    let words = l.args.words.now in
-    let end = l.loop-base.base + l.lane_count-batch.result in
-    omega (arith, counted (goal.at.overflow_add-settled c).After-count_batch-settled, count-le (decode words) end, (next (goal.at.overflow_add-settled c).After-count_batch-settled).within, few-settings (get_or words 0 0) (few (goal.at.overflow_add-settled c).Start))
+    let words = c.args.words.now in
+    let end = c.loop-base.base + c.lane_count-batch.result in
+    let done = (goal.at.overflow_add-settled c).After-count_batch-settled in
+    let small = few-settings (get_or words 0 0) (few (goal.at.overflow_add-settled c).Start) in
+    omega (arith, counted done, count-le (decode words) end, (next done).within, small)
 
 pub overflow_add-base : goal.overflow_add-base
 overflow_add-base c =
-    let s = c in
-    omega (arith, (next (goal.at.overflow_add-base c).After-count_batch-settled).within, few-settings (get_or s.args.words.now 0 0) (few (goal.at.overflow_add-base c).Start))
+    let small = few-settings (get_or c.args.words.now 0 0) (few (goal.at.overflow_add-base c).Start) in
+    omega (arith, (next (goal.at.overflow_add-base c).After-count_batch-settled).within, small)
 
 pub loop-base-smaller : goal.loop-base-smaller
 loop-base-smaller c =
-    let l = c in
-    omega (
-      arith,
-      l.lane_count-batch.ensures,
-      lanes_of-some l.inputs_of-n.result,
-      c.loop-base-test.true,
-    )
+    omega (arith, c.lane_count-batch.ensures, lanes_of-some c.inputs_of-n.result, c.loop-base-test.true)
 
 pub loop-base-preserved : goal.loop-base-preserved
 loop-base-preserved c =
-    let h = c in
     let e = c.count_batch-settled.ensures in
+    let lanes = many (goal.at.loop-base-preserved c).At-loop-base in
     record {
       place = next (goal.at.loop-base-preserved c).After-count_batch-settled;
       count = counted (goal.at.loop-base-preserved c).After-count_batch-settled;
-      long = e.long;
-      kept = λ below. e.kept (omega (arith, below, many (goal.at.loop-base-preserved c).At-loop-base)) ∙ h.loop-base.invariant.kept (omega (arith, below));
+      kept = λ below. e.kept (omega (arith, below, lanes)) ∙ c.loop-base.invariant.kept (omega (arith, below));
     }
 
 pub returns : goal.returns
 returns c =
-    let h = c in
-    let l = h.loop-base in
-    let words = h.args.words.now in
-    let count = h.setting_count-count.result in
-    let all : l.base ≡ count = omega (arith, l.invariant.place.within, all-settings (goal.at.returns c).At-loop-base, c.loop-base-test.false) in
-    let settings = setting-count (decode words) (get_or words 0 0) count (sym (decode-input_count words))
-    (all-settings (goal.at.returns c).At-loop-base) in
-    l.invariant.count ∙ count-end (decode words) l.base count settings all
+    let words = c.args.words.now in
+    let count = c.setting_count-count.result in
+    let is_all = all-settings (goal.at.returns c).At-loop-base in
+    let all : c.loop-base.base ≡ count =
+    omega (arith, c.loop-base.invariant.place.within, is_all, c.loop-base-test.false) in
+    let settings = setting-count (decode words) (get_or words 0 0) count (sym (decode-input_count words)) is_all in
+    c.loop-base.invariant.count ∙ count-end (decode words) c.loop-base.base count settings all
 
 pub setting_count-count-requires : goal.setting_count-count-requires
 setting_count-count-requires c = rw c.inputs_of-n.ensures (few (goal.at.setting_count-count-requires c).Start)

@@ -3,7 +3,6 @@
 use mathlib.Core.Path.{◌≡◌}
 use native.Mathlib.Omega.{arith}
 use lib.ListN.{get_or}
-use borrow.Author.Rules.{rules}
 use Rattle.netlist.specs.StoredBlock.{nevers_at, gates_at, outputs_at}
 use Rattle.text_pieces.specs.Pieces.{pieces}
 use Rattle.op_write.specs.Lines.{input_text, never_line_text, gate_text, output_text, block_text}

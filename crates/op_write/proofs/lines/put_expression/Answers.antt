@@ -3,7 +3,6 @@ use Prim.Native.Nat.{◌/◌, ◌%◌}
 use mathlib.Core.List.{◌++◌}
 use mathlib.Core.Path.{◌≡◌}
 use native.Mathlib.Omega.{arith}
-use borrow.Author.Rules.{rules}
 use Rattle.prelude.specs.Lists.{ascii}
 use Rattle.netlist.specs.Kinds.{keyword}
 use Rattle.text_pieces.specs.Pieces.{pieces}

@@ -1,6 +1,5 @@
 -- `op_write::lines::put_input` meets its contract: its three pieces, one after the other.
 use native.Mathlib.Omega.{arith}
-use borrow.Author.Rules.{rules}
 use Rattle.op_write.specs.Lines.{input_text}
 use Rattle.text_pieces.proofs.Appending.{appended_then, short-first, short-rest}
 use Rattle.op_write.proofs.lines.put_input.Goals as goal

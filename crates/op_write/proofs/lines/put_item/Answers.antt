@@ -1,5 +1,4 @@
 -- `op_write::lines::put_item` meets its contract: a space, and then the operand.
-use borrow.Author.Rules.{rules}
 use Rattle.prelude.specs.Lists.{ascii}
 use Rattle.op_write.specs.Lines.{item_text}
 use Rattle.text_pieces.proofs.Appending.{appended_then, short-first, short-rest}

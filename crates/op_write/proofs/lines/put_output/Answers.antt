@@ -1,6 +1,5 @@
 -- `op_write::lines::put_output` meets its contract: its five pieces, one after the other.
 use native.Mathlib.Omega.{arith}
-use borrow.Author.Rules.{rules}
 use Rattle.prelude.specs.Lists.{ascii}
 use Rattle.op_write.specs.Lines.{output_text}
 use Rattle.text_pieces.proofs.Appending.{appended_then, short-first, short-rest}

@@ -1,7 +1,6 @@
 -- `op_write::nevers::put_fixed` meets its contract: nothing, or the pair, by the input's bit in the mask of the fixed
 -- ones.
 use native.Mathlib.Omega.{arith}
-use borrow.Author.Rules.{rules}
 use Rattle.netlist.specs.Assignments.{bit}
 use Rattle.text_pieces.proofs.Appending.{appended-none}
 use Rattle.op_write.proofs.NeverLaws.{fixed-none, fixed-some}

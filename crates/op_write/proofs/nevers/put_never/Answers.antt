@@ -1,7 +1,6 @@
 -- `op_write::nevers::put_never` meets its contract: its three pieces, one after the other.
 use mathlib.Core.List.{◌++◌}
 use mathlib.Core.Path.{◌≡◌}
-use borrow.Author.Rules.{rules}
 use Rattle.prelude.specs.Lists.{ascii}
 use Rattle.text_pieces.specs.Pieces.{pieces}
 use Rattle.op_write.specs.Lines.{fixed_text, never_text}

@@ -1,14 +1,8 @@
 -- `text_constraints::lines::run_of` meets its contract: the lines that are left, of those that stand there, are passed
 -- one by one. Each has bytes of its own, so the place and the count stay within the text. Assumes nothing.
-use borrow.Author.Rules.{rules}
-use mathlib.Core.Path.{◌≡◌}
-use mathlib.Core.Bool.{true}
-use Prim.Native.Nat.{◌+◌, ◌-◌, ◌≤◌}
-use native.Mathlib.Omega.{arith}
-use lib.ListN.{length, drop}
-use Rattle.text_constraints.specs.Runs.{lettered}
-use Rattle.text_constraints.proofs.RunLaws.{Running, run-start, run-next, run_ends, run-counts, letter-there}
-use Rattle.text_constraints.proofs.RunLaws.{no-letter, next-inside, next-further}
+use Prim.Native.Nat.{◌-◌}
+use lib.ListN.{length}
+use Rattle.text_constraints.proofs.RunLaws.{Running}
 use Rattle.text_constraints.proofs.lines.run_of.Given as goal
 
 abbrev pub invariant-loop-end : goal.invariant-loop-end

@@ -1,12 +1,10 @@
 -- `text_constraints::read::read_lines` meets its contract: one line a turn; the first place that a line tells is kept.
 -- Assumes nothing.
-use borrow.Author.Rules.{rules}
-use Prim.Native.Nat.{◌-◌, ◌+◌, ◌≤◌}
-use mathlib.Core.Path.{refl}
+use Prim.Native.Nat.{◌+◌, ◌≤◌}
 use native.Mathlib.Omega.{arith}
 use lib.ListN.{length}
-use Rattle.text_constraints.proofs.LineWalk.{Reading, reading-start, line-there, line-ready, reading-next}
-use Rattle.text_constraints.proofs.LineWalk.{reading-done}
+use Rattle.text_constraints.proofs.LineWalk.{reading-start, line-there, line-ready, reading-next}
+use Rattle.text_constraints.proofs.LineWalk.{reading-done, first-of_and}
 use Rattle.text_constraints.proofs.read.read_lines.Goals.{In-loop-i}
 use Rattle.text_constraints.proofs.read.read_lines.Goals as goal
 
@@ -27,7 +25,7 @@ loop-i-preserved c =
     let line = told in
     let l = line in
     reading-next l.requires l.loop-i.invariant (omega arith) line.read_line-line.ensures
-    told.first_failed-repeat.ensures told.first_failed-outside.ensures
+    (first-of_and _ _ told.and-repeat.ensures) (first-of_and _ _ told.and-outside.ensures)
     c.next_line-at.ensures
 
 pub returns : goal.returns
@@ -39,32 +37,5 @@ slice_bounds-read_line-count c = omega (arith, there (goal.at.slice_bounds-read_
 pub slice_bounds-read_line-start : goal.slice_bounds-read_line-start
 slice_bounds-read_line-start c = omega (arith, there (goal.at.slice_bounds-read_line-start c).In-loop-i)
 
-pub slice_bounds-read_line-end : goal.slice_bounds-read_line-end
-slice_bounds-read_line-end c = omega (arith, there (goal.at.slice_bounds-read_line-end c).In-loop-i)
-
-pub overflow_mul-masks : goal.overflow_mul-masks
-overflow_mul-masks c = omega (arith, c.requires.few)
-
-pub offset_bounds-masks-i : goal.offset_bounds-masks-i
-offset_bounds-masks-i c = omega (arith, c.requires.few)
-
-pub bounds-masks-i : goal.bounds-masks-i
-bounds-masks-i c = omega (arith, c.requires.few)
-
-pub overflow_mul-masks-in-loop-i : goal.overflow_mul-masks-in-loop-i
-overflow_mul-masks-in-loop-i c = omega (arith, c.requires.few)
-
-pub overflow_add-masks : goal.overflow_add-masks
-overflow_add-masks c = omega (arith, c.requires.few)
-
-pub offset_bounds-masks-i-in-loop-i : goal.offset_bounds-masks-i-in-loop-i
-offset_bounds-masks-i-in-loop-i c = omega (arith, c.requires.few)
-
-pub bounds-masks-i-in-loop-i : goal.bounds-masks-i-in-loop-i
-bounds-masks-i-in-loop-i c = omega (arith, c.requires.few)
-
 pub next_line-at-requires : goal.next_line-at-requires
 next_line-at-requires c = omega (arith, there (goal.at.next_line-at-requires c).In-loop-i)
-
-pub overflow_add-i : goal.overflow_add-i
-overflow_add-i c = omega (arith, c.requires.few)

@@ -1,6 +1,5 @@
 -- `text_constraints::read::read_nevers` meets its contract: the names of the inputs, and then all lines. Assumes
 -- nothing.
-use borrow.Author.Rules.{rules}
 use Prim.Native.Nat.{ℕ, ◌*◌, ◌≤◌}
 use mathlib.Core.Path.{◌≡◌, ap, ◌∙◌}
 use mathlib.Core.List.{List}
@@ -25,12 +24,6 @@ unfolding never_lines
 table_of {text} {lines} i t is e =
     let n : lines.inputs ≡ length t.inputs = ap (λ (l : NeverLines). l.inputs) e in
     inputs_are is n (i.numbers t is n)
-
-pub input_names-requires : goal.input_names-requires
-input_names-requires c =
-    let start = c in
-    let r = start.requires.ready in
-    record { short = r.short; few = r.few_inputs; room = omega arith }
 
 pub returns-then-count-eq0 : goal.returns-then-count-eq0
 returns-then-count-eq0 c = λ t is e. none_told t _ (none-counted t e c.if-count-eq0.true)

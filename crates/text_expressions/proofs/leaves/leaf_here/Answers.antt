@@ -8,16 +8,18 @@ pub returns-then-c-eq48 : goal.returns-then-c-eq48
 unfolding constant_here
 returns-then-c-eq48 c =
     let a = c.args in
-    leaf-0 a.s.now a.names.now a.words.now a.unknown (sym c.byte_at-c.ensures ∙ c.if-c-eq48.true)
+    leaf-0 a.s.now a.symbols.now.names.now a.symbols.now.words.now a.unknown
+    (sym c.byte_at-c.ensures ∙ c.if-c-eq48.true)
 
 pub returns-then-c-eq49 : goal.returns-then-c-eq49
 unfolding constant_here
 returns-then-c-eq49 c =
     let a = c.args in
-    leaf-1 a.s.now a.names.now a.words.now a.unknown (sym c.byte_at-c.ensures ∙ c.if-c-eq49.true)
+    leaf-1 a.s.now a.symbols.now.names.now a.symbols.now.words.now a.unknown
+    (sym c.byte_at-c.ensures ∙ c.if-c-eq49.true)
 
 pub returns : goal.returns
 returns c =
     let a = c.args in
-    c.name_here.ensures ∙ leaf-name a.s.now a.names.now a.words.now a.unknown
+    c.name_here.ensures ∙ leaf-name a.s.now a.symbols.now.names.now a.symbols.now.words.now a.unknown
     (λ e. c.if-c-eq48.false (c.byte_at-c.ensures ∙ e)) (λ e. c.if-c-eq49.false (c.byte_at-c.ensures ∙ e))

@@ -7,14 +7,16 @@ use Rattle.text_expressions.proofs.leaves.name_here.Goals as goal
 pub overflow_sub-left : goal.overflow_sub-left
 overflow_sub-left c = omega (arith, c.name_length-length.ensures, front-shorter 8 c.args.s.now)
 
-pub returns-then-i-names : goal.returns-then-i-names
-returns-then-i-names c =
+pub returns-then-i-symbols : goal.returns-then-i-symbols
+returns-then-i-symbols c =
     let a = c.args in
-    name-found a.s.now a.names.now a.words.now a.unknown c.name_length-length.ensures c.pack_first.ensures
-    c.find_indexed-i.ensures c.if-i-names.true c.earlier-unknown.ensures
+    name-found a.s.now a.symbols.now.names.now a.symbols.now.words.now a.unknown c.name_length-length.ensures
+    c.pack_first.ensures
+    c.find_indexed-i.ensures c.if-i-symbols.true
 
 pub returns : goal.returns
 returns c =
     let a = c.args in
-    name-unknown a.s.now a.names.now a.words.now a.unknown c.name_length-length.ensures c.pack_first.ensures
-    c.find_indexed-i.ensures c.if-i-names.false c.earlier-unknown-2.ensures
+    name-unknown a.s.now a.symbols.now.names.now a.symbols.now.words.now a.unknown c.name_length-length.ensures
+    c.pack_first.ensures
+    c.find_indexed-i.ensures c.if-i-symbols.false c.or.ensures

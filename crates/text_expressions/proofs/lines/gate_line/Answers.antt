@@ -2,7 +2,6 @@
 use mathlib.Core.Path.{refl}
 use native.Mathlib.Omega.{arith}
 use Rattle.text_expressions.proofs.LineForms.{GateParts, gate-parts, gate-here, gate-left, gate-read}
-use borrow.Author.Rules.{rules}
 use Rattle.text_expressions.proofs.lines.gate_line.Goals.{After-name_length-at}
 use Rattle.text_expressions.proofs.lines.gate_line.Goals as goal
 
@@ -36,8 +35,8 @@ expression-one-requires c =
     let named = c in
     let start = named in
     let a = start.args in record {
-      term_here = gate-here a.s.now named.name_length-at.result named.name_length-at.ensures a.n a.names.now
-          a.words.now a.first a.gates.now start.requires.line_here;
+      term_here = gate-here a.s.now named.name_length-at.result named.name_length-at.ensures a.n a.symbols.now.names.now
+          a.symbols.now.words.now a.first a.gates.now start.requires.line_here;
       indexed = start.requires.indexed;
     }
 
@@ -46,8 +45,8 @@ overflow_sub-result c =
     let read = c in
     let named = read in
     let a = named.args in
-    gate-left a.s.now named.name_length-at.result named.name_length-at.ensures a.n a.names.now
-    a.words.now a.first a.gates.now
+    gate-left a.s.now named.name_length-at.result named.name_length-at.ensures a.n a.symbols.now.names.now
+    a.symbols.now.words.now a.first a.gates.now
     a.unknown read.expression-one.new.gates read.expression-one.result
     read.expression-one.ensures named.requires.line_here
 
@@ -56,8 +55,8 @@ returns c =
     let read = c in
     let named = read in
     let a = named.args in
-    gate-read a.s.now named.name_length-at.result named.name_length-at.ensures a.n a.names.now
-    a.words.now a.first a.gates.now
+    gate-read a.s.now named.name_length-at.result named.name_length-at.ensures a.n a.symbols.now.names.now
+    a.symbols.now.words.now a.first a.gates.now
     a.unknown read.expression-one.new.gates read.expression-one.result read.expression-one.ensures
 
 pub overflow_add-at : goal.overflow_add-at

@@ -1,69 +1,65 @@
 -- `text_expressions::lines::gate_lines` meets its contract: what is done so far and what the other lines add is what
 -- all add.
-use borrow.Author.Rules.{rules}
 use native.Mathlib.Omega.{arith}
-use Prim.Native.Nat.{◌-◌, ◌≤◌}
+use Prim.Native.Nat.{◌≤◌}
 use mathlib.Core.Path.{◌≡◌}
+use Rattle.std.specs.declared.option.Option.TheVariants.{None}
 use lib.ListN.{length}
 use Rattle.netlist.specs.Limits.{max_gates}
-use Rattle.text_expressions.specs.Lines.{gate_form, LinesOn}
+use Rattle.text_expressions.specs.Lines.{gate_form}
 use Rattle.text_expressions.proofs.LineForms.{gate-lawful}
 use Rattle.text_expressions.proofs.LineSteps.{lines_start, line-here, lines-kept, lines_step, lines_end}
-use Rattle.text_expressions.proofs.lines.gate_lines.Goals.{After-gate_line-one}
+use Rattle.text_expressions.proofs.lines.gate_lines.Goals.{After-gate_line-walked}
 use Rattle.text_expressions.proofs.lines.gate_lines.Goals as goal
 
-kept : (c : After-gate_line-one) → (c.gate_line-one.result.left ≤ length c.args.text.now)
-    × (length c.gate_line-one.new.gates ≡ length c.args.gates.now)
+kept : (c : After-gate_line-walked) → (c.gate_line-walked.result.left ≤ length c.args.text.now)
+    × (length c.gate_line-walked.new.gates ≡ length c.args.gates.now)
 kept c =
     let start = c in
     let a = start.args in
     let l = c.loop-i in
-    lines-kept gate_form gate-lawful a.lines a.text.now a.n a.names.now a.words.now 0
-    a.gates.now l.i l.left l.first
-    l.unknown l.gates l.invariant c.gate_line-one.new.gates c.gate_line-one.result
-    c.gate_line-one.ensures max_gates start.requires.lines_here c.loop-i-test.true
+    lines-kept gate_form gate-lawful a.lines a.text.now a.n a.symbols.now.names.now a.symbols.now.words.now None
+    a.gates.now l.i l.walked.left l.walked.number
+    l.walked.unknown l.gates l.invariant c.gate_line-walked.new.gates c.gate_line-walked.result
+    c.gate_line-walked.ensures max_gates start.requires.lines_here c.loop-i-test.true
 
 pub loop-i-init : goal.loop-i-init
 loop-i-init c =
     let a = c.args in
-    lines_start gate_form gate-lawful a.lines a.text.now a.n a.names.now a.words.now 0 a.gates.now
+    lines_start gate_form gate-lawful a.lines a.text.now a.n a.symbols.now.names.now a.symbols.now.words.now None
+    a.gates.now
 
-pub gate_line-one-requires : goal.gate_line-one-requires
-gate_line-one-requires c =
+pub gate_line-walked-requires : goal.gate_line-walked-requires
+gate_line-walked-requires c =
     let in-loop = c in
     let start = in-loop in
     let a = start.args in
     let l = in-loop.loop-i in record {
-      line_here = line-here gate_form gate-lawful a.lines a.text.now a.n a.names.now a.words.now 0 a.gates.now
-          l.i l.left l.first
-          l.unknown l.gates l.invariant max_gates start.requires.lines_here in-loop.loop-i-test.true;
+      line_here = line-here gate_form gate-lawful a.lines a.text.now a.n a.symbols.now.names.now
+          a.symbols.now.words.now None a.gates.now
+          l.i l.walked.left l.walked.number
+          l.walked.unknown l.gates l.invariant max_gates start.requires.lines_here in-loop.loop-i-test.true;
       indexed = start.requires.indexed;
     }
-
-pub overflow_add-i : goal.overflow_add-i
-overflow_add-i c =
-    let turn = c in
-    omega (arith, turn.loop-i-test.true, turn.ranges.lines.fits)
 
 pub loop-i-preserved : goal.loop-i-preserved
 loop-i-preserved c =
     let a = c.args in
     let l = c.loop-i in
-    let g = c.gate_line-one in
-    lines_step gate_form gate-lawful a.lines a.text.now a.n a.names.now a.words.now 0 a.gates.now
-    l.i l.left l.first
-    l.unknown l.gates l.invariant g.new.gates g.result g.ensures (kept (goal.at.loop-i-preserved c).After-gate_line-one)
+    let g = c.gate_line-walked in
+    lines_step gate_form gate-lawful a.lines a.text.now a.n a.symbols.now.names.now a.symbols.now.words.now None
+    a.gates.now
+    l.i l.walked.left l.walked.number
+    l.walked.unknown l.gates l.invariant g.new.gates g.result g.ensures (kept (goal.at.loop-i-preserved c).After-gate_line-walked)
     c.loop-i-test.true
 
 pub returns : goal.returns
 returns c =
     let a = c.args in
     let l = c.loop-i in
-    lines_end gate_form gate-lawful a.lines a.text.now a.n a.names.now a.words.now 0 a.gates.now
-    l.i l.left l.first l.unknown l.gates l.invariant c.loop-i-test.false
+    lines_end gate_form gate-lawful a.lines a.text.now a.n a.symbols.now.names.now a.symbols.now.words.now None
+    a.gates.now
+    l.i l.walked.left l.walked.number l.walked.unknown l.gates l.invariant c.loop-i-test.false
 
-pub overflow_sub-text : goal.overflow_sub-text
-overflow_sub-text c = omega (arith, c.loop-i.invariant.within)
-
-pub loop-i-smaller : goal.loop-i-smaller
-loop-i-smaller c = omega (arith, c.loop-i-test.true)
+pub overflow_sub-rest : goal.overflow_sub-rest
+overflow_sub-rest c = omega (arith, c.loop-i.invariant.within)

@@ -3,8 +3,6 @@ use mathlib.Core.Path.{refl}
 use native.Mathlib.Omega.{arith}
 use Rattle.text_expressions.proofs.LineForms.{output-parts, output-left, output-read}
 use Rattle.text_expressions.specs.Lines.{output_form}
-use Rattle.text_expressions.proofs.Walking.{table-lengths}
-use borrow.Author.Rules.{rules}
 use Rattle.text_expressions.proofs.lines.output_line.Goals as goal
 
 pub slice_bounds-name_length-count : goal.slice_bounds-name_length-count
@@ -40,14 +38,6 @@ slice_bounds-name_here-start c =
     let a = start.args in let p = start.requires.by_index.1 in (output-parts a.s.now c.name_length-at.result
     c.name_length-at.ensures p.line p.rest p.here).long
 
-pub name_here-shown-requires : goal.name_here-shown-requires
-name_here-shown-requires c =
-    let b = c in
-    let p = b.requires.by_index.1 in record {
-      words_len = table-lengths b.requires.by_index.0 p.bindings b.args.names.now b.args.words.now p.table;
-      indexed = b.requires.indexed;
-    }
-
 pub slice_bounds-pack-count : goal.slice_bounds-pack-count
 slice_bounds-pack-count c =
     let start = c in
@@ -73,7 +63,7 @@ overflow_sub-result c =
     let l = c in
     let p = s.requires.by_index.1 in
     output-left s.args.s.now b.name_length-at.result b.name_length-at.ensures s.requires.by_index.0
-    s.args.names.now s.args.words.now
+    s.args.symbols.now.names.now s.args.symbols.now.words.now
     s.args.first s.args.unknown s.args.outputs.now l.name_here-shown.result l.name_here-shown.ensures
     p.bindings p.line p.rest p.table p.here
 
@@ -85,8 +75,8 @@ returns c =
     let at-pack = c in
     let at-put-output = c in
     λ n.
-    output-read s.args.s.now b.name_length-at.result b.name_length-at.ensures n s.args.names.now
-    s.args.words.now s.args.first
+    output-read s.args.s.now b.name_length-at.result b.name_length-at.ensures n s.args.symbols.now.names.now
+    s.args.symbols.now.words.now s.args.first
     s.args.unknown s.args.outputs.now l.name_here-shown.result l.name_here-shown.ensures
     at-put-output.put_output.new.outputs
     at-pack.pack.result at-pack.pack.ensures at-put-output.put_output.ensures

@@ -37,7 +37,8 @@ expression-here t c =
 pub expression-loop-at-init : goal.expression-loop-at-init
 expression-loop-at-init t c =
     let a = c.args in
-    list-start a.s.now c.word_length-at.result a.n a.names.now a.words.now a.first a.unknown a.gates.now
+    list-start a.s.now c.word_length-at.result a.n a.symbols.now.names.now a.symbols.now.words.now a.first a.unknown
+    a.gates.now
     (omega (arith, (expression-here t c).measured)) refl
 
 -- ---- another operand stands here
@@ -53,7 +54,8 @@ module _ (t : ℕ) (c : expression-In-loop-at t) where
   there =
       let a = c.args in
       let l = c.loop-at in
-      operand-there a.s.now c.word_length-at.result a.n a.names.now a.words.now a.first a.unknown a.gates.now l.at
+      operand-there a.s.now c.word_length-at.result a.n a.symbols.now.names.now a.symbols.now.words.now a.first
+      a.unknown a.gates.now l.at
       l.count l.closed l.missing l.gates l.slots l.invariant another c.kind_here-kind.result c.requires.term_here
       (expression-here t begun)
 
@@ -61,7 +63,8 @@ module _ (t : ℕ) (c : expression-In-loop-at t) where
   slot =
       let a = c.args in
       let l = c.loop-at in
-      slot-there a.s.now c.word_length-at.result a.n a.names.now a.words.now a.first a.unknown a.gates.now l.at
+      slot-there a.s.now c.word_length-at.result a.n a.symbols.now.names.now a.symbols.now.words.now a.first
+      a.unknown a.gates.now l.at
       l.count l.closed l.missing l.gates l.slots l.invariant another c.kind_here-kind.result c.requires.term_here
       (expression-here t begun)
 
@@ -81,7 +84,8 @@ expression-operand-one-requires t c =
     let l = c.loop-at in (
       omega (arith, rest-length a.s.now (l.at + 1), there t turn, c.decreases),
       (
-        operand-here a.s.now c.word_length-at.result a.n a.names.now a.words.now a.first a.unknown a.gates.now l.at
+        operand-here a.s.now c.word_length-at.result a.n a.symbols.now.names.now a.symbols.now.words.now a.first
+            a.unknown a.gates.now l.at
             l.count l.closed l.missing l.gates l.slots l.invariant (another t turn) c.kind_here-kind.result
             c.requires.term_here (expression-here t (begun t turn)),
         c.requires.indexed,
@@ -99,7 +103,8 @@ module _ (t : ℕ) (c : expression-After-operand-one t) where
   kept =
       let a = c.args in
       let l = c.loop-at in
-      operand-kept a.s.now c.word_length-at.result a.n a.names.now a.words.now a.first a.unknown a.gates.now l.at
+      operand-kept a.s.now c.word_length-at.result a.n a.symbols.now.names.now a.symbols.now.words.now a.first
+      a.unknown a.gates.now l.at
       l.count l.closed l.missing l.gates l.slots l.invariant (another t turn) c.kind_here-kind.result
       c.requires.term_here (expression-here t (begun t turn)) c.operand-one.new.gates c.operand-one.result
       c.operand-one.ensures
@@ -124,7 +129,8 @@ expression-loop-at-preserved t c =
     let read = (goal.at.expression-loop-at-preserved t c).After-operand-one in
     let a = c.args in
     let l = c.loop-at in
-    list-step a.s.now c.word_length-at.result a.n a.names.now a.words.now a.first a.unknown a.gates.now l.at l.count
+    list-step a.s.now c.word_length-at.result a.n a.symbols.now.names.now a.symbols.now.words.now a.first a.unknown
+    a.gates.now l.at l.count
     l.closed l.missing l.gates l.slots l.invariant (another t (turn t read)) c.operand-one.new.gates
     c.operand-one.result c.operand-one.ensures (kept t read)
 
@@ -134,13 +140,15 @@ module _ (t : ℕ) (c : expression-After-loop-at t) where
   ended : get_or c.args.s.now c.loop-at.at 0 ≡ 41
   ended = sym c.byte_at.ensures ∙ c.loop-at-test.false
 
-  bounds : Bounded c.args.s.now c.word_length-at.result c.args.n c.args.names.now c.args.words.now c.args.first
+  bounds : Bounded c.args.s.now c.word_length-at.result c.args.n c.args.symbols.now.names.now
+      c.args.symbols.now.words.now c.args.first
       c.args.unknown c.args.gates.now c.loop-at.at c.loop-at.count c.loop-at.closed c.loop-at.missing c.loop-at.gates
       c.loop-at.slots c.loop-at.invariant ended c.kind_here-kind.result
   bounds =
       let a = c.args in
       let l = c.loop-at in
-      bounded a.s.now c.word_length-at.result a.n a.names.now a.words.now a.first a.unknown a.gates.now l.at l.count
+      bounded a.s.now c.word_length-at.result a.n a.symbols.now.names.now a.symbols.now.words.now a.first a.unknown
+      a.gates.now l.at l.count
       l.closed l.missing l.gates l.slots l.invariant ended c.kind_here-kind.result c.requires.term_here
       (expression-here t (goal.at.expression-After-loop-at t c).After-word_length-at)
 
@@ -174,7 +182,8 @@ pub expression-returns : goal.expression-returns
 expression-returns t c =
     let a = c.args in
     let l = c.loop-at in
-    expression-read a.s.now c.word_length-at.result a.n a.names.now a.words.now a.first a.unknown a.gates.now l.at
+    expression-read a.s.now c.word_length-at.result a.n a.symbols.now.names.now a.symbols.now.words.now a.first
+    a.unknown a.gates.now l.at
     l.count l.closed l.missing l.gates l.slots l.invariant
     (ended t (goal.at.expression-returns t c).After-loop-at) c.kind_here-kind.result c.put_gate.new.gates
     (expression-inside t (goal.at.expression-returns t c).After-word_length-at) c.put_gate.ensures
@@ -187,7 +196,8 @@ operand-expression-requires t c =
     let bracket = sym c.byte_at.ensures ∙ c.if-byte_at-eq40.true in (
       omega (arith, rest-length a.s.now 1, byte-there a.s.now refl bracket (omega arith), c.decreases),
       (
-        opened-here a.s.now a.n a.names.now a.words.now a.first a.gates.now bracket c.requires.term_here,
+        opened-here a.s.now a.n a.symbols.now.names.now a.symbols.now.words.now a.first a.gates.now bracket
+            c.requires.term_here,
         c.requires.indexed,
       ),
     )
@@ -195,11 +205,13 @@ operand-expression-requires t c =
 pub operand-returns-then-byte_at-eq40 : goal.operand-returns-then-byte_at-eq40
 operand-returns-then-byte_at-eq40 t c =
     let a = c.args in
-    opened-read a.s.now a.n a.names.now a.words.now a.first a.gates.now a.unknown c.expression.new.gates
+    opened-read a.s.now a.n a.symbols.now.names.now a.symbols.now.words.now a.first a.gates.now a.unknown
+    c.expression.new.gates
     c.expression.result (sym c.byte_at.ensures ∙ c.if-byte_at-eq40.true) c.expression.ensures
 
 pub operand-returns : goal.operand-returns
 operand-returns t c =
     let a = c.args in
-    leaf-read a.s.now a.n a.names.now a.words.now a.first a.gates.now a.unknown c.leaf_here-leaf.result
+    leaf-read a.s.now a.n a.symbols.now.names.now a.symbols.now.words.now a.first a.gates.now a.unknown
+    c.leaf_here-leaf.result
     c.leaf_here-leaf.ensures (λ e. c.if-byte_at-eq40.false (c.byte_at.ensures ∙ e))

@@ -13,7 +13,8 @@ decreases-operand l = length l.s.now
 
 abbrev pub invariant-expression-loop-at : goal.invariant-expression-loop-at
 invariant-expression-loop-at l =
-    ListOn l.s l.initial.at l.n l.names l.words l.first l.unknown l.initial.gates l.at l.count l.closed l.missing
+    ListOn l.s l.initial.at l.n l.symbols.names.now l.symbols.words.now l.first l.fn.unknown l.initial.gates l.at
+    l.count l.closed l.missing
     l.gates l.slots
 
 abbrev pub decreases-expression-loop-at : goal.decreases-expression-loop-at

@@ -1,12 +1,10 @@
 -- `text_lines::counts::count_behind` meets its contract: what was counted and what is left to count are the whole
 -- count.
-use Prim.Native.Nat.{◌+◌, ◌-◌, ◌≤◌}
+use Prim.Native.Nat.{◌+◌, ◌-◌}
 use mathlib.Core.Path.{◌≡◌}
 use native.Mathlib.Omega.{arith}
-use lib.ListN.{length, get_or, drop}
+use lib.ListN.{get_or}
 use lib.Dec.{eqb}
-use borrow.Author.Rules.{rules}
-use Rattle.text_lines.specs.Counting.{times_behind}
 use Rattle.text_lines.proofs.Behind.{both-le, behind_more, behind-end, behind-le}
 use Rattle.text_lines.proofs.counts.count_behind.Goals as goal
 

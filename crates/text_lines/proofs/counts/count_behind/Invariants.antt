@@ -2,16 +2,9 @@
 -- count.
 use Prim.Native.Nat.{◌+◌, ◌-◌, ◌≤◌}
 use mathlib.Core.Path.{◌≡◌}
-use native.Mathlib.Omega.{arith}
-use lib.ListN.{length, get_or, drop}
-use lib.Dec.{eqb}
-use borrow.Author.Rules.{rules}
+use lib.ListN.{drop}
 use Rattle.text_lines.specs.Counting.{times_behind}
-use Rattle.text_lines.proofs.Behind.{both-le, behind_more, behind-end, behind-le}
 use Rattle.text_lines.proofs.counts.count_behind.Given as goal
 
 abbrev pub invariant-loop-i : goal.invariant-loop-i
 invariant-loop-i l = record { some : 1 ≤ l.i; counts : l.n + times_behind l.a l.b (drop (l.i - 1) l.s) ≡ times_behind l.a l.b l.s }
-
-abbrev pub decreases-loop-i : goal.decreases-loop-i
-decreases-loop-i l = length l.s - l.i

@@ -1,5 +1,4 @@
 -- `text_lines::counts::count_bytes` meets its contract.
-use borrow.Author.Rules.{rules}
 use Rattle.text_lines.specs.Counting.{counts_of}
 use Rattle.text_lines.proofs.counts.count_bytes.Goals as goal
 
@@ -8,9 +7,9 @@ unfolding counts_of
 returns c =
     let named = c in
     rw (
-      c.minus-2.ensures,
+      c.saturating_sub-2.ensures,
       c.count.ensures,
-      c.minus.ensures,
+      c.saturating_sub.ensures,
       named.count_behind-named.ensures,
       named.count-lines.ensures,
     )

@@ -3,7 +3,6 @@ use mathlib.Core.Path.{ap, ◌∙◌}
 use Rattle.netlist.specs.declared.Refusal.TheVariants.{OverLimit}
 use Rattle.words_refusals.specs.Tests.{test_of}
 use Rattle.text_lines.proofs.TreeCounts.{limits-are}
-use borrow.Author.Rules.{rules}
 use Rattle.text_lines.proofs.counts.limits.Goals as goal
 
 pub returns : goal.returns

@@ -1,6 +1,5 @@
 -- `text_lines::counts::tally` meets its contract, by the law on the counts of bytes.
 use mathlib.Core.Path.{◌∙◌}
-use borrow.Author.Rules.{rules}
 use Rattle.text_lines.proofs.TreeCounts.{counts-are}
 use Rattle.text_lines.proofs.counts.tally.Goals as goal
 

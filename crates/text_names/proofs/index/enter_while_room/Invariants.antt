@@ -1,13 +1,7 @@
 -- `text_names::index::enter_while_room` meets its contract: the names passed are in the index, and none repeats one
 -- before it.
-use Prim.Native.Nat.{◌-◌}
-use native.Mathlib.Omega.{arith}
-use lib.ListN.{length}
-use Rattle.text_names.proofs.Indexing.{Holding, holding-none, holding-more, room-sized}
+use Rattle.text_names.proofs.Indexing.{Entering}
 use Rattle.text_names.proofs.index.enter_while_room.Given as goal
 
 abbrev pub invariant-loop-i : goal.invariant-loop-i
-invariant-loop-i l = Holding l.names l.initial.index l.i l.index
-
-abbrev pub decreases-loop-i : goal.decreases-loop-i
-decreases-loop-i l = length l.names - l.i
+invariant-loop-i l = Entering l.names l.initial.index l.i l.index

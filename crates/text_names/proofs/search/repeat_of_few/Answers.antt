@@ -1,19 +1,14 @@
--- `text_names::search::repeat_of_few` meets its contract: no name passed repeats one before it.
-use Prim.Native.Nat.{◌-◌}
-use native.Mathlib.Omega.{arith}
+-- `text_names::search::repeat_of_few` meets its contract: the first of the numbers whose name repeats one before it.
+use borrow.Author.Rules.{rules}
+use borrow.Author.Tests.{tests}
 use lib.ListN.{length}
+use mathlib.Core.Path.{◌∙◌}
+use Rattle.prelude.proofs.Ranges.{least-of_range}
 use Rattle.text_names.specs.Search.{repeats_at}
-use Rattle.text_names.proofs.Searching.{Sought, sought-none, sought-more, sought-here, sought-all}
 use Rattle.text_names.proofs.search.repeat_of_few.Goals as goal
 
-pub returns-then-repeats : goal.returns-then-repeats
-returns-then-repeats c = sought-here c.loop-i.invariant (omega arith) c.repeats.ensures c.if-repeats.true
-
-pub loop-i-preserved : goal.loop-i-preserved
-loop-i-preserved c = sought-more c.loop-i.invariant (omega arith) c.repeats.ensures c.if-repeats.false
-
-pub loop-i-init : goal.loop-i-init
-loop-i-init c = sought-none
-
 pub returns : goal.returns
-returns c = sought-all c.loop-i.invariant (omega arith)
+returns c =
+    let s = c.args.names.now in
+    c.unwrap_or.ensures
+    ∙ least-of_range _ c.find.result (repeats_at s) (length s) c.find.ensures.ran (λ x b q k. search (rules, tests))

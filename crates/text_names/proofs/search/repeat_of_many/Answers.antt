@@ -5,7 +5,6 @@ use native.Mathlib.Omega.{arith}
 use Rattle.text_names.specs.Index.{hashes}
 use Rattle.text_names.proofs.Indexing.{held_new}
 use Rattle.text_names.proofs.Searching.{sought-here, sought-all}
-use borrow.Author.Rules.{rules}
 use Rattle.text_names.proofs.search.repeat_of_many.Goals as goal
 
 pub enter_while_room-i-requires : goal.enter_while_room-i-requires
@@ -15,9 +14,9 @@ enter_while_room-i-requires c =
 pub returns-then-names-i : goal.returns-then-names-i
 returns-then-names-i c =
     let entered = c in
-    sought-all entered.enter_while_room-i.ensures (omega arith)
+    sought-all entered.enter_while_room-i.ensures.sought (omega arith)
 
 pub returns-then-repeats : goal.returns-then-repeats
 returns-then-repeats c =
     let entered = c in
-    sought-here entered.enter_while_room-i.ensures (omega arith) c.repeats.ensures c.if-repeats.true
+    sought-here entered.enter_while_room-i.ensures.sought (omega arith) c.repeats.ensures c.if-repeats.true

@@ -1,5 +1,4 @@
 -- `text_names::search::repeats` meets its contract.
-use borrow.Author.Rules.{rules}
 use Rattle.text_names.specs.Search.{repeats_at}
 use Rattle.text_names.proofs.search.repeats.Goals as goal
 

@@ -1,20 +1,16 @@
--- `text_pairs::given::first_outside` meets its contract: every name passed is an input. Assumes nothing.
-use Prim.Native.Nat.{◌-◌}
-use native.Mathlib.Omega.{arith}
-use Rattle.text_names.proofs.Searching.{Sought, sought-none, sought-more, sought-here, sought-all}
+-- `text_pairs::given::first_outside` meets its contract: the chain answers with the first number that passes its test.
+-- Assumes nothing.
+use borrow.Author.Rules.{rules}
+use borrow.Author.Tests.{tests}
+use mathlib.Core.Path.{◌∙◌}
+use lib.ListN.{length}
+use Rattle.prelude.proofs.Ranges.{least-of_range}
 use Rattle.text_pairs.specs.Tables.{is_outside}
 use Rattle.text_pairs.proofs.given.first_outside.Goals as goal
 
-pub returns-then-is_outside : goal.returns-then-is_outside
-returns-then-is_outside c =
-    sought-here c.loop-i.invariant (omega arith) c.is_outside.ensures c.if-is_outside.true
-
-pub loop-i-preserved : goal.loop-i-preserved
-loop-i-preserved c =
-    sought-more c.loop-i.invariant (omega arith) c.is_outside.ensures c.if-is_outside.false
-
-pub loop-i-init : goal.loop-i-init
-loop-i-init c = sought-none
-
 pub returns : goal.returns
-returns c = sought-all c.loop-i.invariant (omega arith)
+unfolding is_outside
+returns c =
+    let a = c.args in
+    c.unwrap_or.ensures ∙ least-of_range _ _ (is_outside a.names.now a.inputs.now (length a.inputs.now)) (length a.names.now) c.find.ensures.ran
+    (λ x b q k. search (rules, tests))

@@ -1,6 +1,4 @@
 -- `text_pairs::numbers::pair_place` meets its contract: one pair is passed a turn. Assumes nothing.
-use borrow.Author.Rules.{rules}
-use Prim.Native.Nat.{◌-◌, ◌≤◌}
 use mathlib.Core.Path.{◌≡◌, refl}
 use native.Mathlib.Omega.{arith}
 use Rattle.text_pairs.specs.PairBytes.{pair_place}

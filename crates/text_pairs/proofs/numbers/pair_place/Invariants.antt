@@ -1,15 +1,8 @@
 -- `text_pairs::numbers::pair_place` meets its contract: one pair is passed a turn. Assumes nothing.
-use borrow.Author.Rules.{rules}
-use Prim.Native.Nat.{◌-◌, ◌≤◌}
-use mathlib.Core.Path.{◌≡◌, refl}
-use native.Mathlib.Omega.{arith}
+use Prim.Native.Nat.{◌≤◌}
+use mathlib.Core.Path.{◌≡◌}
 use Rattle.text_pairs.specs.PairBytes.{pair_place}
-use Rattle.text_pairs.proofs.PairPlaces.{here-short, place-next}
-use Rattle.text_pairs.proofs.NumberLaws.{place-far}
 use Rattle.text_pairs.proofs.numbers.pair_place.Given as goal
 
 abbrev pub invariant-loop-k : goal.invariant-loop-k
 invariant-loop-k l = (l.k ≤ l.i) × (l.place ≡ pair_place l.s l.at l.k)
-
-abbrev pub decreases-loop-k : goal.decreases-loop-k
-decreases-loop-k l = l.i - l.k

@@ -1,5 +1,4 @@
 -- `text_pairs::tables::code_front` meets its contract: a name has at most 8 bytes. Assumes nothing.
-use borrow.Author.Rules.{rules}
 use native.Mathlib.Omega.{arith}
 use borrow.Author.Tests.{eq-eqb, ne_eqb}
 use Rattle.text_names.proofs.Packing.{front_length}

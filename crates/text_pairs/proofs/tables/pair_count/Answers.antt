@@ -1,5 +1,4 @@
 -- `text_pairs::tables::pair_count` meets its contract. Assumes nothing.
-use borrow.Author.Rules.{rules}
 use Rattle.prelude.proofs.Elements.{rest-is-drop}
 use Rattle.text_pairs.proofs.tables.pair_count.Goals as goal
 

@@ -2,7 +2,6 @@
 use Prim.Native.Nat.{◌≤◌}
 use native.Mathlib.Omega.{arith}
 use lib.ListN.{length}
-use borrow.Author.Rules.{rules}
 use Rattle.netlist.specs.Writing.{decimal}
 use Rattle.text_pieces.proofs.Appending.{appended_then}
 use Rattle.text_pieces.proofs.Lines.{told_line, number_short, line-told}

@@ -1,7 +1,7 @@
 -- The cycle of calls {expression, operand, operands}. Bytes left fall: each measure is twice the length of the text,
 -- one more for an expression, whose operands may begin where it does. The loop's invariant: the answer is that of the
--- operands still to come, on the bytes left.
-use Prim.Native.Nat.{suc, ◌-◌, ◌*◌}
+-- operands still to come, on what is left.
+use Prim.Native.Nat.{suc, ◌*◌}
 use lib.ListN.{length}
 use Rattle.netlist.specs.Parse.{term_reader}
 use Rattle.text_recogniser.proofs.OperandSteps.{OperandsLeft}
@@ -17,7 +17,4 @@ abbrev pub decreases-operands : goal.decreases-operands
 decreases-operands l = 2 * length l.s.now
 
 abbrev pub invariant-operands-loop-i : goal.invariant-operands-loop-i
-invariant-operands-loop-i l = OperandsLeft (term_reader l.depth) l.s l.most l.needed l.i l.left
-
-abbrev pub decreases-operands-loop-i : goal.decreases-operands-loop-i
-decreases-operands-loop-i l = l.most - l.i
+invariant-operands-loop-i l = OperandsLeft (term_reader l.depth) l.s l.most l.needed l.i l.rest

@@ -1,52 +1,31 @@
--- `text_recogniser::keywords::kind_here` meets its contract: each way out is one side of the definition's choices.
+-- `text_recogniser::keywords::kind_here` meets its contract: each arm is one side of the definition's choices.
 use mathlib.Core.Path.{sym, ◌∙◌, ap}
+use native.Mathlib.Omega.{arith}
 use Rattle.text_recogniser.specs.Keywords.{kind_behind_x}
 use Rattle.text_recogniser.proofs.KeywordLaws.{kind-and, kind-or, kind-x, kind-nand, kind-not, kind-nor}
 use Rattle.text_recogniser.proofs.keywords.kind_here.Goals as goal
 
-pub returns-then-c-eq-AND_A : goal.returns-then-c-eq-AND_A
-returns-then-c-eq-AND_A c = let read = c in kind-and read.args.s.now
-    (sym read.byte_at-c.ensures ∙ c.if-c-eq-AND_A.true)
+pub returns-in-97 : goal.returns-in-97
+returns-in-97 c = kind-and c.args.s.now (sym c.byte_at.ensures ∙ c.in-97.is)
 
-pub returns-then-c-eq-OR_O : goal.returns-then-c-eq-OR_O
-returns-then-c-eq-OR_O c = let read = c in kind-or read.args.s.now
-    (sym read.byte_at-c.ensures ∙ c.if-c-eq-OR_O.true)
+pub returns-in-111 : goal.returns-in-111
+returns-in-111 c = kind-or c.args.s.now (sym c.byte_at.ensures ∙ c.in-111.is)
 
-pub returns-then-c-eq-XOR_X : goal.returns-then-c-eq-XOR_X
-returns-then-c-eq-XOR_X c =
-    let asked = c in
-    let read = asked in
+pub returns-in-120 : goal.returns-in-120
+returns-in-120 c =
     c.kind_behind_x.ensures
-    ∙ ap kind_behind_x c.byte_at.ensures
-    ∙ kind-x read.args.s.now (sym read.byte_at-c.ensures ∙ asked.if-c-eq-XOR_X.true)
+    ∙ ap kind_behind_x c.byte_at-in-120.ensures
+    ∙ kind-x c.args.s.now (sym c.byte_at.ensures ∙ c.in-120.is)
 
-pub returns-then-byte_at-eq-NAND_A : goal.returns-then-byte_at-eq-NAND_A
-returns-then-byte_at-eq-NAND_A c =
-    let asked = c in
-    let read = asked in
-    let e = read.byte_at-c.ensures in
-    kind-nand read.args.s.now (λ z. asked.if-c-eq-AND_A.false (e ∙ z))
-    (λ z. asked.if-c-eq-OR_O.false (e ∙ z))
-    (λ z. asked.if-c-eq-XOR_X.false (e ∙ z)) (sym c.byte_at-2.ensures ∙ c.if-byte_at-eq-NAND_A.true)
+pub returns-in_default : goal.returns-in_default
+returns-in_default c =
+    kind-nand c.args.s.now (λ z. omega arith) (λ z. omega arith) (λ z. omega arith) (omega arith)
 
-pub returns-then-byte_at-eq-NOT_T : goal.returns-then-byte_at-eq-NOT_T
-returns-then-byte_at-eq-NOT_T c =
-    let second = c in
-    let asked = second in
-    let read = asked in
-    let e = read.byte_at-c.ensures in
-    kind-not read.args.s.now (λ z. asked.if-c-eq-AND_A.false (e ∙ z))
-    (λ z. asked.if-c-eq-OR_O.false (e ∙ z))
-    (λ z. asked.if-c-eq-XOR_X.false (e ∙ z)) (λ z. second.if-byte_at-eq-NAND_A.false (second.byte_at-2.ensures ∙ z))
-    (sym c.byte_at-3.ensures ∙ c.if-byte_at-eq-NOT_T.true)
+pub returns-in_default-2 : goal.returns-in_default-2
+returns-in_default-2 c =
+    kind-not c.args.s.now (λ z. omega arith) (λ z. omega arith) (λ z. omega arith) (λ z. omega arith) (omega arith)
 
-pub returns-else-byte_at-eq-NOT_T : goal.returns-else-byte_at-eq-NOT_T
-returns-else-byte_at-eq-NOT_T c =
-    let second = c in
-    let asked = second in
-    let read = asked in
-    let e = read.byte_at-c.ensures in
-    kind-nor read.args.s.now (λ z. asked.if-c-eq-AND_A.false (e ∙ z))
-    (λ z. asked.if-c-eq-OR_O.false (e ∙ z))
-    (λ z. asked.if-c-eq-XOR_X.false (e ∙ z)) (λ z. second.if-byte_at-eq-NAND_A.false (second.byte_at-2.ensures ∙ z))
-    (λ z. c.if-byte_at-eq-NOT_T.false (c.byte_at-3.ensures ∙ z))
+pub returns-in_default-3 : goal.returns-in_default-3
+returns-in_default-3 c =
+    kind-nor c.args.s.now (λ z. omega arith) (λ z. omega arith) (λ z. omega arith) (λ z. omega arith)
+    (λ z. omega arith)

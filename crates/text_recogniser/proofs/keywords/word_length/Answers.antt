@@ -7,7 +7,5 @@ use Rattle.text_recogniser.proofs.keywords.word_length.Goals as goal
 
 pub returns : goal.returns
 returns c =
-    let r = c.trimmed_length in
-    let read = c in
-    word_read read.args.kind r.result _
-    (ap (λ (s : Signature). s.keyword) read.signature_of-signature.ensures) r.ensures.0 r.ensures.1
+    word_read c.args.kind c.trimmed_length.result _
+    (ap (λ (s : Signature). s.keyword) c.signature_of.ensures) c.trimmed_length.ensures.0 c.trimmed_length.ensures.1

@@ -1,13 +1,22 @@
--- `text_recogniser::lines::never_line` meets its contract: a chain of calls, each behind what the one before found.
-use Rattle.text_recogniser.proofs.Chain.{begin, step, finish}
+-- `text_recogniser::lines::never_line` meets its contract: a chain of readers, each on what the one before has left.
+use mathlib.Core.Path.{sym, ◌∙◌}
+use Rattle.std.proofs.Common.{rules}
+use Rattle.netlist.specs.Parse.{never_pairs}
+use Rattle.text_recogniser.proofs.Chain.{goes-on, breaks-off}
 use Rattle.text_recogniser.proofs.LineSteps.{never-word, never-pairs}
 use Rattle.text_recogniser.proofs.lines.never_line.Goals as goal
 
+pub returns-in_err-word : goal.returns-in_err-word
+returns-in_err-word c = search (rules, breaks-off never-word)
+
+pub returns-in_err-pairs : goal.returns-in_err-pairs
+unfolding never_pairs
+returns-in_err-pairs c = search (rules, goes-on never-word, breaks-off never-pairs)
+
 pub returns : goal.returns
+unfolding never_pairs
 returns c =
-    let a = c in
-    let opened = c in
-    let closed = c in
-    let b1 = begin never-word a.args.s.now opened.word-opened.ensures in
-    let b2 = step b1 never-pairs closed.then_never_pairs-closed.ensures in
-    finish b2 c.then_word.ensures
+    c.word-2.ensures
+    ∙ sym
+    (goes-on never-word _ c.in_ok-word.ensures c.behind-s.ensures
+    ∙ goes-on never-pairs _ c.in_ok-pairs.ensures c.behind-s-2.ensures)

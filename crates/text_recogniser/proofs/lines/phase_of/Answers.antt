@@ -1,35 +1,26 @@
--- `text_recogniser::lines::phase_of` meets its contract: the tests are the definition's.
-use mathlib.Core.Path.{sym}
-use borrow.Author.Tests.{eq-eqb, ne_eqb}
+-- `text_recogniser::lines::phase_of` meets its contract: the arms are the definition's tests.
+use native.Mathlib.Omega.{arith}
+use borrow.Author.Tests.{ne_eqb}
 use Rattle.text_recogniser.specs.Scan.{phase_of}
 use Rattle.text_recogniser.proofs.lines.phase_of.Goals as goal
 
-pub returns-then-letter-eq105 : goal.returns-then-letter-eq105
+pub returns-in-105 : goal.returns-in-105
 unfolding phase_of
-returns-then-letter-eq105 c = rw (eq-eqb 105 c.args.letter (sym c.if-letter-eq105.true))
+returns-in-105 c = rw c.in-105.is
 
-pub returns-then-letter-eq110 : goal.returns-then-letter-eq110
+pub returns-in-110 : goal.returns-in-110
 unfolding phase_of
-returns-then-letter-eq110 c =
-    rw (
-      ne_eqb 105 c.args.letter (λ e. c.if-letter-eq105.false (sym e)),
-      eq-eqb 110 c.args.letter (sym c.if-letter-eq110.true),
-    )
+returns-in-110 c = rw c.in-110.is
 
-pub returns-then-letter-eq103 : goal.returns-then-letter-eq103
+pub returns-in-103 : goal.returns-in-103
 unfolding phase_of
-returns-then-letter-eq103 c =
-    rw (
-      ne_eqb 105 c.args.letter (λ e. c.if-letter-eq105.false (sym e)),
-      ne_eqb 110 c.args.letter (λ e. c.if-letter-eq110.false (sym e)),
-      eq-eqb 103 c.args.letter (sym c.if-letter-eq103.true),
-    )
+returns-in-103 c = rw c.in-103.is
 
-pub returns : goal.returns
+pub returns-in_default : goal.returns-in_default
 unfolding phase_of
-returns c =
+returns-in_default c =
     rw (
-      ne_eqb 105 c.args.letter (λ e. c.if-letter-eq105.false (sym e)),
-      ne_eqb 110 c.args.letter (λ e. c.if-letter-eq110.false (sym e)),
-      ne_eqb 103 c.args.letter (λ e. c.if-letter-eq103.false (sym e)),
+      ne_eqb 105 c.args.letter (λ e. omega arith),
+      ne_eqb 110 c.args.letter (λ e. omega arith),
+      ne_eqb 103 c.args.letter (λ e. omega arith),
     )

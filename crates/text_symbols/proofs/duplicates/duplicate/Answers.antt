@@ -4,14 +4,10 @@ use mathlib.Core.Path.{◌≡◌, sym}
 use native.Mathlib.Omega.{arith}
 use lib.Seq.{length-take-le}
 use borrow.Author.Rules.{rules}
-use Rattle.netlist.specs.declared.Refusal.{Refusal}
-use Rattle.words_refusals.specs.declared.Test.TheVariants.{Failed, Passed}
+use Rattle.words_refusals.proofs.Promised.{not-err}
 use Rattle.text_symbols.proofs.Room.{nodes-none}
 use Rattle.text_symbols.proofs.TreeSearch.{node-repeats, port-repeats, none-repeats}
 use Rattle.text_symbols.proofs.duplicates.duplicate.Goals as goal
-
-failed-passed : {A : Type 0} {why : Refusal} → Failed why ≡ Passed → A
-failed-passed e = let z : ◌≡◌ {A = ℕ} 0 1 = cc in absurd (omega arith)
 
 pub slice_bounds-enter_all-end : goal.slice_bounds-enter_all-end
 slice_bounds-enter_all-end c =
@@ -34,7 +30,7 @@ returns-then-i-nodes c =
           s.args.places.now table
           s.requires.number_room s.requires.place_room at-enter.enter_all-i.result at-enter.enter_all-i.ensures.answer
           c.if-i-nodes.true;
-      indexed = λ e. failed-passed e;
+      indexed = λ e. absurd (not-err e);
     }
 
 pub returns-then-j-ports : goal.returns-then-j-ports
@@ -50,7 +46,7 @@ returns-then-j-ports c =
           s.requires.number_room s.requires.place_room at-enter.enter_all-i.result at-enter.enter_all-i.ensures.answer
           at-if1.if-i-nodes.false
           at-port.repeat_of_few-j.result at-port.repeat_of_few-j.ensures c.if-j-ports.true;
-      indexed = λ e. failed-passed e;
+      indexed = λ e. absurd (not-err e);
     }
 
 pub returns : goal.returns

@@ -3,7 +3,6 @@
 use mathlib.Core.Path.{◌∙◌}
 use Rattle.text_symbols.proofs.FillSteps.{filled-sizes}
 use Rattle.text_symbols.proofs.TreeTable.{names-sized, tables-are}
-use borrow.Author.Rules.{rules}
 use Rattle.text_symbols.proofs.table.declare.Goals as goal
 
 pub returns : goal.returns

@@ -1,9 +1,8 @@
 -- `text_symbols::table::fill_lines` meets its contract: one line a turn, read from the rest of the text.
-use Prim.Native.Nat.{◌+◌, ◌-◌, ◌≤◌}
+use Prim.Native.Nat.{◌+◌, ◌≤◌}
 use mathlib.Core.Path.{refl}
 use native.Mathlib.Omega.{arith}
 use lib.ListN.{length}
-use Rattle.text_symbols.specs.Tables.{FillNow}
 use Rattle.text_symbols.proofs.FillSteps.{fill_start, line-start, rest-short, line-sizes, fill-next, fill_done}
 use Rattle.text_symbols.proofs.FillSteps.{line_word-le}
 use Rattle.text_symbols.proofs.table.fill_lines.Goals.{After-line_of-line}

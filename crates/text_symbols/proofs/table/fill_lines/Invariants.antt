@@ -1,16 +1,7 @@
 -- `text_symbols::table::fill_lines` meets its contract: one line a turn, read from the rest of the text.
-use Prim.Native.Nat.{◌+◌, ◌-◌, ◌≤◌}
-use mathlib.Core.Path.{refl}
-use native.Mathlib.Omega.{arith}
-use lib.ListN.{length}
 use Rattle.text_symbols.specs.Tables.{FillNow}
-use Rattle.text_symbols.proofs.FillSteps.{fill_start, line-start, rest-short, line-sizes, fill-next, fill_done}
-use Rattle.text_symbols.proofs.FillSteps.{line_word-le}
 use Rattle.text_symbols.proofs.table.fill_lines.Given as goal
 
 abbrev pub invariant-loop-i : goal.invariant-loop-i
 invariant-loop-i l =
     FillNow l.text l.from l.n l.first l.lines l.initial.places l.initial.words l.i l.at l.gates l.places l.words
-
-abbrev pub decreases-loop-i : goal.decreases-loop-i
-decreases-loop-i l = l.lines - l.i

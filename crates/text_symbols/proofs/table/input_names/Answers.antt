@@ -1,10 +1,7 @@
 -- `text_symbols::table::input_names` meets its contract: one line a turn, read from the rest of the text; the first n
 -- lines are the inputs'.
-use Prim.Native.Nat.{◌-◌}
 use mathlib.Core.Path.{refl, ◌∙◌}
 use native.Mathlib.Omega.{arith}
-use borrow.Author.Rules.{rules}
-use Rattle.text_symbols.specs.Tables.{NamesNow}
 use Rattle.text_symbols.proofs.FillSteps.{names-start, name-start, names-rest, name-sizes, names-next}
 use Rattle.text_symbols.proofs.FillSteps.{names-sized, names-done}
 use Rattle.text_symbols.proofs.TreeTable.{inputs-named}

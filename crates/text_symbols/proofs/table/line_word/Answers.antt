@@ -2,7 +2,6 @@
 use mathlib.Core.Path.{◌≡◌}
 use native.Mathlib.Omega.{arith}
 use borrow.Author.Tests.{lt-ltb, le-ltb}
-use borrow.Author.Rules.{rules}
 use Rattle.text_symbols.specs.Tables.{line_word}
 use Rattle.text_symbols.proofs.table.line_word.Goals as goal
 

@@ -1,10 +1,10 @@
 -- `unroll_depth::group::more_passes` meets its contract: each turn makes a pass that some setting needs.
 use mathlib.Core.Path.{refl}
-use Prim.Native.Nat.{◌+◌, ◌-◌, ◌≤◌}
+use Prim.Native.Nat.{◌+◌, ◌≤◌}
 use native.Mathlib.Omega.{arith}
 use Rattle.netlist.specs.Limits.{max_copies}
 use Rattle.unroll_depth.proofs.GroupLaws.{group-there, group-nodes, group-few, passed-proper}
-use Rattle.unroll_depth.proofs.PassLaws.{batch-few, size-some, sofar-small, Passing, passing-first}
+use Rattle.unroll_depth.proofs.PassLaws.{batch-few, size-some, sofar-small, passing-first}
 use Rattle.unroll_depth.proofs.PassLaws.{passing-more, passing-done}
 use Rattle.unroll_depth.proofs.group.more_passes.Goals.{After-lacks}
 use Rattle.unroll_depth.proofs.group.more_passes.Goals as goal

@@ -1,11 +1,7 @@
 -- `unroll_depth::group::more_passes` meets its contract: each turn makes a pass that some setting needs.
-use mathlib.Core.Path.{refl}
-use Prim.Native.Nat.{◌+◌, ◌-◌, ◌≤◌}
-use native.Mathlib.Omega.{arith}
+use Prim.Native.Nat.{◌+◌, ◌-◌}
 use Rattle.netlist.specs.Limits.{max_copies}
-use Rattle.unroll_depth.proofs.GroupLaws.{group-there, group-nodes, group-few, passed-proper}
-use Rattle.unroll_depth.proofs.PassLaws.{batch-few, size-some, sofar-small, Passing, passing-first}
-use Rattle.unroll_depth.proofs.PassLaws.{passing-more, passing-done}
+use Rattle.unroll_depth.proofs.PassLaws.{Passing}
 use Rattle.unroll_depth.proofs.group.more_passes.Given as goal
 
 abbrev pub invariant-loop-total : goal.invariant-loop-total

@@ -1,18 +1,10 @@
 -- `unroll_depth::group::run_passes` meets its contract: after p turns p passes are made.
-use mathlib.Core.Path.{◌≡◌}
 use mathlib.Core.Bool.{false}
-use Prim.Native.Nat.{◌-◌, ◌≤◌}
-use native.Mathlib.Numerals.{add-one}
-use native.Mathlib.Omega.{arith}
 use Rattle.prelude.specs.Lists.{repeated}
 use Rattle.lanes_batch.specs.Layered.{part}
 use Rattle.unroll_depth.specs.Passes.{Ran}
-use Rattle.unroll_depth.proofs.GroupLaws.{ran-none, ran_then}
 use Rattle.unroll_depth.proofs.group.run_passes.Given as goal
 
 abbrev pub invariant-loop-p : goal.invariant-loop-p
 invariant-loop-p l =
-    (l.p ≤ l.passes) × Ran l.graph (repeated l.p (part false l.members l.from l.end)) l.initial.lanes l.lanes
-
-abbrev pub decreases-loop-p : goal.decreases-loop-p
-decreases-loop-p l = l.passes - l.p
+    Ran l.graph (repeated l.p (part false l.members l.from l.end)) l.initial.lanes l.lanes

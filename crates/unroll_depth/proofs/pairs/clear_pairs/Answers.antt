@@ -1,53 +1,38 @@
 -- `unroll_depth::pairs::clear_pairs` meets its contract: after each turn the gates passed are undefined.
 use mathlib.Core.Path.{refl}
 use mathlib.Core.List.{[]}
-use mathlib.Core.Bool.{false}
-use Prim.Native.Nat.{◌-◌, ◌≤◌, ◌<◌}
+use Prim.Native.Nat.{◌<◌}
 use native.Mathlib.Omega.{arith}
 use lib.ListN.{get_or}
 use Rattle.netlist.specs.Limits.{max_gates}
 use Rattle.lanes_dual_rail.specs.LaneWords.{pair_at}
-use Rattle.lanes_batch.specs.Layered.{part}
-use Rattle.unroll_depth.specs.Pairs.{Put}
 use Rattle.unroll_depth.proofs.PairLaws.{part_none, part-all, put-none, put-more}
 use Rattle.unroll_depth.proofs.pairs.clear_pairs.Goals.{In-loop-i}
 use Rattle.unroll_depth.proofs.pairs.clear_pairs.Goals as goal
 
 -- the gate at the position
-inside : (c : In-loop-i) → let a = c.args in
-    get_or a.members.now c.loop-i.i 0 < max_gates
-inside c = let l = c in l.requires.0.inside l.loop-i.i l.loop-i.invariant.0 c.loop-i-test.true
+inside : (c : In-loop-i) → get_or c.args.members.now c.loop-i.i 0 < max_gates
+inside c = c.requires.inside c.loop-i.i (omega arith) c.loop-i-test.true
 
 pub loop-i-init : goal.loop-i-init
-loop-i-init c =
-    let a = c.args in
-    let p = c.requires.0.ordered in
-    (omega arith, omega arith, rw (part_none a.members.now a.from) (put-none [] a.lanes.now))
+loop-i-init c = let a = c.args in rw (part_none a.members.now a.from) (put-none [] a.lanes.now)
 
 pub loop-i-preserved : goal.loop-i-preserved
 unfolding pair_at
 loop-i-preserved c =
-    let turn = c in
-    let l = turn in
-    let s = l in (
-      omega arith,
-      omega arith,
-      put-more s.args.members.now s.args.from l.loop-i.i l.loop-i.invariant.0 (inside (goal.at.loop-i-preserved c).In-loop-i) s.requires.1
-          l.loop-i.invariant.2 refl c.put_pair.ensures,
-    )
+    put-more c.args.members.now c.args.from c.loop-i.i (omega arith) (inside (goal.at.loop-i-preserved c).In-loop-i)
+    (omega arith) c.loop-i.invariant refl c.put_pair.ensures
 
 pub returns : goal.returns
 returns c =
-    let l = c in
-    let a = l.args in
-    rw (part-all a.members.now a.from l.loop-i.i a.end l.loop-i.invariant.1
-    c.loop-i-test.false) at l.loop-i.invariant.2
+    let a = c.args in
+    rw (part-all a.members.now a.from c.loop-i.i a.end (omega (arith, c.requires.ordered)) c.loop-i-test.false) at c.loop-i.invariant
 
 pub offset_bounds-members-i : goal.offset_bounds-members-i
-offset_bounds-members-i c = omega (arith, c.requires.0.within)
+offset_bounds-members-i c = omega (arith, c.requires.within)
 
 pub bounds-members-i : goal.bounds-members-i
-bounds-members-i c = omega (arith, c.requires.0.within)
+bounds-members-i c = omega (arith, c.requires.within)
 
 pub overflow_cast-members : goal.overflow_cast-members
 overflow_cast-members c = omega (arith, inside (goal.at.overflow_cast-members c).In-loop-i)

@@ -1,5 +1,4 @@
 -- `unroll_depth::pairs::difference` meets its contract: both pairs are read.
-use borrow.Author.Rules.{rules}
 use Rattle.unroll_depth.specs.Pairs.{difference_of}
 use Rattle.unroll_depth.proofs.pairs.difference.Goals as goal
 

@@ -1,43 +1,29 @@
 -- `unroll_depth::pairs::differing_lanes` meets its contract: after each turn the lanes of the gates passed are marked.
-use mathlib.Core.Bool.{false}
-use Prim.Native.Nat.{◌-◌, ◌≤◌, ◌<◌}
+use Prim.Native.Nat.{◌<◌}
 use native.Mathlib.Omega.{arith}
 use lib.ListN.{get_or}
 use Rattle.netlist.specs.Limits.{max_gates}
-use Rattle.lanes_batch.specs.Layered.{part}
-use Rattle.unroll_depth.specs.Pairs.{Differs}
 use Rattle.unroll_depth.proofs.PairLaws.{part_none, part-all, differs_none, differs_more}
 use Rattle.unroll_depth.proofs.pairs.differing_lanes.Goals.{In-loop-i}
 use Rattle.unroll_depth.proofs.pairs.differing_lanes.Goals as goal
 
 -- the gate at the position
-inside : (c : In-loop-i) → let a = c.args in
-    get_or a.members.now c.loop-i.i 0 < max_gates
-inside c = let l = c in l.requires.inside l.loop-i.i l.loop-i.invariant.0 c.loop-i-test.true
+inside : (c : In-loop-i) → get_or c.args.members.now c.loop-i.i 0 < max_gates
+inside c = c.requires.inside c.loop-i.i (omega arith) c.loop-i-test.true
 
 pub loop-i-init : goal.loop-i-init
-loop-i-init c =
-    let a = c.args in
-    let p = c.requires.ordered in
-    (omega arith, omega arith, rw (part_none a.members.now a.from) (differs_none a.lanes.now a.kept.now))
+loop-i-init c = let a = c.args in rw (part_none a.members.now a.from) (differs_none a.lanes.now a.kept.now)
 
 pub loop-i-preserved : goal.loop-i-preserved
 loop-i-preserved c =
-    let turn = c in
-    let l = turn in
-    let a = l.args in (
-      omega arith,
-      omega arith,
-      differs_more a.lanes.now a.kept.now a.members.now a.from l.loop-i.i l.loop-i.differing
-          c.difference-differing.result l.loop-i.invariant.0 l.loop-i.invariant.2 c.difference-differing.ensures,
-    )
+    let a = c.args in
+    differs_more a.lanes.now a.kept.now a.members.now a.from c.loop-i.i c.loop-i.differing
+    c.difference-differing.result (omega arith) c.loop-i.invariant c.difference-differing.ensures
 
 pub returns : goal.returns
 returns c =
-    let l = c in
-    let a = l.args in
-    rw (part-all a.members.now a.from l.loop-i.i a.end l.loop-i.invariant.1
-    c.loop-i-test.false) at l.loop-i.invariant.2
+    let a = c.args in
+    rw (part-all a.members.now a.from c.loop-i.i a.end (omega (arith, c.requires.ordered)) c.loop-i-test.false) at c.loop-i.invariant
 
 pub offset_bounds-members-i : goal.offset_bounds-members-i
 offset_bounds-members-i c = omega (arith, c.requires.within)

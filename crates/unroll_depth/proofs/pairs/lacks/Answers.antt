@@ -1,5 +1,4 @@
 -- `unroll_depth::pairs::lacks` meets its contract.
-use borrow.Author.Rules.{rules}
 use lib.ListN.{get_or}
 use Rattle.netlist.specs.StoredBlock.{decode}
 use Rattle.lanes_dual_rail.specs.Batches.{lanes_of}

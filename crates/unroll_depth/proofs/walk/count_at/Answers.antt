@@ -1,7 +1,8 @@
 -- `unroll_depth::walk::count_at` meets its contract: as many passes as gates are enough, and a group that has fewer is
 -- counted.
-use mathlib.Core.Path.{refl, ◌∙◌}
-use Prim.Native.Nat.{◌+◌, ◌≤◌, ◌<◌}
+use mathlib.Core.Path.{refl}
+use mathlib.Core.List.{List}
+use Prim.Native.Nat.{ℕ, ◌+◌, ◌≤◌, ◌<◌}
 use native.Mathlib.Omega.{arith}
 use lib.ListN.{length, get_or}
 use Rattle.netlist.specs.Limits.{max_gates, max_copies}
@@ -9,6 +10,7 @@ use Rattle.netlist.specs.StoredBlock.{decode}
 use Rattle.netlist.specs.Groups.{groups}
 use Rattle.theory_reach.proofs.Order.{groups-not-empty}
 use Rattle.theory_unrolling.specs.Copies.{group_at}
+use Rattle.unroll_depth.specs.declared.walk.At.{At}
 use Rattle.unroll_depth.specs.declared.passes.Turn.{Turn}
 use Rattle.unroll_depth.specs.declared.passes.Counted.{Counted}
 use Rattle.unroll_depth.specs.Passes.{GroupCounted, GroupReady}
@@ -18,36 +20,20 @@ use Rattle.unroll_depth.proofs.CountLaws.{counting-next, rest-none, rest-one}
 use Rattle.unroll_depth.proofs.walk.count_at.Goals.{After-count_group-counted, Start}
 use Rattle.unroll_depth.proofs.walk.count_at.Goals as goal
 
-abbrev turn : (s : Start) → Turn
-turn s =
-    let starts = s.args.starts.now in
-    record {
-      from = get_or starts s.args.at.group 0;
-      end = get_or starts (s.args.at.group + 1) 0;
-      base = s.args.at.base;
-    }
+-- the group's turn, and its passes so far
+abbrev turn : List ℕ → At → Turn
+turn starts at = record { from = get_or starts at.group 0; end = get_or starts (at.group + 1) 0; base = at.base }
 
-abbrev so_far : (s : Start) → Counted
-so_far s = record { passes = get_or s.args.passes.now s.args.at.group 0; total = s.args.at.total }
+abbrev so_far : List ℕ → At → Counted
+so_far passes at = record { passes = get_or passes at.group 0; total = at.total }
 
 -- the group can be counted, and its numbers fit
-ready : (s : Start)
-    → GroupReady s.args.words.now s.args.graph.now s.args.members.now ((let turn_here : (Turn) = let starts = s.args.starts.now in
-    record {
-      from = get_or starts s.args.at.group 0;
-      end = get_or starts (s.args.at.group + 1) 0;
-      base = s.args.at.base;
-    } in turn_here)) ((let so_far_here : (Counted) = record { passes = get_or s.args.passes.now s.args.at.group 0; total = s.args.at.total } in so_far_here))
-    s.args.lanes.now s.args.kept.now
+ready : (s : Start) → let a = s.args in
+    GroupReady a.words.now a.graph.now a.members.now (turn a.starts.now a.at) (so_far a.passes.now a.at) a.lanes.now
 ready s =
     let p = s.requires in
-    group-ready p.held p.listing s.args.at.group p.there ((let turn_here : (Turn) = let starts = s.args.starts.now in
-    record {
-      from = get_or starts s.args.at.group 0;
-      end = get_or starts (s.args.at.group + 1) 0;
-      base = s.args.at.base;
-    } in turn_here)) refl refl refl p.counting refl
-    p.fits p.room
+    group-ready p.held p.listing s.args.at.group p.there (turn s.args.starts.now s.args.at) refl refl refl p.counting refl
+    p.fits
 
 number : (s : Start) → s.args.at.group < max_gates
 number s = omega (arith, s.requires.there, s.requires.listing.few_groups)
@@ -58,33 +44,15 @@ few : (s : Start)
 few s = starts-few s.requires.listing s.args.at.group s.requires.there
 
 small : (s : Start) → get_or s.args.passes.now s.args.at.group 0 ≤ max_copies + max_copies
-small s = let r = (let ready_here : (GroupReady s.args.words.now s.args.graph.now s.args.members.now ((let turn_here : (Turn) = let starts = s.args.starts.now in
-    record {
-      from = get_or starts s.args.at.group 0;
-      end = get_or starts (s.args.at.group + 1) 0;
-      base = s.args.at.base;
-    } in turn_here)) ((let so_far_here : (Counted) = record { passes = get_or s.args.passes.now s.args.at.group 0; total = s.args.at.total } in so_far_here))
-    s.args.lanes.now s.args.kept.now) = let p = s.requires in
-    group-ready p.held p.listing s.args.at.group p.there ((let turn_here : (Turn) = let starts = s.args.starts.now in
-    record {
-      from = get_or starts s.args.at.group 0;
-      end = get_or starts (s.args.at.group + 1) 0;
-      base = s.args.at.base;
-    } in turn_here)) refl refl refl p.counting refl
-    p.fits p.room in ready_here) in sofar-small (size-some r.batch) r.so_far
+small s = let r = ready s in sofar-small (size-some r.batch) r.so_far
 
-counted : (c : After-count_group-counted) → let s = c in let b = decode s.args.words.now in
-    GroupCounted b (get_or s.args.words.now 0 0) s.args.at.base (group_at b s.args.at.group) ((let so_far_here : (Counted) = record { passes = get_or c.args.passes.now c.args.at.group 0; total = c.args.at.total } in so_far_here))
+counted : (c : After-count_group-counted) → let a = c.args in let b = decode a.words.now in
+    GroupCounted b (get_or a.words.now 0 0) a.at.base (group_at b a.at.group) (so_far a.passes.now a.at)
     c.count_group-counted.result
 counted c =
-    let s = c in
-    let p = s.requires in
-    let same = turn-group p.held p.listing s.args.at.group p.there ((let turn_here : (Turn) = let starts = c.args.starts.now in
-    record {
-      from = get_or starts c.args.at.group 0;
-      end = get_or starts (c.args.at.group + 1) 0;
-      base = c.args.at.base;
-    } in turn_here)) refl refl refl in
+    let a = c.args in
+    let p = c.requires in
+    let same = turn-group p.held p.listing a.at.group p.there (turn a.starts.now a.at) refl refl refl in
     rw same at c.count_group-counted.ensures.counted
 
 pub returns-then-end-from : goal.returns-then-end-from
@@ -99,7 +67,7 @@ returns-then-end-from c =
       counting = counting-known s.requires.counting s.requires.there all;
       same = rest-none (length (groups b)) a.passes.now;
       lanes = refl;
-      room = s.requires.room;
+      room = omega arith;
     }
 
 pub overflow_cast-passes : goal.overflow_cast-passes
@@ -118,14 +86,14 @@ returns c =
     let s = d in
     let p = s.requires in
     let few : length (groups (decode s.args.words.now)) ≤ length s.args.passes.now =
-    omega (arith, p.long, p.listing.few_groups) in
+    omega (arith, p.listing.few_groups) in
     record {
       counting = counting-next p.counting p.there few p.fits (counted (goal.at.returns c).After-count_group-counted);
       same =
           rest-one (length (groups (decode s.args.words.now))) s.args.passes.now s.args.at.group _
           p.there;
       lanes = d.count_group-counted.ensures.kept.0;
-      room = d.count_group-counted.ensures.kept.1 ∙ p.room;
+      room = omega arith;
     }
 
 pub offset_bounds-starts-g : goal.offset_bounds-starts-g

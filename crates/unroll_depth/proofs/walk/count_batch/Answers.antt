@@ -1,16 +1,10 @@
 -- `unroll_depth::walk::count_batch` meets its contract: after g turns the first g groups are counted.
 use mathlib.Core.Path.{◌≡◌, refl, ◌∙◌}
-use mathlib.Core.List.{List}
-use Prim.Native.Nat.{ℕ, ◌+◌, ◌-◌, ◌≤◌}
 use native.Mathlib.Omega.{arith}
 use borrow.Author.Tests.{leb-true, leb-false}
-use lib.ListN.{length, get_or}
+use lib.ListN.{length}
 use Rattle.netlist.specs.Limits.{max_copies}
-use Rattle.netlist.specs.StoredBlock.{decode}
-use Rattle.lanes_dual_rail.specs.Batches.{lanes_of}
 use Rattle.lanes_dual_rail.specs.LaneWords.{lane_size}
-use Rattle.unroll_depth.specs.declared.walk.Batch.{Batch}
-use Rattle.unroll_depth.specs.Counting.{Counting, SameRest}
 use Rattle.unroll_depth.proofs.CountLaws.{listing-counted, counting-counted, counting-start, counting-end}
 use Rattle.unroll_depth.proofs.CountLaws.{rest-none, rest_then}
 use Rattle.unroll_depth.proofs.walk.count_batch.Goals.{At-loop-group}
@@ -28,7 +22,7 @@ loop-group-init c =
       counting = counting-start p.counting;
       same = rest-none _ _;
       settled = refl;
-      room = p.room;
+      room = omega arith;
     }
 
 pub count_at-total-requires : goal.count_at-total-requires
@@ -41,10 +35,8 @@ count_at-total-requires c =
     record {
       held = rw i.settled p.held;
       fits = leb-true l.loop-group.total max_copies t.if-total-le-MAX_GATES.true-raw;
-      room = i.room;
       listing = listing-counted p.listing;
       there = omega (arith, is, t.loop-group-test.true);
-      long = i.same.long ∙ p.long;
       counting = counting-counted is i.counting;
     }
 

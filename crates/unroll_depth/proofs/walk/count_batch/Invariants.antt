@@ -1,18 +1,13 @@
 -- `unroll_depth::walk::count_batch` meets its contract: after g turns the first g groups are counted.
-use mathlib.Core.Path.{◌≡◌, refl, ◌∙◌}
+use mathlib.Core.Path.{◌≡◌}
 use mathlib.Core.List.{List}
 use Prim.Native.Nat.{ℕ, ◌+◌, ◌-◌, ◌≤◌}
-use native.Mathlib.Omega.{arith}
-use borrow.Author.Tests.{leb-true, leb-false}
 use lib.ListN.{length, get_or}
-use Rattle.netlist.specs.Limits.{max_copies}
 use Rattle.netlist.specs.StoredBlock.{decode}
 use Rattle.lanes_dual_rail.specs.Batches.{lanes_of}
 use Rattle.lanes_dual_rail.specs.LaneWords.{lane_size}
 use Rattle.unroll_depth.specs.declared.walk.Batch.{Batch}
 use Rattle.unroll_depth.specs.Counting.{Counting, SameRest}
-use Rattle.unroll_depth.proofs.CountLaws.{listing-counted, counting-counted, counting-start, counting-end}
-use Rattle.unroll_depth.proofs.CountLaws.{rest-none, rest_then}
 use Rattle.unroll_depth.proofs.walk.count_batch.Given as goal
 
 -- the groups before `group` are counted

@@ -1,25 +1,20 @@
 -- `unroll_depth::walk::walk_loops` meets its contract: after each batch the passes are enough for its settings too, and
 -- its lowest setting is known.
-use mathlib.Core.Path.{◌≡◌, refl, sym, ap, ◌∙◌}
-use mathlib.Core.List.{List}
-use Prim.Native.Nat.{ℕ, ◌-◌, ◌+◌, ◌^◌, ◌≤◌, ◌<◌}
+use mathlib.Core.Path.{◌≡◌, refl}
+use Prim.Native.Nat.{◌+◌, ◌^◌, ◌≤◌, ◌<◌}
 use native.Mathlib.Omega.{arith}
-use borrow.Author.Rules.{rules}
 use borrow.Author.Tests.{leb-false}
-use lib.ListN.{length, get_or}
+use lib.ListN.{get_or}
 use Rattle.netlist.specs.Limits.{max_copies}
 use Rattle.netlist.specs.StoredBlock.{decode}
 use Rattle.netlist.specs.Rounds.{setting_count}
 use Rattle.theory_encoding.proofs.Readers.{whole_parts}
-use Rattle.theory_encoding.proofs.Decoded.{decode-input_count, decode-gate_count}
+use Rattle.theory_encoding.proofs.Decoded.{decode-gate_count}
 use Rattle.lanes_dual_rail.specs.Batches.{lanes_of}
-use Rattle.lanes_dual_rail.specs.LaneWords.{lane_size}
-use Rattle.lanes_settings.proofs.Counting.{setting-count, few-settings}
+use Rattle.lanes_settings.proofs.Counting.{few-settings}
 use Rattle.lanes_settings.proofs.Batching.{Place, place-first, place-next, lanes_of-some}
-use Rattle.unroll_depth.specs.declared.Found.{Found}
-use Rattle.unroll_depth.specs.Counting.{WalkedBatch}
 use Rattle.unroll_depth.proofs.CountLaws.{starts-few, counting-full, rest-none, rest_then, lowest-first}
-use Rattle.unroll_depth.proofs.CountLaws.{lowest-all}
+use Rattle.unroll_depth.proofs.CountLaws.{settings-are, lowest-all}
 use Rattle.unroll_depth.proofs.walk.walk_loops.Goals.{After-setting_count-settings, At-loop-base, In-loop-base, Start}
 use Rattle.unroll_depth.proofs.walk.walk_loops.Goals as goal
 
@@ -27,28 +22,24 @@ few : (s : Start) → get_or s.args.words.now 0 0 ≤ 12
 few s = (whole_parts s.args.words.now s.requires.plan.whole).few_inputs
 
 -- as many settings as the block has, and lanes as a batch has
-settings-are : (c : After-setting_count-settings)
+settings : (c : After-setting_count-settings)
     → c.setting_count-settings.result ≡ setting_count (decode c.args.words.now)
-settings-are c =
-    let ws = c.args.words.now in
-    setting-count (decode ws) c.inputs_of-n.result c.setting_count-settings.result
-    (c.inputs_of-n.ensures ∙ sym (decode-input_count ws)) c.setting_count-settings.ensures
+settings c = settings-are c.args.words.now c.inputs_of-n.ensures c.setting_count-settings.ensures
 
-powers-are : (c : After-setting_count-settings)
-    → c.setting_count-settings.result ≡ 2 ^ get_or c.args.words.now 0 0
-powers-are c = c.setting_count-settings.ensures ∙ ap (λ (k : ℕ). 2 ^ k) c.inputs_of-n.ensures
+powers-are : (c : After-setting_count-settings) → c.setting_count-settings.result ≡ 2 ^ get_or c.args.words.now 0 0
+powers-are c = rw c.inputs_of-n.ensures at c.setting_count-settings.ensures
 
 many : (l : At-loop-base) → l.lane_count-step.result ≡ lanes_of (get_or l.args.words.now 0 0)
-many l = l.lane_count-step.ensures ∙ ap lanes_of l.inputs_of-n.ensures
+many l = rw l.inputs_of-n.ensures at l.lane_count-step.ensures
 
 -- a batch that is there, and the next
-inside : (t : In-loop-base) → let l = t in
-    l.loop-base.base < 2 ^ get_or l.args.words.now 0 0
-inside t = omega (arith, (let powers-are_here : (t.setting_count-settings.result ≡ 2 ^ get_or t.args.words.now 0 0) = t.setting_count-settings.ensures ∙ ap (λ (k : ℕ). 2 ^ k) t.inputs_of-n.ensures in powers-are_here), t.loop-base-test.true)
+inside : (t : In-loop-base) → t.loop-base.base < 2 ^ get_or t.args.words.now 0 0
+inside t = rw (← t.inputs_of-n.ensures, ← t.setting_count-settings.ensures) t.loop-base-test.true
 
-next : (t : In-loop-base) → let l = t in
-    Place (get_or l.args.words.now 0 0) (l.loop-base.base + l.lane_count-step.result)
-next t = let l = t in place-next ((let many_here : (t.lane_count-step.result ≡ lanes_of (get_or t.args.words.now 0 0)) = t.lane_count-step.ensures ∙ ap lanes_of t.inputs_of-n.ensures in many_here)) ((let powers-are_here : (t.setting_count-settings.result ≡ 2 ^ get_or t.args.words.now 0 0) = t.setting_count-settings.ensures ∙ ap (λ (k : ℕ). 2 ^ k) t.inputs_of-n.ensures in powers-are_here)) l.loop-base.invariant.place t.loop-base-test.true
+next : (t : In-loop-base) → Place (get_or t.args.words.now 0 0) (t.loop-base.base + t.lane_count-step.result)
+next t =
+    place-next (rw t.inputs_of-n.ensures at t.lane_count-step.ensures)
+    (rw t.inputs_of-n.ensures at t.setting_count-settings.ensures) t.loop-base.invariant.place t.loop-base-test.true
 
 pub loop-base-init : goal.loop-base-init
 loop-base-init c =
@@ -60,10 +51,8 @@ loop-base-init c =
           record {
             counting = rw c.gates_of.ensures s.requires.counting;
             same = rest-none _ _;
-            lowest = lowest-first (settings-are (goal.at.loop-base-init c).After-setting_count-settings);
+            lowest = lowest-first (settings (goal.at.loop-base-init c).After-setting_count-settings);
           };
-      lanes_long = refl;
-      kept_long = refl;
     }
 
 pub returns-then-are_full : goal.returns-then-are_full
@@ -82,17 +71,23 @@ returns-then-are_full c =
       all = λ few. refl;
       same = i.same;
       lowest =
-          λ few. lowest-all i.lowest (λ unknown. absurd (omega (arith, unknown, settings-are (goal.at.returns-then-are_full c).After-setting_count-settings, t.if-found-settings.true)));
+          λ few. lowest-all i.lowest (λ unknown. absurd (omega (
+            arith,
+            unknown,
+            settings (goal.at.returns-then-are_full c).After-setting_count-settings,
+            t.if-found-settings.true,
+          )));
     }
 
 pub judge_batch-requires : goal.judge_batch-requires
 judge_batch-requires c =
     let t = c in
     let i = t.loop-base.invariant in
-    (t.requires.plan, i.place.aligned (inside (goal.at.judge_batch-requires c).In-loop-base), i.lanes_long)
+    (t.requires.plan, i.place.aligned (inside (goal.at.judge_batch-requires c).In-loop-base))
 
 pub count_batch-found-requires : goal.count_batch-found-requires
 count_batch-found-requires c =
+    let o = goal.at.count_batch-found-requires c in
     let d = c in
     let t = d in
     let l = t in
@@ -105,20 +100,22 @@ count_batch-found-requires c =
           record {
             judged = d.judge_batch.ensures;
             decoded = rw (decode-gate_count ws) p.plan.decoded;
-            settings = omega (arith, i.place.whole (inside (goal.at.count_batch-found-requires c).In-loop-base), settings-are (goal.at.count_batch-found-requires c).After-setting_count-settings, powers-are (goal.at.count_batch-found-requires c).After-setting_count-settings);
+            settings = omega (
+              arith,
+              i.place.whole (inside o.In-loop-base),
+              settings o.After-setting_count-settings,
+              powers-are o.After-setting_count-settings,
+            );
           };
-      room = i.kept_long;
       listing = p.listing;
-      long = i.walked.same.long ∙ p.long;
       counting = i.walked.counting;
       lowest = i.walked.lowest;
     }
 
 pub overflow_add-base : goal.overflow_add-base
 overflow_add-base c =
-    let t = c in
-    let s = t in
-    omega (arith, (next (goal.at.overflow_add-base c).In-loop-base).within, few-settings (get_or s.args.words.now 0 0) (few (goal.at.overflow_add-base c).Start))
+    let o = goal.at.overflow_add-base c in
+    omega (arith, (next o.In-loop-base).within, few-settings (get_or c.args.words.now 0 0) (few o.Start))
 
 pub loop-base-smaller : goal.loop-base-smaller
 loop-base-smaller c =
@@ -139,8 +136,6 @@ loop-base-preserved c =
             same = rest_then l.loop-base.invariant.walked.same e.same;
             lowest = e.lowest;
           };
-      lanes_long = c.count_batch-found.ensures.lanes_len.0;
-      kept_long = c.count_batch-found.ensures.lanes_len.1;
     }
 
 pub returns-else-found-le-MAX_GATES : goal.returns-else-found-le-MAX_GATES
@@ -158,12 +153,19 @@ returns-else-found-le-MAX_GATES c =
 
 pub returns-after-loop-base : goal.returns-after-loop-base
 returns-after-loop-base c =
+    let o = goal.at.returns-after-loop-base c in
     let l = c in
     let s = l in
     let i = l.loop-base.invariant in
     let z = l in
     let all : l.loop-base.base ≡ setting_count (decode s.args.words.now) =
-    omega (arith, i.place.within, settings-are (goal.at.returns-after-loop-base c).After-setting_count-settings, powers-are (goal.at.returns-after-loop-base c).After-setting_count-settings, c.loop-base-test.false) in
+    omega (
+      arith,
+      i.place.within,
+      settings o.After-setting_count-settings,
+      powers-are o.After-setting_count-settings,
+      c.loop-base-test.false,
+    ) in
     record {
       reached = l.loop-base.base;
       counting = i.walked.counting;

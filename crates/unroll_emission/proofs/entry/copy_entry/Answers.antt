@@ -1,31 +1,21 @@
 -- `unroll_emission::entry::copy_entry` meets its contract: after i turns i of the five words are written.
-use Prim.Native.Nat.{◌+◌, ◌-◌, ◌≤◌}
-use mathlib.Core.Path.{◌≡◌, refl, ◌∙◌}
+use Prim.Native.Nat.{◌+◌}
+use mathlib.Core.Path.{◌≡◌, ◌∙◌}
 use native.Mathlib.Omega.{arith}
-use lib.ListN.{length, length-set}
-use lib.Seq.{sets}
-use Rattle.prelude.specs.Lists.{tab}
+use lib.ListN.{length-set}
 use Rattle.prelude.proofs.Stores.{sets-next}
 use Rattle.unroll_emission.specs.Words.{entry_word, entry_words}
 use Rattle.unroll_emission.proofs.entry.copy_entry.Goals as goal
 
-pub loop-i-init : goal.loop-i-init
-loop-i-init c = (omega arith, refl, refl)
-
 pub loop-i-preserved : goal.loop-i-preserved
 loop-i-preserved c =
-    let start = c in
-    let a = start.args in
+    let a = c.args in
     let l = c.loop-i in (
-      omega arith,
       sets-next (entry_word a.words.now a.nodes a.entry a.newest.now) a.out.now l.out a.to
-          l.i c.entry_word-w.result l.invariant.1 c.entry_word-w.ensures,
-      length-set l.out (a.to + l.i) c.entry_word-w.result ∙ l.invariant.2,
+          l.i c.entry_word-w.result l.invariant.0 c.entry_word-w.ensures,
+      length-set l.out (a.to + l.i) c.entry_word-w.result ∙ l.invariant.1,
     )
-
-pub shape_of-out : goal.shape_of-out
-shape_of-out c = c.loop-i.invariant.2
 
 pub returns : goal.returns
 unfolding entry_words
-returns c = let all : c.loop-i.i ≡ 5 = omega arith in rw all at c.loop-i.invariant.1
+returns c = let all : c.loop-i.i ≡ 5 = omega arith in rw all at c.loop-i.invariant.0

@@ -3,7 +3,6 @@ use mathlib.Core.Path.{sym, ◌∙◌}
 use mathlib.Core.Logic.{inl, inr}
 use native.Mathlib.Omega.{arith}
 use Rattle.unroll_emission.proofs.Words.{entry-mapped, entry_kept}
-use borrow.Author.Rules.{rules}
 use Rattle.unroll_emission.proofs.entry.entry_word.Goals as goal
 
 pub returns-then-i-entry : goal.returns-then-i-entry

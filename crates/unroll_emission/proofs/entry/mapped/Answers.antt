@@ -1,6 +1,5 @@
 -- `unroll_emission::entry::mapped` meets its contract, by the gate that the word names.
 use mathlib.Core.Path.{sym}
-use borrow.Author.Rules.{rules}
 use Rattle.unroll_emission.proofs.Words.{mapped-named, mapped-none}
 use Rattle.unroll_emission.proofs.entry.mapped.Goals as goal
 

@@ -2,7 +2,6 @@
 use Prim.Native.Nat.{◌+◌, ◌*◌}
 use native.Mathlib.Omega.{arith}
 use Rattle.unroll_emission.specs.Words.{copy_words}
-use borrow.Author.Rules.{rules}
 use Rattle.unroll_emission.proofs.entry.write_gate.Goals as goal
 
 pub overflow_cast-count : goal.overflow_cast-count

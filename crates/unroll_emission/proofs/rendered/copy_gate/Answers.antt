@@ -1,7 +1,6 @@
 -- `unroll_emission::rendered::copy_gate` meets its contract: the operand words of gate j are mapped while the table
 -- still has its older copy.
 use mathlib.Core.Path.{refl}
-use borrow.Author.Rules.{rules}
 use Rattle.unroll_emission.proofs.rendered.copy_gate.Goals as goal
 
 pub returns : goal.returns

@@ -1,17 +1,11 @@
 -- `unroll_emission::rendered::copy_outputs` meets its contract: after o turns o outputs stand.
-use Prim.Native.Nat.{◌-◌, ◌≤◌}
-use mathlib.Core.Path.{◌≡◌, refl, ◌∙◌}
-use native.Mathlib.Omega.{arith}
+use mathlib.Core.Path.{◌≡◌}
 use lib.ListN.{length}
 use lib.Seq.{sets}
 use Rattle.prelude.specs.Lists.{tab, joined}
 use Rattle.unroll_emission.specs.Words.{shown_at}
-use Rattle.unroll_emission.proofs.Words.{outputs-next}
 use Rattle.unroll_emission.proofs.rendered.copy_outputs.Given as goal
 
 abbrev pub invariant-loop-o : goal.invariant-loop-o
 invariant-loop-o l =
-    (l.o ≤ l.k) × (l.out ≡ sets l.initial.out l.to (joined (tab (shown_at l.words l.nodes l.newest) l.o))) × (length l.out ≡ length l.initial.out)
-
-abbrev pub decreases-loop-o : goal.decreases-loop-o
-decreases-loop-o l = l.k - l.o
+    (l.out ≡ sets l.initial.out l.to (joined (tab (shown_at l.words l.nodes l.newest) l.o))) × (length l.out ≡ length l.initial.out)

@@ -1,7 +1,6 @@
 -- `unroll_emission::rendered::write_header` meets its contract.
 use native.Mathlib.Omega.{arith}
 use lib.ListN.{length-set}
-use borrow.Author.Rules.{rules}
 use Rattle.unroll_emission.proofs.rendered.write_header.Goals as goal
 
 pub bounds-out-1 : goal.bounds-out-1

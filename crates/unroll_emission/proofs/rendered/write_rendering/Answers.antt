@@ -2,7 +2,6 @@
 -- one after the other, are the encoding of the rendering.
 use native.Mathlib.Omega.{arith}
 use Rattle.unroll_emission.proofs.Written.{Sizes, sizes, ordered, rendering-written}
-use borrow.Author.Rules.{rules}
 use Rattle.unroll_emission.proofs.rendered.write_rendering.Goals.{After-nodes_of-nodes}
 use Rattle.unroll_emission.proofs.rendered.write_rendering.Goals as goal
 

@@ -1,18 +1,11 @@
--- `words_block::gates::fit` meets its contract: all gates passed keep their rule.
-use Prim.Native.Nat.{◌-◌}
+-- `words_block::gates::fit` meets its contract: each gate keeps its rule.
 use borrow.Author.Rules.{rules}
-use Rattle.prelude.proofs.Tested.{Tested, tested-none, tested-more, tested-fails, tested-all}
+use borrow.Author.Tests.{tests}
+use Rattle.prelude.proofs.Ranges.{all-of_range}
 use Rattle.words_block.specs.GateSteps.{gate_rule_at}
 use Rattle.words_block.proofs.gates.fit.Goals as goal
 
-pub loop-j-init : goal.loop-j-init
-loop-j-init c = tested-none
-
-pub returns-then-not-fits_at : goal.returns-then-not-fits_at
-returns-then-not-fits_at c = search tested-fails
-
-pub loop-j-preserved : goal.loop-j-preserved
-loop-j-preserved c = search tested-more
-
 pub returns : goal.returns
-returns c = search tested-all
+returns c =
+    let a = c.args in
+    all-of_range (gate_rule_at a.words.now a.nodes a.at) a.m c.all.ensures.ran (λ x b q k. search (rules, tests))

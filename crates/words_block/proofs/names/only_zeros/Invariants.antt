@@ -8,6 +8,3 @@ use Rattle.words_block.proofs.names.only_zeros.Given as goal
 
 abbrev pub invariant-loop-j : goal.invariant-loop-j
 invariant-loop-j l = Rest (all (eqb 0)) l.words l.at l.i l.j
-
-abbrev pub decreases-loop-j : goal.decreases-loop-j
-decreases-loop-j l = 8 - l.j

@@ -1,5 +1,5 @@
 -- `words_layout::trim::trimmed_length` meets its contract: what was passed over, from the end, is zero.
-use Prim.Native.Nat.{◌≤◌}
+use Prim.Native.Nat.{◌≤◌, ◌+◌, ◌-◌}
 use mathlib.Core.Path.{◌≡◌, refl, sym, ◌∙◌}
 use native.Mathlib.Omega.{arith}
 use lib.Seq.{take-length}
@@ -8,30 +8,31 @@ use Rattle.prelude.specs.Lists.{trimmed}
 use Rattle.words_layout.proofs.TrimmedLaws.{trimmed-shorter, trimmed-here}
 use Rattle.words_layout.proofs.trim.trimmed_length.Goals as goal
 
-pub loop-count-init : goal.loop-count-init
-loop-count-init c = record { within = omega arith; same = rw (take-length c.args.bytes.now) refl }
+pub loop-i-init : goal.loop-i-init
+loop-i-init c = record { within = omega arith; same = rw (take-length c.args.bytes.now) refl }
 
-pub returns-then-bytes-count-ne0 : goal.returns-then-bytes-count-ne0
-returns-then-bytes-count-ne0 c =
+pub returns-then-bytes-i-ne0 : goal.returns-then-bytes-i-ne0
+returns-then-bytes-i-ne0 c =
     let start = c in
-    let l = c.loop-count in (
-      l.invariant.within,
-      sym (trimmed-here start.args.bytes.now l.count (omega arith) l.invariant.within c.if-bytes-count-ne0.true)
-          ∙ l.invariant.same,
+    let l = c.loop-i in
+    let same : l.i - 1 + 1 ≡ l.i = omega arith in (
+      rw same l.invariant.within,
+      rw same (sym (trimmed-here start.args.bytes.now l.i (omega arith) l.invariant.within c.if-bytes-i-ne0.true)
+          ∙ l.invariant.same),
     )
 
-pub loop-count-preserved : goal.loop-count-preserved
-loop-count-preserved c =
+pub loop-i-preserved : goal.loop-i-preserved
+loop-i-preserved c =
     let start = c in
-    let l = c.loop-count in
+    let l = c.loop-i in
     record {
       within = omega arith;
       same =
-          sym (trimmed-shorter start.args.bytes.now l.count (omega arith) l.invariant.within c.if-bytes-count-ne0.false)
+          sym (trimmed-shorter start.args.bytes.now l.i (omega arith) l.invariant.within c.if-bytes-i-ne0.false)
           ∙ l.invariant.same;
     }
 
 pub returns : goal.returns
 returns c =
-    let none : c.loop-count.count ≡ 0 = omega arith in
-    (omega arith, rw none at c.loop-count.invariant.same)
+    let none : c.loop-i.i ≡ 0 = omega arith in
+    (omega arith, rw none at c.loop-i.invariant.same)

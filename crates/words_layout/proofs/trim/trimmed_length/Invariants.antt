@@ -8,9 +8,6 @@ use Rattle.prelude.specs.Lists.{trimmed}
 use Rattle.words_layout.proofs.TrimmedLaws.{trimmed-shorter, trimmed-here}
 use Rattle.words_layout.proofs.trim.trimmed_length.Given as goal
 
-abbrev pub invariant-loop-count : goal.invariant-loop-count
-invariant-loop-count l =
-    record { within : l.count ≤ length l.bytes; same : trimmed (take l.count l.bytes) ≡ trimmed l.bytes }
-
-abbrev pub decreases-loop-count : goal.decreases-loop-count
-decreases-loop-count l = l.count
+abbrev pub invariant-loop-i : goal.invariant-loop-i
+invariant-loop-i l =
+    record { within : l.i ≤ length l.bytes; same : trimmed (take l.i l.bytes) ≡ trimmed l.bytes }

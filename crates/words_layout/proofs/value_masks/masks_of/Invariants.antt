@@ -14,6 +14,3 @@ use Rattle.words_layout.proofs.value_masks.masks_of.Given as goal
 
 abbrev pub invariant-loop-i : goal.invariant-loop-i
 invariant-loop-i l = Gathered (map value_of l.values) l.i l.defined l.ones
-
-abbrev pub decreases-loop-i : goal.decreases-loop-i
-decreases-loop-i l = l.i

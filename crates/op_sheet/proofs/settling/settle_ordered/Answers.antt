@@ -1,0 +1,15 @@
+-- `op_sheet::settling::settle_ordered` meets its contract: a straight block is settled by one sweep.
+use borrow.Author.Rules.{rules}
+use Rattle.lanes_batch.proofs.Layering.{straight-decoded}
+use Rattle.op_sheet.proofs.SettledLaws.{fixed-decoded}
+use Rattle.op_sheet.proofs.settling.settle_ordered.Goals as goal
+
+pub settle_straight-requires : goal.settle_straight-requires
+settle_straight-requires c =
+    let d = c.decode_gates.ensures in
+    (rw c.gates_of.ensures d.legal, rw c.gates_of.ensures (straight-decoded d c.requires.whole.1))
+
+pub returns : goal.returns
+returns c =
+    fixed-decoded (rw c.gates_of.ensures c.decode_gates.ensures)
+    (c.settle_straight.ensures.each 6 (rw c.gates_of.ensures c.requires.fresh))
