@@ -26,6 +26,8 @@ pub struct Progress {
 }
 
 // Feeds one byte of input. A struct of the lent buffers would be no plainer: its contract has to say that each is kept.
+// What is known of them between two bytes is asked of each function that is lent them, in `netlist_part` and in the
+// program too, for the same reason.
 fn feed_byte(
     state: State,
     byte: u8,

@@ -13,6 +13,7 @@ use graph_gates::GRAPH_WORDS;
 use graph_gates::fanout::FANOUT_WORDS;
 use graph_simulation::table::gate_table;
 use text_pieces::refusal_line::tell;
+use words_layout::block::Block;
 
 // A block that is prepared: the first `count` of `words`, with its graph and its fan-out.
 #[derive(Clone, Copy)]
@@ -32,14 +33,17 @@ fn answer(block: Prepared<'_>, line: &[u8], out: &mut [u8]) -> usize
         result }
 {
     let table = gate_table();
-    let words = &block.words[..block.count];
-    match answer_line(words, &table, block.graph, block.fanout, line, out) {
+    let whole = Block {
+        words: &block.words[..block.count],
+    };
+    match answer_line(&whole, &table, block.graph, block.fanout, line, out) {
         Err(why) => tell(why, out),
         Ok(done) => done.count,
     }
 }
 
-// Holds one byte more where there is room for it; gives how many are held then.
+// Holds one byte more where there is room for it; gives how many are held then. The byte goes behind those held, so that
+// their number is no slice's length.
 fn hold(line: &mut [u8], held: usize, byte: u8) -> usize
     requires { (held ≤ held_bytes) × (held_bytes ≤ length line.old) }
     ensures { TextHeld (take held line.old) byte line.new result }

@@ -13,6 +13,7 @@ use graph_simulation::round::prepare;
 use netlist::Refusal;
 use op_read::read;
 use text_pieces::refusal_line::tell;
+use words_layout::block::Block;
 use words_layout::limits::MAX_TEXT;
 
 // Reads the block, and prepares it; a refusal ends the run.
@@ -40,7 +41,10 @@ fn open(
         }
         Ok(done) => {
             let count = done.count;
-            prepare(&words[..count], graph, fanout);
+            let block = Block {
+                words: &words[..count],
+            };
+            prepare(&block, graph, fanout);
             Fed {
                 state: State::Lines {
                     words: count,

@@ -12,7 +12,9 @@ ghost use Rattle.bench_set_line.specs.Tables.{LineFor, InForm, TablesFor, LineRe
 
 use crate::form::test_set_line;
 use graph_gates::fanout::FANOUT_WORDS;
+use graph_gates::graph::GateGraph;
 use graph_gates::{GRAPH_WORDS, PLACES};
+use graph_simulation::changes::PreparedBlock;
 use graph_simulation::round::{UNDEFINED, settle_prepared};
 use graph_simulation::table::GATE_ENTRIES;
 use graph_simulation::values::put_setting;
@@ -21,6 +23,7 @@ use netlist::{Answer, Refusal};
 use show::show_settled;
 use text_pairs::given::{fill_setting, test_outside, test_repeat};
 use text_pairs::tables::fill_pairs;
+use words_layout::block::Block;
 use words_layout::limits::MAX_INPUTS;
 use words_layout::offsets::{gates_of, inputs_of};
 
@@ -82,21 +85,29 @@ fn read_pairs(words: &[u16], line: &[u8], values: &mut [u8; PLACES]) -> Result<(
 }
 
 // The answer to a line, with its LF, for a block that is prepared. Count: bytes of the show line.
-pub fn answer_line(
-    words: &[u16],
-    table: &[u8; GATE_ENTRIES],
-    graph: &[u16; GRAPH_WORDS],
-    fanout: &[u16; FANOUT_WORDS],
+pub fn answer_line<'a>(
+    block: &Block,
+    table: &'a [u8; GATE_ENTRIES],
+    graph: &'a [u16; GRAPH_WORDS],
+    fanout: &'a [u16; FANOUT_WORDS],
     line: &[u8],
     out: &mut [u8],
 ) -> Answer
-    requires { BlockReady words.now table.now graph.now fanout.now }
-    ensures { Promise (answer_line words.now line.now (length out.old))
+    requires { BlockReady block.now.words.now table.now graph.now fanout.now }
+    ensures { Promise (answer_line block.now.words.now line.now (length out.old))
         out.old result out.new }
 {
-    test_set_line(line, inputs_of(words))?;
+    test_set_line(line, inputs_of(block.words))?;
     let mut values = [UNDEFINED; PLACES];
-    read_pairs(words, line, &mut values)?;
-    settle_prepared(table, graph, fanout, gates_of(words), &mut values);
-    show_settled(words, &values, out)
+    read_pairs(block.words, line, &mut values)?;
+    let prepared = PreparedBlock {
+        table,
+        graph: GateGraph {
+            words: graph,
+            gates: gates_of(block.words),
+        },
+        fanout,
+    };
+    settle_prepared(prepared, &mut values);
+    show_settled(block, &values, out)
 }

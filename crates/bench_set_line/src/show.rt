@@ -1,7 +1,6 @@
 // The show line of a block under a setting of its inputs, appended piece by piece as Write does (`text_pieces`).
-ghost use Rattle.std.specs.Prelude.{◌≡◌, false, [], ◌∷◌, length};
+ghost use Rattle.std.specs.Prelude.{◌≡◌, [], ◌∷◌, length};
 ghost use Rattle.netlist.specs.Values.{value_of};
-ghost use Rattle.netlist.specs.StoredBlock.{is_malformed};
 ghost use Rattle.netlist.specs.Answers.{in_room, Promise};
 ghost use Rattle.netlist.specs.Operations.{counted};
 ghost use Rattle.netlist.specs.Syntax.{value_text};
@@ -13,6 +12,7 @@ use graph_simulation::output::shown_value;
 use netlist::{Answer, Done};
 use text_pieces::each::put_each;
 use text_pieces::{put, put_all, put_name};
+use words_layout::block::Block;
 use words_layout::offsets::{OUTPUT_SIZE, inputs_of, outputs_at, outputs_of};
 use words_refusals::test_room;
 
@@ -72,28 +72,26 @@ fn put_ports(
 }
 
 // Appends `(show`, the ports and LF.
-fn put_show(text: &mut [u8], words: &[u16], values: &[u8; PLACES]) -> usize
-    requires { is_malformed words.now ≡ false }
-    ensures { Appended (show_text words.now values.now) text.old 0
+fn put_show(text: &mut [u8], block: &Block, values: &[u8; PLACES]) -> usize
+    ensures { Appended (show_text block.now.words.now values.now) text.old 0
         text.new result }
 {
-    let from = outputs_at(words);
-    let k = outputs_of(words);
+    let from = outputs_at(block.words);
+    let k = outputs_of(block.words);
     let opened = put_all(text, 0, b"(show");
-    let filled = put_ports(text, opened, words, from, k, values);
+    let filled = put_ports(text, opened, block.words, from, k, values);
     put_all(text, filled, b")\n")
 }
 
 // The show line of a block whose gates are settled: refusal 11, or its bytes; count: bytes. The first pass is over a text of one byte, and only measures.
-pub fn show_settled(words: &[u16], values: &[u8; PLACES], out: &mut [u8]) -> Answer
-    requires { is_malformed words.now ≡ false }
+pub fn show_settled(block: &Block, values: &[u8; PLACES], out: &mut [u8]) -> Answer
     ensures { Promise (in_room (length out.old)
-        (counted (show_text words.now values.now)))
+        (counted (show_text block.now.words.now values.now)))
         out.old result out.new }
 {
     let mut small = [0u8; 1];
-    let count = put_show(&mut small, words, values);
+    let count = put_show(&mut small, block, values);
     test_room(out.len(), count)?;
-    put_show(out, words, values);
+    put_show(out, block, values);
     Ok(Done { count, detail: 0 })
 }

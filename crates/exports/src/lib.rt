@@ -17,6 +17,7 @@ ghost use Rattle.exports.specs.Replies.{Replies, PassReply, RenderReply, CellsRe
 use netlist::{Record, Reply};
 use op_sheet::reply_to_sheet;
 use op_sheet::turns::{advance, answer, no_batch, place_at};
+use words_layout::block::Block;
 use words_refusals::reply_of;
 
 // Where a line starts, and how many bytes it has.
@@ -86,7 +87,8 @@ pub extern "C" fn unloop_sheet(block: &[u16], records: &mut [Record]) -> Reply
     for t in 0..turns {
         let i = place_at(count, t);
         let asked = records[i];
-        batch = advance(block, count, t, asked, batch);
+        let whole = Block { words: block };
+        batch = advance(&whole, count, t, asked, batch);
         records[i] = answer(block, count, t, asked, batch);
     }
     reply

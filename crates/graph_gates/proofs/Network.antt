@@ -1,16 +1,19 @@
 -- What rounds, single steps, reads and groups say of a block depends on its gates alone. So what is shown of a graph's
 -- network holds of every block whose gates the graph has. Cited by whoever works on a graph and promises something of a
 -- block. Assumes nothing.
+--   node-wider                        a legal gate of m is one of any graph's
 --   network-gates, network-count      the network's gates are the block's
 --   ..-gates                          the same gates, the same answer
 use mathlib.Core.Path.{◌≡◌, refl, ap, fun_ext}
 use mathlib.Core.Bool.{Bool}
 use mathlib.Core.List.{List, [], ◌∷◌, ◌++◌}
-use Prim.Native.Nat.{ℕ, zero, suc}
+use Prim.Native.Nat.{ℕ, zero, suc, ◌≤◌}
+use native.Mathlib.Omega.{arith}
 use lib.ListN.{length}
 use lib.Dec.{eqb}
 use Rattle.prelude.specs.Lists.{tab, least}
 use Rattle.prelude.proofs.Tab.{length-tab}
+use Rattle.netlist.specs.Limits.{max_gates}
 use Rattle.netlist.specs.Values.{Value}
 use Rattle.netlist.specs.Netlist.{Block, gate_count, gate_of}
 use Rattle.netlist.specs.Rounds.{round, after_rounds, is_stable, rounds, settled}
@@ -18,7 +21,17 @@ use Rattle.netlist.specs.Steps.{step_at, run}
 use Rattle.netlist.specs.Groups.{read_by, reads, grown, grown_times, reach, reaches, same_group, group_of}
 use Rattle.netlist.specs.Groups.{is_ready, may_be_next, groups_after}
 use Rattle.netlist.specs.Groups.{groups, group_number, group_numbers}
-use Rattle.graph_gates.specs.Graph.{gates_in, network, Decoded}
+use Rattle.graph_gates.specs.Graph.{gates_in, network, Node, Decoded}
+
+pub node-wider : {m : ℕ} {graph : List ℕ} {j : ℕ} → m ≤ max_gates → Node m graph j → Node max_gates graph j
+node-wider few n =
+    record {
+      kind = n.kind;
+      count = n.count;
+      operation = n.operation;
+      place = n.place;
+      inside = λ i l. omega (arith, n.inside i l);
+    }
 
 pub network-gates : (b : Block) (m : ℕ) (graph : List ℕ) → Decoded b m graph → (network m graph).gates ≡ b.gates
 unfolding network

@@ -3,3 +3,4 @@ pub mod Places
 pub mod Graph
 pub mod Decoding
 pub mod Fanout
+pub mod Legal

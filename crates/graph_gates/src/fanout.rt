@@ -1,9 +1,9 @@
 // The fan-out of a graph: which slots read each gate. Slot i of gate j has number 4 j + i. The slots that read a gate
 // form a linked list that goes down: word k has the first slot of gate k's list, and word 1,024 + e the one behind slot
 // e. A slot's number stands there plus 1; 0 ends a list.
-ghost use Rattle.graph_gates.specs.Graph.{Graph};
 ghost use Rattle.graph_gates.specs.Fanout.{slot_place, LinkReady, Linked, Empty, Fanout};
 
+use crate::graph::GateGraph;
 use crate::{FIRST_GATE, GRAPH_WORDS, SLOTS};
 use words_layout::limits::MAX_GATES;
 
@@ -25,12 +25,12 @@ fn link(graph: &[u16; GRAPH_WORDS], e: usize, fanout: &mut [u16; FANOUT_WORDS])
     }
 }
 
-// The fan-out of a graph of m gates, into lists that are empty at first.
-pub fn link_slots(graph: &[u16; GRAPH_WORDS], m: usize, fanout: &mut [u16; FANOUT_WORDS])
-    requires { Graph m graph.now × Empty fanout.old }
-    ensures { Fanout m graph.now fanout.new }
+// The fan-out of a graph, into lists that are empty at first.
+pub fn link_slots(graph: GateGraph, fanout: &mut [u16; FANOUT_WORDS])
+    requires { Empty fanout.old }
+    ensures { Fanout graph.entry.gates graph.entry.words.now fanout.new }
 {
-    for e in 0..SLOTS * m {
-        link(graph, e, fanout);
+    for e in 0..SLOTS * graph.gates {
+        link(graph.words, e, fanout);
     }
 }

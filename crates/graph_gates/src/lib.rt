@@ -3,17 +3,19 @@
 #![tactic(auto)]
 
 pub mod fanout;
+pub mod graph;
 
-ghost use Rattle.std.specs.Prelude.{◌≡◌, false, ◌+◌, ◌*◌, ◌/◌, ◌%◌, ◌≤◌, ◌<◌, length, get_or};
+ghost use Rattle.std.specs.Prelude.{◌≡◌, ◌+◌, ◌*◌, ◌/◌, ◌%◌, ◌≤◌, ◌<◌, length, get_or};
 ghost use Rattle.std.proofs.lemmas.List.Edits.{sets};
 ghost use Rattle.netlist.specs.Limits.{max_inputs};
 ghost use Rattle.netlist.specs.Kinds.{is_kind};
-ghost use Rattle.netlist.specs.StoredBlock.{operand_of, decode, is_malformed};
+ghost use Rattle.netlist.specs.StoredBlock.{operand_of, decode};
 ghost use Rattle.words_layout.specs.Bounds.{max_word};
 ghost use Rattle.graph_gates.specs.Places.{place_of};
 ghost use Rattle.graph_gates.specs.Graph.{graph_size, controlling_of, forced_of, Decoded};
 ghost use Rattle.graph_gates.specs.Decoding.{WordsOf, word_place, node_words};
 
+use words_layout::block::Block;
 use words_layout::kinds::row_of;
 use words_layout::limits::{MAX_GATES, MAX_INPUTS};
 use words_layout::nodes::{CONSTANT_0, CONSTANT_1, Nodes, nodes_of};
@@ -121,12 +123,12 @@ fn put_node(words: &[u16], nodes: Nodes, j: usize, graph: &mut [u16; GRAPH_WORDS
 }
 
 // Writes the graph of a block.
-pub fn decode_gates(words: &[u16], graph: &mut [u16; GRAPH_WORDS])
-    requires { (is_malformed words.now ≡ false) × (length graph.old ≡ graph_size) }
-    ensures { Decoded (decode words.now) (get_or words.now 1 0) graph.new }
+pub fn decode_gates(block: &Block, graph: &mut [u16; GRAPH_WORDS])
+    requires { length graph.old ≡ graph_size }
+    ensures { Decoded (decode block.now.words.now) (get_or block.now.words.now 1 0) graph.new }
 {
-    let nodes = nodes_of(words);
+    let nodes = nodes_of(block.words);
     for j in 0..nodes.gates {
-        put_node(words, nodes, j, graph);
+        put_node(block.words, nodes, j, graph);
     }
 }

@@ -5,3 +5,4 @@ mod Reaching
 pub mod Ranges
 pub mod Slots
 pub mod Layered
+pub mod Propositions

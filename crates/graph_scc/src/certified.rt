@@ -6,19 +6,21 @@ ghost use Rattle.std.specs.Prelude.{◌≡◌, true, ◌≤◌, ◌<◌, get_or}
 ghost use Rattle.netlist.specs.Limits.{max_gates};
 ghost use Rattle.netlist.specs.Groups.{reads};
 ghost use Rattle.words_layout.specs.Bounds.{max_word};
-ghost use Rattle.graph_gates.specs.Graph.{network};
-ghost use Rattle.graph_scc.specs.Leaders.{last_of, distance_at, HasParent, HasLowLink, CertifiedAt};
+ghost use Rattle.graph_gates.specs.Legal.{network_of};
+ghost use Rattle.graph_scc.specs.Leaders.{last_of, distance_at};
 
 use crate::layering::Layering;
 use crate::notes::{CURSORS, LOWEST, NOTE_SIZE, PARENT};
 use crate::operands::slot_gate;
-use graph_gates::{FIRST_GATE, NODE_SIZE, SLOTS};
+use graph_gates::{FIRST_GATE, SLOTS};
 
 // The number of values that a word has.
 const WORD_VALUES: usize = 65536;
 
+// That the layering is one of layers is asked of four methods. A type for a layering that has passed its check would be
+// made in one place, and put its arrays one field further from these methods.
 impl<'a> Layering<'a> {
-    ghost use Rattle.graph_scc.specs.Checked.{IsLayered, IsCertified};
+    ghost use Rattle.graph_scc.specs.Checked.{IsLayered, HasParentAt, HasLowLinkAt, IsCertifiedAt, IsCertified};
 
     // The last position of position i's layer.
     pub fn last_of(&self, i: usize) -> usize
@@ -31,7 +33,7 @@ impl<'a> Layering<'a> {
 
     // How far position i is from its layer's last, as the search noted it.
     fn distance_at(&self, i: usize) -> usize
-        requires { (i < self.now.gates) × (get_or self.now.order.now i 0 < self.now.gates) }
+        requires { (i < self.now.graph.gates) × (get_or self.now.order.now i 0 < self.now.graph.gates) }
         ensures { result ≡ distance_at self.now.order.now self.now.notes.now i }
     {
         let k = self.order[i] as usize;
@@ -40,22 +42,21 @@ impl<'a> Layering<'a> {
 
     // Does gate `from` read gate `to` by slot `slot`?
     fn has_slot(&self, from: usize, slot: usize, to: usize) -> bool
-        requires { (from < self.now.gates) × (to < self.now.gates) }
-        ensures { result ≡ true → reads (network self.now.gates self.now.graph.now) from to ≡ true }
+        requires { (from < self.now.graph.gates) × (to < self.now.graph.gates) }
+        ensures { result ≡ true → reads (network_of self.now.graph) from to ≡ true }
     {
-        slot < SLOTS && self.graph[NODE_SIZE * from + 1 + slot] as usize == FIRST_GATE + to
+        slot < SLOTS && self.graph.gate(from).place(slot) == FIRST_GATE + to
     }
 
     // Does the gate from which the search entered the gate at position i read it, and stand behind it in its layer?
     fn has_parent(&self, i: usize) -> bool
-        requires { IsLayered self.now × (i < self.now.gates) }
-        ensures { result ≡ true
-            → HasParent self.now.gates self.now.graph.now self.now.order.now self.now.ends.now i }
+        requires { IsLayered self.now × (i < self.now.graph.gates) }
+        ensures { result ≡ true → HasParentAt self.now i }
     {
         let k = self.order[i] as usize;
         let parent = self.notes[NOTE_SIZE * k + PARENT] as usize;
         let from = parent / CURSORS;
-        if self.gates <= from {
+        if self.graph.gates <= from {
             return false;
         }
         let at = self.positions[from] as usize;
@@ -65,16 +66,15 @@ impl<'a> Layering<'a> {
     // Does the operand that the low link names lead from position i to one of its layer that is nearer to the layer's
     // last?
     fn has_low_link(&self, i: usize) -> bool
-        requires { IsLayered self.now × (i < self.now.gates) }
-        ensures { result ≡ true
-            → HasLowLink self.now.gates self.now.graph.now self.now.order.now self.now.ends.now self.now.notes.now i }
+        requires { IsLayered self.now × (i < self.now.graph.gates) }
+        ensures { result ≡ true → HasLowLinkAt self.now i }
     {
         let k = self.order[i] as usize;
         let slot = self.notes[NOTE_SIZE * k + LOWEST] as usize % CURSORS;
         if SLOTS <= slot {
             return false;
         }
-        let Some(j) = slot_gate(self.graph, self.gates, k, slot) else {
+        let Some(j) = slot_gate(self.graph, k, slot) else {
             return false;
         };
         let to = self.positions[j] as usize;
@@ -83,9 +83,8 @@ impl<'a> Layering<'a> {
 
     // Does the certificate hold at position i: is it its layer's last, or has it a parent and a low link in its layer?
     fn is_certified_at(&self, i: usize) -> bool
-        requires { IsLayered self.now × (i < self.now.gates) }
-        ensures { result ≡ true
-            → CertifiedAt self.now.gates self.now.graph.now self.now.order.now self.now.ends.now self.now.notes.now i }
+        requires { IsLayered self.now × (i < self.now.graph.gates) }
+        ensures { result ≡ true → IsCertifiedAt self.now i }
     {
         self.last_of(i) == i || (self.has_parent(i) && self.has_low_link(i))
     }
@@ -95,6 +94,6 @@ impl<'a> Layering<'a> {
         requires { IsLayered self.now }
         ensures { result ≡ true → IsCertified self.now }
     {
-        (0..self.gates).all(|i| self.is_certified_at(i))
+        (0..self.graph.gates).all(|i| self.is_certified_at(i))
     }
 }

@@ -3,7 +3,7 @@
 ghost use Rattle.std.specs.Prelude.{◌≡◌, true, ◌≤◌, ◌<◌};
 ghost use Rattle.netlist.specs.Limits.{max_gates};
 ghost use Rattle.graph_gates.specs.Graph.{slots};
-ghost use Rattle.graph_scc.specs.Search.{SlotBefore, Before, EndStep, Listed, LayerStep};
+ghost use Rattle.graph_scc.specs.Search.{SlotBefore, Before, EndStep, Listed};
 
 use crate::layering::Layering;
 use crate::operands::slot_gate;
@@ -23,14 +23,14 @@ pub fn find_positions(m: usize, order: &[u16; MAX_GATES], positions: &mut [u16; 
 }
 
 impl<'a> Layering<'a> {
-    ghost use Rattle.graph_scc.specs.Checked.{IsLayered};
+    ghost use Rattle.graph_scc.specs.Checked.{StepsAt, IsLayered};
 
     // Does slot `s` of gate j read no gate, or one that stands before `end`?
     fn slot_before(&self, j: usize, s: usize, end: usize) -> bool
-        requires { (j < self.now.gates) × (s < slots) }
-        ensures { result ≡ true → SlotBefore self.now.graph.now self.now.positions.now j end s }
+        requires { (j < self.now.graph.gates) × (s < slots) }
+        ensures { result ≡ true → SlotBefore self.now.graph.words.now self.now.positions.now j end s }
     {
-        match slot_gate(self.graph, self.gates, j, s) {
+        match slot_gate(self.graph, j, s) {
             Some(k) => (self.positions[k] as usize) < end,
             None => true,
         }
@@ -38,40 +38,41 @@ impl<'a> Layering<'a> {
 
     // Does every gate that gate j reads stand before `end`?
     fn reads_before(&self, j: usize, end: usize) -> bool
-        requires { j < self.now.gates }
-        ensures { result ≡ true → Before self.now.graph.now self.now.positions.now j end }
+        requires { j < self.now.graph.gates }
+        ensures { result ≡ true → Before self.now.graph.words.now self.now.positions.now j end }
     {
         (0..SLOTS).all(|s| self.slot_before(j, s, end))
     }
 
     // Does position i have an end that fits the position behind it?
     fn is_end(&self, i: usize) -> bool
-        requires { i < self.now.gates }
-        ensures { result ≡ true → EndStep self.now.gates self.now.ends.now i }
+        requires { i < self.now.graph.gates }
+        ensures { result ≡ true → EndStep self.now.graph.gates self.now.ends.now i }
     {
         let end = self.ends[i] as usize;
         end == i
-            || (i < end && end <= self.gates && (end == i + 1 || self.ends[i + 1] as usize == end))
+            || (i < end
+                && end <= self.graph.gates
+                && (end == i + 1 || self.ends[i + 1] as usize == end))
     }
 
     // Does gate order[i] stand at i, and gate i where `positions` says?
     fn is_listed(&self, i: usize) -> bool
-        requires { i < self.now.gates }
-        ensures { result ≡ true → Listed self.now.gates self.now.order.now self.now.positions.now i }
+        requires { i < self.now.graph.gates }
+        ensures { result ≡ true → Listed self.now.graph.gates self.now.order.now self.now.positions.now i }
     {
         let j = self.order[i] as usize;
         let p = self.positions[i] as usize;
-        j < self.gates
-            && p < self.gates
+        j < self.graph.gates
+            && p < self.graph.gates
             && self.positions[j] as usize == i
             && self.order[p] as usize == i
     }
 
     // Does position i pass: it is listed, its end fits, and its gate reads only what stands before that end?
     fn passes(&self, i: usize) -> bool
-        requires { i < self.now.gates }
-        ensures { result ≡ true
-            → LayerStep self.now.gates self.now.graph.now self.now.order.now self.now.ends.now self.now.positions.now i }
+        requires { i < self.now.graph.gates }
+        ensures { result ≡ true → StepsAt self.now i }
     {
         self.is_listed(i)
             && self.is_end(i)
@@ -82,6 +83,6 @@ impl<'a> Layering<'a> {
     pub fn are_layers(&self) -> bool
         ensures { result ≡ true → IsLayered self.now }
     {
-        (0..self.gates).all(|i| self.passes(i))
+        (0..self.graph.gates).all(|i| self.passes(i))
     }
 }

@@ -1,9 +1,9 @@
 // The leader of each gate, the lowest gate of its strongly connected component. Tarjan's search writes layers; where
 // they are certified to be the components, the first gate of each is found in one walk over the gates. Else `closure`
 // finds the leaders.
-ghost use Rattle.std.specs.Prelude.{◌≡◌, true, ◌<◌, length};
+ghost use Rattle.std.specs.Prelude.{◌≡◌, true, ◌<◌};
 ghost use Rattle.netlist.specs.Limits.{max_gates};
-ghost use Rattle.graph_gates.specs.Graph.{network, Graph};
+ghost use Rattle.graph_gates.specs.Legal.{network_of};
 ghost use Rattle.graph_scc.specs.Leaders.{Leads, FirstOf};
 ghost use Rattle.graph_scc.specs.Checked.{IsCertified};
 
@@ -12,11 +12,11 @@ use crate::closure::lead_by_closure;
 use crate::layering::Layering;
 use crate::notes::NOTES;
 use crate::search::find_layers;
-use graph_gates::GRAPH_WORDS;
+use graph_gates::graph::GateGraph;
 use words_layout::fill::fill_words;
 use words_layout::limits::MAX_GATES;
 
-// The mark of no gate: firsts are words of fixed memory, which hold no Option.
+// The mark of no gate: firsts are words, as an Option of a word takes twice the room on the stack.
 const NONE: usize = 65535;
 
 // The first gate that had this key, which is gate k, if none had it before.
@@ -34,11 +34,11 @@ fn first_of(key: usize, k: usize, firsts: &mut [u16; MAX_GATES]) -> usize
 
 // Each gate gets the first gate whose layer has the same last position.
 fn lead_layers(layering: &Layering, firsts: &mut [u16; MAX_GATES], leaders: &mut [u16; MAX_GATES])
-    requires { IsCertified layering.now × (length firsts.old ≡ max_gates) × (length leaders.old ≡ max_gates) }
-    ensures { Leads (network layering.now.gates layering.now.graph.now) layering.now.gates leaders.new }
+    requires { IsCertified layering.now }
+    ensures { Leads (network_of layering.now.graph) layering.now.graph.gates leaders.new }
 {
-    fill_words(firsts, layering.gates, NONE as u16);
-    for k in 0..layering.gates {
+    fill_words(firsts, layering.graph.gates, NONE as u16);
+    for k in 0..layering.graph.gates {
         let key = layering.last_of(layering.positions[k] as usize);
         leaders[k] = first_of(key, k, firsts) as u16;
     }
@@ -53,8 +53,7 @@ fn is_certified(layering: &Layering) -> bool
 
 // Finds the leaders, with room lent for the search.
 fn lead_with(
-    graph: &[u16; GRAPH_WORDS],
-    m: usize,
+    graph: GateGraph,
     stack: &mut [u16; MAX_GATES],
     notes: &mut [u16; NOTES],
     order: &mut [u16; MAX_GATES],
@@ -62,15 +61,13 @@ fn lead_with(
     firsts: &mut [u16; MAX_GATES],
     leaders: &mut [u16; MAX_GATES],
 )
-    requires { Graph m graph.now × (length firsts.old ≡ max_gates) × (length leaders.old ≡ max_gates) }
-    ensures { Leads (network m graph.now) m leaders.new }
+    ensures { Leads (network_of graph.entry) graph.entry.gates leaders.new }
 {
-    find_layers(graph, m, stack, notes, order, ends);
+    find_layers(graph, stack, notes, order, ends);
     // The search is over, so its stack is room for the positions.
-    find_positions(m, order, stack);
+    find_positions(graph.gates, order, stack);
     let layering = Layering {
         graph,
-        gates: m,
         order,
         ends,
         positions: stack,
@@ -80,13 +77,12 @@ fn lead_with(
         lead_layers(&layering, firsts, leaders);
         return;
     }
-    lead_by_closure(graph, m, leaders);
+    lead_by_closure(graph, leaders);
 }
 
 // Writes each gate's leader, the lowest gate of its strongly connected component.
-pub fn lead(graph: &[u16; GRAPH_WORDS], m: usize, leaders: &mut [u16; MAX_GATES])
-    requires { Graph m graph.now × (length leaders.old ≡ max_gates) }
-    ensures { Leads (network m graph.now) m leaders.new }
+pub fn lead(graph: GateGraph, leaders: &mut [u16; MAX_GATES])
+    ensures { Leads (network_of graph.entry) graph.entry.gates leaders.new }
 {
     let mut notes = [0u16; NOTES];
     let mut stack = [0u16; MAX_GATES];
@@ -95,7 +91,6 @@ pub fn lead(graph: &[u16; GRAPH_WORDS], m: usize, leaders: &mut [u16; MAX_GATES]
     let mut firsts = [0u16; MAX_GATES];
     lead_with(
         graph,
-        m,
         &mut stack,
         &mut notes,
         &mut order,

@@ -16,7 +16,7 @@ pub const LOWEST: usize = 1;
 // The parent in the search tree: the cursor from which the gate was entered; NOWHERE for the root of a search.
 pub const PARENT: usize = 2;
 
-// The marks of a note are numbers, since a note is a word of fixed memory, which holds no Option.
+// The marks of a note are numbers: a note is a word, as an Option of a word takes twice the room on the stack.
 pub const CLOSED: usize = 65535;
 
 pub const NOWHERE: usize = 65535;

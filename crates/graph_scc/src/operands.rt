@@ -1,14 +1,15 @@
 // The slots of a gate, by which it reads other gates.
 ghost use Rattle.std.specs.Prelude.{◌<◌};
-ghost use Rattle.graph_gates.specs.Graph.{slots, Graph};
+ghost use Rattle.graph_gates.specs.Graph.{slots};
 ghost use Rattle.graph_scc.specs.Search.{SlotGate};
 
-use graph_gates::{FIRST_GATE, GRAPH_WORDS, NODE_SIZE};
+use graph_gates::FIRST_GATE;
+use graph_gates::graph::GateGraph;
 
 // The gate that slot `s` of gate k reads, if it reads one.
-pub fn slot_gate(graph: &[u16; GRAPH_WORDS], m: usize, k: usize, s: usize) -> Option<usize>
-    requires { Graph m graph.now × (k < m) × (s < slots) }
-    ensures { SlotGate m graph.now k s result }
+pub fn slot_gate(graph: GateGraph, k: usize, s: usize) -> Option<usize>
+    requires { (k < graph.gates) × (s < slots) }
+    ensures { SlotGate graph.entry.gates graph.entry.words.now k s result }
 {
-    (graph[NODE_SIZE * k + 1 + s] as usize).checked_sub(FIRST_GATE)
+    graph.gate(k).place(s).checked_sub(FIRST_GATE)
 }

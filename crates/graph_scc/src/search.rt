@@ -9,6 +9,7 @@ ghost use Rattle.graph_gates.specs.Graph.{slots};
 ghost use Rattle.graph_scc.specs.Search.{clock_end, StandingReady, LeftOne};
 
 use crate::notes::{CLOSED, CURSORS, ENTERED, LOWEST, NOTE_SIZE, NOTES, NOWHERE, PARENT};
+use graph_gates::graph::GateGraph;
 use graph_gates::{FIRST_GATE, GRAPH_WORDS, NODE_SIZE, PLACES, SLOTS};
 use words_layout::limits::MAX_GATES;
 
@@ -17,7 +18,7 @@ use words_layout::limits::MAX_GATES;
 const CLOCK: usize = 8191;
 
 // Where the search stands: the clock's time, the slot that it is at, how many gates wait on the stack, and how many are
-// written.
+// written. That the stack has room is asked of each step: as a ghost field it would be owed after each push, too.
 #[derive(Clone, Copy)]
 struct Standing {
     time: usize,
@@ -228,7 +229,7 @@ impl<'a> Search<'a> {
             cursor: CURSORS * root,
             ..from
         };
-        // A turn takes a slot, enters a gate or leaves one, so that no index counts the turns.
+        // The search ends as it leaves its root, which no range tells, or at the clock's end.
         while standing.cursor < CURSORS * MAX_GATES && standing.time < CLOCK {
             standing = self.turn(graph, standing);
         }
@@ -236,17 +237,14 @@ impl<'a> Search<'a> {
     }
 }
 
-// Searches from every gate: writes the order of the first m gates and where their layers end.
+// Searches from every gate: writes the order of a graph's gates and where their layers end.
 pub fn find_layers(
-    graph: &[u16; GRAPH_WORDS],
-    m: usize,
+    graph: GateGraph,
     stack: &mut [u16; MAX_GATES],
     notes: &mut [u16; NOTES],
     order: &mut [u16; MAX_GATES],
     ends: &mut [u16; MAX_GATES],
-)
-    requires { m ≤ max_gates }
-{
+) {
     let mut search = Search {
         notes,
         stack,
@@ -259,10 +257,10 @@ pub fn find_layers(
         top: 0,
         count: 0,
     };
-    for root in 0..m {
+    for root in 0..graph.gates {
         if CLOCK <= standing.time {
             return;
         }
-        standing = search.explore(graph, root, standing);
+        standing = search.explore(graph.words, root, standing);
     }
 }

@@ -19,17 +19,17 @@ use Rattle.netlist.specs.Limits.{max_inputs}
 use Rattle.netlist.specs.Values.{Value, undefined, code, value_of}
 use Rattle.netlist.specs.Kinds.{gate_value}
 use Rattle.netlist.specs.Netlist.{Operand, input, gate, constant, Gate, Block, gate_count}
-use Rattle.netlist.specs.GateTable.{gate_table}
 use Rattle.netlist.specs.Rounds.{operand_value, evaluated, round, after_rounds, is_stable, rounds, settled}
 use Rattle.theory_fixpoint.proofs.Values.{code-injective}
 use Rattle.theory_fixpoint.proofs.Rounds.{length-round, stable-eq, eq-stable, rounds-more, rounds-end}
 use Rattle.theory_fixpoint.proofs.Rounds.{after_rounds-settled}
 use Rattle.graph_gates.specs.Places.{first_input, first_gate}
 use Rattle.graph_gates.specs.Graph.{network, Graph, Decoded}
+use Rattle.graph_gates.specs.Fanout.{Fanout}
 use Rattle.graph_gates.proofs.Network.{network-gates, network-count, rounds-gates, settled-gates}
 use Rattle.graph_simulation.specs.State.{Coded, inputs_in, state_in}
 use Rattle.graph_simulation.proofs.Codes.{code_same}
-use Rattle.graph_simulation.specs.Rounded.{Prepared, PreparedFor, Starting, SettledIn}
+use Rattle.graph_simulation.specs.Rounded.{PreparedFor, Starting, SettledIn}
 use Rattle.graph_simulation.specs.Changes.{defined_from, Round, Turned}
 use Rattle.graph_simulation.proofs.Updates.{defined-same, code-at, length-state_in, found-is}
 
@@ -200,7 +200,9 @@ state-codes m {values} c =
 
 -- ---- what is prepared for a block
 
-pub prepared-with : {ws table graph fanout : List ℕ} → PreparedFor ws graph fanout → table ≡ gate_table → (m : ℕ)
-    → m ≡ get_or ws 1 0
-    → Prepared m table graph fanout
-prepared-with p t m e = record { tabled = t; legal = rw e p.decoded.legal; linked = rw e p.linked }
+pub legal-for : {ws graph fanout : List ℕ} → PreparedFor ws graph fanout → {m : ℕ} → m ≡ get_or ws 1 0 → Graph m graph
+legal-for p e = rw e p.decoded.legal
+
+pub linked-for : {ws graph fanout : List ℕ} → PreparedFor ws graph fanout → {m : ℕ} → m ≡ get_or ws 1 0
+    → ∥ Fanout m graph fanout ∥₁
+linked-for p e = ∣ rw e p.linked ∣₁

@@ -15,7 +15,7 @@ use Rattle.netlist.specs.Limits.{max_inputs, max_gates}
 use Rattle.netlist.specs.Values.{Value, undefined, value_of}
 use Rattle.graph_gates.specs.Places.{first_input, first_gate, place_count}
 use Rattle.graph_gates.specs.Fanout.{fanout_size, Empty}
-use Rattle.graph_simulation.specs.Rounded.{Blank, Bytes, Starting, ScratchReady}
+use Rattle.graph_simulation.specs.Rounded.{Blank, Bytes, Starting}
 
 -- zeros
 zeros : (n k : ℕ) → ◌≡◌ {A = ℕ} (get_or (replicate n 0) k 0) 0
@@ -29,13 +29,9 @@ empty = record { long = length-replicate {A = ℕ} fanout_size 0; zeros = zeros 
 pub blank : Blank (replicate place_count 2)
 blank = record { long = length-replicate {A = ℕ} place_count 2; all = λ p l. get_or-replicate {A = ℕ} place_count p 2 0 l }
 
-pub scratch : ScratchReady (replicate max_gates 2) (replicate max_gates 0)
-scratch =
-    record {
-      found_room = length-replicate {A = ℕ} max_gates 2;
-      none = λ j l. get_or-replicate {A = ℕ} max_gates j 2 0 l;
-      queue_room = length-replicate {A = ℕ} max_gates 0;
-    }
+-- in codes that are all 2 no gate of m has a value
+pub nothing-found : {m : ℕ} → m ≤ max_gates → (j : ℕ) → j < m → ◌≡◌ {A = ℕ} (get_or (replicate max_gates 2) j 0) 2
+nothing-found few j l = get_or-replicate {A = ℕ} max_gates j 2 0 (omega arith)
 
 -- no input has a value
 module _ {values : List ℕ} (b : Blank values) where

@@ -1,9 +1,9 @@
 -- Rounds that evaluate only what can change: gates one by one, and from one round to the next. Cited by this crate's
 -- functions.
---   updated_none, one-new, updated-then   no gate, one that changes, one after the other
---   updated-done, updated-ready           what was found stays, and what is asked holds on
---   copied_next                           the values that are copied
---   round-first, round-next               the first round, and a further one
+--   one-new, updated-then     one gate that changes, one after the other
+--   updated-done, updated-ready   what was found stays, and what is asked holds on
+--   copied_next               the values that are copied
+--   round-first, round-next   the first round, and a further one
 -- Assumes nothing.
 use mathlib.Core.Path.{◌≡◌, refl, sym, ap, ◌∙◌}
 use mathlib.Core.Logic.{◌⊎◌, inl, inr, ⊎_elim}
@@ -11,10 +11,13 @@ use mathlib.Core.Bool.{Bool, true, false, not, ◌&&◌}
 use mathlib.Core.List.{List}
 use Prim.Native.Nat.{ℕ, zero, suc, ◌+◌, ◌-◌, ◌*◌, ◌/◌, ◌≤◌, ◌<◌}
 use native.Mathlib.Omega.{arith}
+use native.Mathlib.Nat.{ℕ_set}
+use native.Mathlib.Bridge.{le_prop}
 use lib.ListN.{length, get_or, set, replicate, length-set, length-replicate, get_or-replicate}
 use lib.Seq.{get_or-set_same, get_or-set_other, ext_get_or}
 use lib.Dec.{eqb}
 use borrow.Author.Tests.{eq-eqb, ne_eqb, eqb-false, not-true}
+use Rattle.std.proofs.Math.Logic.{∥∥₁_elim}
 use Rattle.prelude.specs.Lists.{any, up_to}
 use Rattle.prelude.proofs.Tests.{lt-or-le, eq-or-ne, bool_cases, and_left, and_right, and_intro, not-both}
 use Rattle.prelude.proofs.Tab.{get_d-tab, length-tab, tab-ext}
@@ -40,7 +43,7 @@ use Rattle.graph_simulation.proofs.Codes.{code-most, code_same}
 use Rattle.graph_simulation.proofs.State.{evaluated-at}
 use Rattle.graph_simulation.specs.Rounded.{Unsettled}
 use Rattle.graph_simulation.specs.Changes.{defined_from, QueuedIn, Done, Steady, UpdateReady, Updated, UpdatedOne}
-use Rattle.graph_simulation.specs.Changes.{UpdatedList, UpdatedAll, Pending}
+use Rattle.graph_simulation.specs.Changes.{UpdatedList, UpdatedAll, Pending, ListReady}
 use Rattle.graph_simulation.specs.Changes.{CopyReady, Copied, Round, Turned}
 
 -- ---- how many gates are 0 or 1
@@ -78,25 +81,7 @@ none-defined p codes (suc m) h = rw (none-defined p codes m (λ j l. h j (omega 
 -- ---- gates evaluated
 
 module _ {m : ℕ} {graph values : List ℕ} where
-  -- no gate
-  pub updated_none : (found queue : List ℕ) (end : ℕ) → Updated m graph values found queue end found queue end
-  updated_none found queue end =
-      record {
-        found_long = refl;
-        queue_long = refl;
-        each = λ j l. inl refl;
-        front = λ q l. refl;
-        inside = λ q lo hi. absurd (omega arith);
-        ordered = omega arith;
-        counted = refl;
-      }
-
   module _ {found queue : List ℕ} {end : ℕ} (r : UpdateReady m graph values found queue end) (j : ℕ) (l : j < m) where
-    -- a gate that has its value already
-    pub one_kept : (get_or found j 0 ≡ 2 → ⊥) → UpdatedOne m graph values found queue end j found queue end
-    one_kept h =
-        record { updated = updated_none found queue end; done = ⊎_elim (λ e. absurd (h e)) (λ d. d) (r.steady j l) }
-
     module _ (v : ℕ) (was : get_or found j 0 ≡ 2) (some : v ≡ 2 → ⊥) where
       more : defined_from 0 (set found j v) m ≡ suc (defined_from 0 found m)
       more = defined_more found m j v l (omega (arith, r.legal.few, r.found_room)) was some
@@ -233,7 +218,7 @@ module _ {m : ℕ} {graph values found queue : List ℕ} {end : ℕ} {found' que
       step r = ⊎_elim (λ q. inl (first q)) (λ s. inr (rw is s)) (chain-step r)
 
   -- one queued gate more
-  pub pending_next : {fanout : List ℕ} (front : List ℕ) {q tail : ℕ} → Graph m graph → Fanout m graph fanout
+  pub pending_next : {fanout : List ℕ} (front : List ℕ) {q tail : ℕ} → Graph m graph → ∥ Fanout m graph fanout ∥₁
       → Pending m graph values found front q tail
       → UpdatedList m graph fanout values found queue end (get_or fanout (get_or front q 0) 0) found' queue' end'
       → Pending m graph values found' front (q + 1) tail
@@ -241,9 +226,9 @@ module _ {m : ℕ} {graph values found queue : List ℕ} {end : ℕ} {found' que
     where
       now : (k : ℕ) → reads (network m graph) j k ≡ true → get_or front q 0 ≡ k → Done graph values found' j
       now k reading is =
-          let s = reading-found g j k l reading f in
+          ∥∥₁_elim f (ℕ_set _ _) (λ linked. let s = reading-found g j k l reading linked in
           let done : Done graph values found' (s.0 / slots) = u.done s.0 (rw is s.2) in
-          rw s.1 at done
+          rw s.1 at done)
 
       step : ((k : ℕ) × (reads (network m graph) j k ≡ true) × QueuedIn front q tail k)
           → Done graph values found' j ⊎ ((k : ℕ) × (reads (network m graph) j k ≡ true)
@@ -253,6 +238,15 @@ module _ {m : ℕ} {graph values found queue : List ℕ} {end : ℕ} {found' que
           (λ e. inl (now s.0 s.1 (rw e at s.2.3)))
           (λ ne. inr (s.0, s.1, (s.2.0, omega (arith, s.2.1), s.2.2, s.2.3)))
           (eq-or-ne s.2.0 q)
+
+-- a gate's list in a fan-out that is made
+pub list-of : {m : ℕ} {graph fanout : List ℕ} {k : ℕ} → ∥ Fanout m graph fanout ∥₁ → k < max_gates
+    → ListReady m fanout (get_or fanout k 0)
+list-of f l =
+    record {
+      descends = λ e. ∥∥₁_elim f le_prop (λ linked. linked.descends e);
+      starts = ∥∥₁_elim f le_prop (λ linked. linked.starts _ l);
+    }
 
 -- ---- values copied
 

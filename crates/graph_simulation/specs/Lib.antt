@@ -4,3 +4,4 @@ pub mod Legal
 pub mod State
 pub mod Rounded
 pub mod Changes
+pub mod Found

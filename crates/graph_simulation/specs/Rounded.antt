@@ -8,18 +8,11 @@ use Rattle.std.specs.Prelude.{◌≡◌, List, ℕ, ◌+◌, ◌≤◌, ◌<◌,
 use Rattle.netlist.specs.Limits.{max_inputs, max_gates}
 use Rattle.netlist.specs.Values.{Value, undefined, value_of}
 use Rattle.netlist.specs.StoredBlock.{decode}
-use Rattle.netlist.specs.GateTable.{gate_table}
 use Rattle.netlist.specs.Rounds.{rounds, settled}
 use Rattle.graph_gates.specs.Places.{first_input, first_gate, place_count}
-use Rattle.graph_gates.specs.Graph.{network, Graph, Decoded}
+use Rattle.graph_gates.specs.Graph.{network, Decoded}
 use Rattle.graph_gates.specs.Fanout.{Fanout}
 use Rattle.graph_simulation.specs.State.{Coded, inputs_in, state_in}
-
--- prepared for settling: the table of all gates, a graph of m gates and its fan-out
-pub record Prepared (m : ℕ) (table graph fanout : List ℕ) : Type 0 where
-  pub tabled : table ≡ gate_table
-  pub legal : Graph m graph
-  pub linked : Fanout m graph fanout
 
 -- prepared for the block that these words hold: its graph and its fan-out
 pub record PreparedFor (ws graph fanout : List ℕ) : Type 0 where
@@ -46,12 +39,6 @@ pub record Starting (x : List Value) (values : List ℕ) : Type 0 where
   pub unsettled : Unsettled values
   pub few : length x ≤ max_inputs
   pub given : (i : ℕ) → i < max_inputs → value_of (get_or values (first_input + i) 0) ≡ get_or x i undefined
-
--- room for a round: nothing is found yet
-pub record ScratchReady (found queue : List ℕ) : Type 0 where
-  pub found_room : length found ≡ max_gates
-  pub none : (j : ℕ) → j < max_gates → get_or found j 0 ≡ 2
-  pub queue_room : length queue ≡ max_gates
 
 -- the inputs are as they were, and the gates have their settled values
 pub record SettledIn (m : ℕ) (graph values values' : List ℕ) (count : ℕ) : Type 0 where

@@ -4,183 +4,113 @@
 // 0 or 1 keeps its value, as gates are monotone, and is not evaluated again.
 ghost use Rattle.std.specs.Prelude.{◌≡◌, ◌≤◌, ◌<◌};
 ghost use Rattle.netlist.specs.GateTable.{gate_table};
-ghost use Rattle.graph_simulation.specs.Rounded.{Prepared};
-ghost use Rattle.graph_simulation.specs.Changes.{Pending, UpdateReady, UpdatedOne, UpdatedList, UpdatedAll};
-ghost use Rattle.graph_simulation.specs.Changes.{Copied, CopyReady, Round, Turned, ListReady};
+ghost use Rattle.graph_gates.specs.Fanout.{Fanout};
+ghost use Rattle.graph_simulation.specs.Changes.{Pending, Copied, CopyReady, Round, Turned, ListReady};
 
 use crate::gate::gate_value;
 use crate::round::UNDEFINED;
 use crate::table::GATE_ENTRIES;
 use graph_gates::fanout::{FANOUT_WORDS, NEXT_AT};
-use graph_gates::{FIRST_GATE, GRAPH_WORDS, PLACES, SLOTS};
+use graph_gates::graph::GateGraph;
+use graph_gates::{FIRST_GATE, PLACES, SLOTS};
 use words_layout::limits::MAX_GATES;
 
-// Where the gates that one round changed stand in the queue: from `head` on, before `tail`.
+// A block prepared for simulation: the table of all gates, the graph of its gates, and their fan-out.
 #[derive(Clone, Copy)]
-pub struct Stretch {
-    pub head: usize,
-    pub tail: usize,
+pub struct PreparedBlock<'a> {
+    pub table: &'a [u8; GATE_ENTRIES],
+    pub graph: GateGraph<'a>,
+    pub fanout: &'a [u16; FANOUT_WORDS],
+    ghost tabled: { table.now ≡ gate_table },
+    ghost linked: { ∥ Fanout graph.gates graph.words.now fanout.now ∥₁ },
 }
 
-// One gate's list in the fan-out of `gates` gates: it starts at `from`.
+// The code that the rounds have found for each gate, and the gates that they changed, in order: the first `end` of the
+// queue. What it is to the values is asked of each method and no ghost field: it holds of one array of values and for
+// one round.
 #[derive(Drop)]
-struct FanoutList {
-    gates: usize,
-    from: usize,
+pub struct Found {
+    pub codes: [u8; MAX_GATES],
+    pub queue: [u16; MAX_GATES],
+    pub end: usize,
 }
 
-// Evaluates gate `j`, if it has no value, and queues it if it gets one; gives the queue's new end.
-fn update(
-    table: &[u8; GATE_ENTRIES],
-    graph: &[u16; GRAPH_WORDS],
-    m: usize,
-    j: usize,
-    values: &[u8; PLACES],
-    found: &mut [u8; MAX_GATES],
-    queue: &mut [u16; MAX_GATES],
-    end: usize,
-) -> usize
-    requires { (table.now ≡ gate_table) × UpdateReady m graph.now values.now found.old queue.old end
-        × (j < m) }
-    ensures { UpdatedOne m graph.now values.now found.old queue.old end j
-        found.new queue.new result }
-{
-    if found[j] != UNDEFINED {
-        return end;
-    }
-    let value = gate_value(table, graph, j, values);
-    if value == UNDEFINED {
-        return end;
-    }
-    found[j] = value;
-    queue[end] = j as u16;
-    end + 1
-}
+impl Found {
+    ghost use Rattle.graph_simulation.specs.Found.{MayUpdate, OneUpdated, ListUpdated, AllUpdated};
 
-// Evaluates every gate without a value, and queues those that get one; gives the queue's new end.
-pub fn update_all(
-    table: &[u8; GATE_ENTRIES],
-    graph: &[u16; GRAPH_WORDS],
-    m: usize,
-    values: &[u8; PLACES],
-    found: &mut [u8; MAX_GATES],
-    queue: &mut [u16; MAX_GATES],
-) -> usize
-    requires { (table.now ≡ gate_table) × UpdateReady m graph.now values.now found.old queue.old 0 }
-    ensures { UpdatedAll m graph.now values.now found.old queue.old 0
-        found.new queue.new result }
-{
-    let mut end = 0;
-    for j in 0..m {
-        end = update(table, graph, m, j, values, found, queue, end);
+    // Evaluates gate `j`, if it has no value, and queues it if it gets one.
+    fn update(&mut self, block: PreparedBlock<'_>, j: usize, values: &[u8; PLACES])
+        requires { MayUpdate block values.now self.old × (j < block.graph.gates) }
+        ensures { OneUpdated block.entry values.now j self.old self.new }
+    {
+        if self.codes[j] != UNDEFINED {
+            return;
+        }
+        let value = gate_value(block.table, block.graph.words, j, values);
+        if value == UNDEFINED {
+            return;
+        }
+        self.codes[j] = value;
+        self.queue[self.end] = j as u16;
+        self.end += 1;
     }
-    end
-}
 
-// Evaluates the fan-out of one gate, and queues those that get a value; gives the queue's new end.
-fn update_fanout(
-    table: &[u8; GATE_ENTRIES],
-    graph: &[u16; GRAPH_WORDS],
-    fanout: &[u16; FANOUT_WORDS],
-    list: FanoutList,
-    values: &[u8; PLACES],
-    found: &mut [u8; MAX_GATES],
-    queue: &mut [u16; MAX_GATES],
-    tail: usize,
-) -> usize
-    requires table_value { (table.now ≡ gate_table)
-        × UpdateReady list.gates graph.now values.now found.old queue.old tail }
-    requires list_ready { ListReady list.gates fanout.now list.from }
-    ensures { UpdatedList list.gates graph.now fanout.now values.now
-        found.old queue.old tail
-        list.from found.new queue.new result }
-{
-    let mut end = tail;
-    let mut p = list.from;
-    // Each entry of the list names the next, so that no index counts them.
-    while let Some(e) = p.checked_sub(1) {
-        end = update(
-            table,
-            graph,
-            list.gates,
-            e / SLOTS,
-            values,
-            found,
-            queue,
-            end,
-        );
-        p = fanout[NEXT_AT + e] as usize;
+    // Evaluates every gate without a value, and queues those that get one.
+    pub fn update_all(&mut self, block: PreparedBlock<'_>, values: &[u8; PLACES])
+        requires { MayUpdate block values.now self.old }
+        ensures { AllUpdated block.entry values.now self.old self.new }
+    {
+        for j in 0..block.graph.gates {
+            self.update(block, j, values);
+        }
     }
-    end
-}
 
-// Evaluates the fan-out of the gates that the round before changed, and queues those that get a value; gives the
-// queue's new end.
-fn update_changed(
-    table: &[u8; GATE_ENTRIES],
-    graph: &[u16; GRAPH_WORDS],
-    fanout: &[u16; FANOUT_WORDS],
-    m: usize,
-    values: &[u8; PLACES],
-    found: &mut [u8; MAX_GATES],
-    queue: &mut [u16; MAX_GATES],
-    changed: Stretch,
-) -> usize
-    requires prepared { Prepared m table.now graph.now fanout.now }
-    requires update_ready { UpdateReady m graph.now values.now found.old queue.old changed.tail
-        × (changed.head ≤ changed.tail) }
-    requires copy_ready { CopyReady queue.old changed.tail values.now }
-    requires pending { Pending m graph.now values.now found.old queue.old changed.head changed.tail }
-    ensures { UpdatedAll m graph.now values.now found.old queue.old
-        changed.tail found.new
-        queue.new result }
-{
-    let mut end = changed.tail;
-    for q in changed.head..changed.tail {
-        let k = queue[q] as usize;
-        let list = FanoutList {
-            gates: m,
-            from: fanout[k] as usize,
-        };
-        end = update_fanout(table, graph, fanout, list, values, found, queue, end);
+    // Evaluates the gates of one list of the fan-out, which starts at `from`, and queues those that get a value.
+    fn update_fanout(&mut self, block: PreparedBlock<'_>, from: usize, values: &[u8; PLACES])
+        requires { MayUpdate block values.now self.old × ListReady block.graph.gates block.fanout.now from }
+        ensures { ListUpdated block.entry values.now from self.old self.new }
+    {
+        let mut p = from;
+        // Each entry of the list names the next, so that no index counts them.
+        while let Some(e) = p.checked_sub(1) {
+            self.update(block, e / SLOTS, values);
+            p = block.fanout[NEXT_AT + e] as usize;
+        }
     }
-    end
-}
 
-// Puts the values of the gates that the round before changed at their places.
-fn copy_changed(
-    found: &[u8; MAX_GATES],
-    queue: &[u16; MAX_GATES],
-    changed: Stretch,
-    values: &mut [u8; PLACES],
-)
-    requires { CopyReady queue.now changed.tail values.old × (changed.head ≤ changed.tail) }
-    ensures { Copied found.now queue.now changed.head changed.tail
-        values.old values.new }
-{
-    for &k in &queue[changed.head..changed.tail] {
-        let k = k as usize;
-        values[FIRST_GATE + k] = found[k];
+    // Evaluates the fan-out of the gates that the round before changed, queued from `head` on, and queues those that
+    // get a value.
+    fn update_changed(&mut self, block: PreparedBlock<'_>, head: usize, values: &[u8; PLACES])
+        requires update_ready { MayUpdate block values.now self.old × (head ≤ self.old.end) }
+        requires copy_ready { CopyReady self.old.queue self.old.end values.now }
+        requires pending { Pending block.graph.gates block.graph.words.now values.now self.old.codes self.old.queue head self.old.end }
+        ensures { AllUpdated block.entry values.now self.old self.new }
+    {
+        for q in head..self.end {
+            let k = self.queue[q] as usize;
+            self.update_fanout(block, block.fanout[k] as usize, values);
+        }
     }
-}
 
-// One round more, from what the round before changed; gives the end of the gates that this round changed, which are
-// queued behind those.
-pub fn next_round(
-    table: &[u8; GATE_ENTRIES],
-    graph: &[u16; GRAPH_WORDS],
-    fanout: &[u16; FANOUT_WORDS],
-    m: usize,
-    values: &mut [u8; PLACES],
-    found: &mut [u8; MAX_GATES],
-    queue: &mut [u16; MAX_GATES],
-    changed: Stretch,
-) -> usize
-    requires prepared { Prepared m table.now graph.now fanout.now }
-    requires round { Round m graph.now values.old found.old queue.old changed.head changed.tail }
-    ensures { Turned m graph.now values.old values.new found.new queue.new
-        changed.tail result }
-{
-    copy_changed(found, queue, changed, values);
-    update_changed(table, graph, fanout, m, values, found, queue, changed)
+    // Puts the values of the gates that the round before changed, queued from `head` on, at their places.
+    fn copy_changed(&self, head: usize, values: &mut [u8; PLACES])
+        requires { CopyReady self.now.queue self.now.end values.old × (head ≤ self.now.end) }
+        ensures { Copied self.now.codes self.now.queue head self.now.end values.old values.new }
+    {
+        for &k in &self.queue[head..self.end] {
+            let k = k as usize;
+            values[FIRST_GATE + k] = self.codes[k];
+        }
+    }
+
+    // One round more, from what the round before changed, which is queued from `head` on; what this round changes is
+    // queued behind that.
+    pub fn next_round(&mut self, block: PreparedBlock<'_>, head: usize, values: &mut [u8; PLACES])
+        requires { Round block.graph.gates block.graph.words.now values.old self.old.codes self.old.queue head self.old.end }
+        ensures { Turned block.entry.graph.gates block.entry.graph.words.now values.old values.new self.new.codes self.new.queue
+            self.old.end self.new.end }
+    {
+        self.copy_changed(head, values);
+        self.update_changed(block, head, values);
+    }
 }

@@ -3,7 +3,7 @@
 // fan-out of the gates that changed in the round before. Callers cite the definitions of `netlist`.
 #![tactic(auto)]
 
-mod changes;
+pub mod changes;
 pub mod gate;
 pub mod output;
 pub mod round;

@@ -1,5 +1,6 @@
 // The array of values, a byte for what stands at each place of crates/graph_gates: made from a setting's bytes, and the
-// gates' bytes taken out of it.
+// gates' bytes taken out of it. That nothing in it has a value yet is asked of the array that is lent to be written: a
+// type that says so would have to become another one with the first value.
 ghost use Rattle.std.specs.Prelude.{◌≡◌, [], map, ◌+◌, ◌≤◌, length, get_or};
 ghost use Rattle.prelude.specs.Lists.{tab, placed};
 ghost use Rattle.netlist.specs.Limits.{max_gates};

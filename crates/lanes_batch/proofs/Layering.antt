@@ -24,7 +24,7 @@ use Rattle.prelude.proofs.Tab.{length-tab, get_d-tab}
 use Rattle.prelude.proofs.Tests.{lt-or-le}
 use Rattle.prelude.proofs.Lists.{map-replicate, member-left, member_right, member-head}
 use Rattle.prelude.proofs.Quantifiers.{member-at, member-from}
-use Rattle.netlist.specs.Limits.{max_inputs, max_gates}
+use Rattle.netlist.specs.Limits.{max_inputs}
 use Rattle.netlist.specs.Values.{Value, undefined, val}
 use Rattle.netlist.specs.Netlist.{Block, gate_count, gate_of}
 use Rattle.netlist.specs.Groups.{reads}
@@ -38,9 +38,9 @@ use Rattle.theory_fixpoint.proofs.AnyOrder.{start-below-settled, run-elsewhere, 
 use Rattle.theory_fixpoint.proofs.InPlace.{start-rising, run-fixed}
 use Rattle.theory_fixpoint.proofs.ListFacts.{get_d-replicate-default}
 use Rattle.graph_gates.specs.Places.{first_gate}
-use Rattle.graph_gates.specs.Graph.{gate_at, Node, Graph, network, Decoded}
+use Rattle.graph_gates.specs.Graph.{gate_at, Graph, network, Decoded}
 use Rattle.graph_gates.specs.Graph.{gates_in as gates_of}
-use Rattle.graph_gates.proofs.Network.{network-gates, network-count, count-gates, read_by-gates, settled-gates}
+use Rattle.graph_gates.proofs.Network.{node-wider, network-gates, network-count, count-gates, read_by-gates, settled-gates}
 use Rattle.graph_scc.specs.Layers.{LoopEnd, Layers}
 use Rattle.lanes_dual_rail.specs.declared.Pair.{Pair}
 use Rattle.lanes_dual_rail.specs.Pairs.{lane, full, no_lanes}
@@ -66,16 +66,6 @@ use Rattle.lanes_batch.proofs.Inputs.{settled-inputs, start_inputs-proper, start
 pub network-gate : (m : ℕ) (graph : List ℕ) (j : ℕ) → j < m → gate_of (network m graph) j ≡ gate_at graph j
 unfolding network gates_of
 network-gate m graph j l = get_d-tab (gate_at graph) m j _ l
-
-pub node-wider : {m : ℕ} {graph : List ℕ} {j : ℕ} → m ≤ max_gates → Node m graph j → Node max_gates graph j
-node-wider few n =
-    record {
-      kind = n.kind;
-      count = n.count;
-      operation = n.operation;
-      place = n.place;
-      inside = λ i l. omega (arith, n.inside i l);
-    }
 
 pub part-nodes : {m : ℕ} {graph order : List ℕ} {from end : ℕ} → Graph m graph → OrderPart m order from end
     → Part graph order from end

@@ -9,24 +9,24 @@ use Rattle.lanes_batch.specs.declared.layered.Circuit.{Circuit}
 use Rattle.lanes_batch.specs.Layered.{LanesUnderway, OrderPart, PartAdvanced, Reached, LayersSettled, room_in}
 
 abbrev pub IsUnderway : Circuit → List ℕ → Type 0
-IsUnderway c w = LanesUnderway c.gates c.inputs c.plan.now.graph w
+IsUnderway c w = LanesUnderway c.graph.gates c.inputs c.graph.words.now w
 
 abbrev pub room_of : Circuit → List ℕ → ℕ
-room_of c w = room_in c.gates c.inputs w
+room_of c w = room_in c.graph.gates c.inputs w
 
 abbrev pub HasPart : Circuit → ℕ → ℕ → Type 0
-HasPart c from end = OrderPart c.gates c.plan.now.order from end
+HasPart c from end = OrderPart c.graph.gates c.order.now from end
 
 abbrev pub Advanced : Circuit → ℕ → ℕ → List ℕ → List ℕ → Bool → Type 0
 Advanced c from end w after done =
-    PartAdvanced c.gates c.inputs c.plan.now.graph c.plan.now.order from end w after done
+    PartAdvanced c.graph.gates c.inputs c.graph.words.now c.order.now from end w after done
 
 abbrev pub InLayers : Circuit → Type 0
-InLayers c = Layers c.gates c.plan.now.graph c.plan.now.order c.plan.now.ends
+InLayers c = Layers c.graph.gates c.graph.words.now c.order.now c.ends.now
 
 abbrev pub CircuitReached : Circuit → ℕ → List ℕ → Type 0
-CircuitReached c i w = Reached c.gates c.inputs c.plan.now.graph c.plan.now.order c.plan.now.ends i w
+CircuitReached c i w = Reached c.graph.gates c.inputs c.graph.words.now c.order.now c.ends.now i w
 
 abbrev pub CircuitSettled : Circuit → ℕ → List ℕ → List ℕ → ℕ → Type 0
 CircuitSettled c i w after next =
-    LayersSettled c.gates c.inputs c.plan.now.graph c.plan.now.order c.plan.now.ends i w after next
+    LayersSettled c.graph.gates c.inputs c.graph.words.now c.order.now c.ends.now i w after next

@@ -1,11 +1,13 @@
 // Fixpoint iteration for up to 64 settings at once, layer by layer: a gate that lies on no loop is evaluated once, a
 // loop's gates until nothing in the loop changes (chaotic iteration: any order gives the least fixpoint). The batch of
 // settings starts at `base`; `lanes` has two words for each place (crates/lanes_dual_rail); `order` and `ends` are the
-// gates in layers (crates/graph_scc).
+// gates in layers (crates/graph_scc). That a batch starts at a multiple of 64 is asked of its number, as a limit is of a
+// count (crates/words_layout/src/limits.rt).
 ghost use Rattle.std.specs.Prelude.{◌≡◌, true, false, ◌+◌, ◌≤◌, ◌<◌, ◌%◌};
 ghost use Rattle.netlist.specs.Limits.{max_inputs, max_gates};
 ghost use Rattle.netlist.specs.Rendering.{is_straight};
-ghost use Rattle.graph_gates.specs.Graph.{Node, Graph, network};
+ghost use Rattle.graph_gates.specs.Graph.{Graph, network};
+ghost use Rattle.graph_gates.specs.Legal.{network_of};
 ghost use Rattle.graph_scc.specs.Layers.{Layers};
 ghost use Rattle.lanes_dual_rail.specs.Batches.{input_pair};
 ghost use Rattle.lanes_dual_rail.specs.LaneWords.{lane_size};
@@ -16,6 +18,7 @@ ghost use Rattle.lanes_batch.specs.Layered.{Cleared, ConstantsStarted, InputsPut
 ghost use Rattle.lanes_batch.specs.Layered.{LanesFresh, LanesFixed, StraightFixed, LanesSettled};
 
 use crate::plan::Plan;
+use graph_gates::graph::{Gate, GateGraph};
 use graph_gates::{FIRST_GATE, FIRST_INPUT, GRAPH_WORDS};
 use lanes_dual_rail::evaluate::{gate_pair, pair_at, put_pair};
 use lanes_dual_rail::inputs::{input_pair, used_lanes};
@@ -74,23 +77,21 @@ pub fn start_lanes(m: usize, n: usize, base: usize, lanes: &mut [u64; LANE_WORDS
     put_inputs(n, base, lanes);
 }
 
-// Evaluates gate `j` and stores its pair.
-fn evaluate(graph: &[u16; GRAPH_WORDS], j: usize, lanes: &mut [u64; LANE_WORDS])
-    requires { Node max_gates graph.now j × (j < max_gates) }
-    ensures { GateStored graph.now j lanes.old lanes.new }
+// Evaluates a gate and stores its pair.
+fn evaluate(gate: Gate, lanes: &mut [u64; LANE_WORDS])
+    ensures { GateStored gate.entry.graph.now gate.entry.number lanes.old lanes.new }
 {
-    let pair = gate_pair(graph, j, lanes);
-    put_pair(lanes, FIRST_GATE + j, pair);
+    let pair = gate_pair(gate, lanes);
+    put_pair(lanes, FIRST_GATE + gate.number, pair);
 }
 
-// Evaluates gate `j` and stores its pair; tells whether it changed.
-fn step(graph: &[u16; GRAPH_WORDS], j: usize, lanes: &mut [u64; LANE_WORDS]) -> bool
-    requires { Node max_gates graph.now j × (j < max_gates) }
-    ensures { GateEvaluated graph.now j lanes.old lanes.new result }
+// Evaluates a gate and stores its pair; tells whether it changed.
+fn step(gate: Gate, lanes: &mut [u64; LANE_WORDS]) -> bool
+    ensures { GateEvaluated gate.entry.graph.now gate.entry.number lanes.old lanes.new result }
 {
-    let pair = gate_pair(graph, j, lanes);
-    let old = pair_at(lanes, FIRST_GATE + j);
-    put_pair(lanes, FIRST_GATE + j, pair);
+    let pair = gate_pair(gate, lanes);
+    let old = pair_at(lanes, FIRST_GATE + gate.number);
+    put_pair(lanes, FIRST_GATE + gate.number, pair);
     pair != old
 }
 
@@ -104,7 +105,8 @@ fn place_along(back: bool, count: usize, i: usize) -> usize
 }
 
 // Evaluates the gates at the positions from `from` to before `end`, or back from there, and stores each pair at once;
-// tells whether any changed.
+// tells whether any changed. It takes a graph's words alone, since who runs a group's passes is not told how many gates
+// the graph has.
 pub fn sweep_part(
     graph: &[u16; GRAPH_WORDS],
     order: &[u16; MAX_GATES],
@@ -121,7 +123,11 @@ pub fn sweep_part(
     let mut changed = false;
     for i in 0..count {
         let at = from + place_along(back, count, i);
-        changed = step(graph, order[at] as usize, lanes) | changed;
+        let gate = Gate {
+            graph,
+            number: order[at] as usize,
+        };
+        changed = step(gate, lanes) | changed;
     }
     changed
 }
@@ -152,13 +158,14 @@ fn is_decided(
         .all(|&j| is_gate_decided(used, j as usize, lanes))
 }
 
-// A plan, and how many gates and inputs its block has: its graph is a legal one of so many gates.
+// A block's plan: its graph, the gates in the order of evaluation and where the layer of each position ends; and how
+// many inputs the block has.
 #[derive(Clone, Copy)]
 struct Circuit<'a> {
-    plan: &'a Plan,
-    gates: usize,
+    graph: GateGraph<'a>,
+    order: &'a [u16; MAX_GATES],
+    ends: &'a [u16; MAX_GATES],
     inputs: usize,
-    ghost legal: { Graph gates plan.now.graph },
 }
 
 impl<'a> Circuit<'a> {
@@ -178,10 +185,10 @@ impl<'a> Circuit<'a> {
         ensures part_advanced { Advanced self.now from end lanes.old lanes.new result }
         ensures lanes_bound { result ≡ false → room_of self.now lanes.new < room_of self.now lanes.old }
     {
-        if !sweep_part(&self.plan.graph, &self.plan.order, from, end, back, lanes) {
+        if !sweep_part(self.graph.words, self.order, from, end, back, lanes) {
             return true;
         }
-        is_decided(used_lanes(self.inputs), &self.plan.order, from, end, lanes)
+        is_decided(used_lanes(self.inputs), self.order, from, end, lanes)
     }
 
     // Sweeps over a loop until nothing in it can change any more: twice along its order, since an order that enters a
@@ -203,21 +210,21 @@ impl<'a> Circuit<'a> {
     // Settles the layer that starts at position `i`, and if that is a gate on no loop, all such gates up to the next
     // loop; gives the position at which the next layer starts.
     fn settle_run(&self, i: usize, lanes: &mut [u64; LANE_WORDS]) -> usize
-        requires { InLayers self.now × (i < self.now.gates) × CircuitReached self.now i lanes.old }
+        requires { InLayers self.now × (i < self.now.graph.gates) × CircuitReached self.now i lanes.old }
         ensures { CircuitSettled self.now i lanes.old lanes.new result }
     {
-        let end = self.plan.ends[i] as usize;
+        let end = self.ends[i] as usize;
         if end != i {
             self.settle_loop(i, end, lanes);
             return end;
         }
-        for k in i..self.gates {
-            if self.plan.ends[k] as usize != k {
+        for k in i..self.graph.gates {
+            if self.ends[k] as usize != k {
                 return k;
             }
-            evaluate(&self.plan.graph, self.plan.order[k] as usize, lanes);
+            evaluate(self.graph.gate(self.order[k] as usize), lanes);
         }
-        self.gates
+        self.graph.gates
     }
 }
 
@@ -227,8 +234,12 @@ pub fn settle_layers(plan: &Plan, m: usize, n: usize, lanes: &mut [u64; LANE_WOR
     ensures { LanesFixed (network m plan.now.graph) n lanes.old lanes.new }
 {
     let circuit = Circuit {
-        plan,
-        gates: m,
+        graph: GateGraph {
+            words: &plan.graph,
+            gates: m,
+        },
+        order: &plan.order,
+        ends: &plan.ends,
         inputs: n,
     };
     let mut i = 0;
@@ -240,12 +251,12 @@ pub fn settle_layers(plan: &Plan, m: usize, n: usize, lanes: &mut [u64; LANE_WOR
 
 // Settles started lanes of a straight block: its gates, each of which reads only gates before it, are evaluated once,
 // as they come.
-pub fn settle_straight(graph: &[u16; GRAPH_WORDS], m: usize, lanes: &mut [u64; LANE_WORDS])
-    requires { Graph m graph.now × (is_straight (network m graph.now) ≡ true) }
-    ensures { StraightFixed m graph.now lanes.old lanes.new }
+pub fn settle_straight(graph: GateGraph, lanes: &mut [u64; LANE_WORDS])
+    requires { is_straight (network_of graph) ≡ true }
+    ensures { StraightFixed graph.entry.gates graph.entry.words.now lanes.old lanes.new }
 {
-    for j in 0..m {
-        evaluate(graph, j, lanes);
+    for j in 0..graph.gates {
+        evaluate(graph.gate(j), lanes);
     }
 }
 
@@ -261,17 +272,11 @@ pub fn decide_batch(plan: &Plan, m: usize, n: usize, base: usize, lanes: &mut [u
 
 // Finds the settled values of a straight block's batch. One function with `decide_batch` would be no plainer: a closure
 // that settles would stand for one call, and its contract for both of these.
-pub fn decide_straight(
-    graph: &[u16; GRAPH_WORDS],
-    m: usize,
-    n: usize,
-    base: usize,
-    lanes: &mut [u64; LANE_WORDS],
-)
-    requires graph { Graph m graph.now × (is_straight (network m graph.now) ≡ true) }
+pub fn decide_straight(graph: GateGraph, n: usize, base: usize, lanes: &mut [u64; LANE_WORDS])
+    requires straight { is_straight (network_of graph) ≡ true }
     requires n_le_max_inputs { (n ≤ max_inputs) × (base % 64 ≡ 0) }
-    ensures { LanesSettled (network m graph.now) n base lanes.new }
+    ensures { LanesSettled (network_of graph.entry) n base lanes.new }
 {
-    start_lanes(m, n, base, lanes);
-    settle_straight(graph, m, lanes);
+    start_lanes(graph.gates, n, base, lanes);
+    settle_straight(graph, lanes);
 }

@@ -1,11 +1,13 @@
 // The plan that every walk over a block's settings goes by, made once: the block's graph, and its gates in layers.
-ghost use Rattle.std.specs.Prelude.{◌≡◌, false};
-ghost use Rattle.netlist.specs.StoredBlock.{is_malformed};
 ghost use Rattle.lanes_batch.specs.Layered.{PlanRoom};
 ghost use Rattle.lanes_batch.specs.Plan.{IsPlan};
+ghost use Rattle.std.proofs.Props.{props};
+ghost use Rattle.graph_scc.proofs.Propositions.{Layers-prop};
 
+use graph_gates::graph::GateGraph;
 use graph_gates::{GRAPH_WORDS, decode_gates};
 use graph_scc::layers::layer_gates;
+use words_layout::block::Block;
 use words_layout::limits::MAX_GATES;
 use words_layout::offsets::gates_of;
 
@@ -15,6 +17,14 @@ pub struct Plan {
     pub graph: [u16; GRAPH_WORDS],
     pub order: [u16; MAX_GATES],
     pub ends: [u16; MAX_GATES],
+}
+
+// A block with its plan.
+#[derive(Clone, Copy)]
+pub struct PlannedBlock<'a> {
+    pub words: &'a [u16],
+    pub plan: &'a Plan,
+    ghost planned: { IsPlan words.now plan.now } by { Prim.hlevel (props, Layers-prop) },
 }
 
 // Room for a plan.
@@ -28,16 +38,14 @@ pub fn blank_plan() -> Plan
     }
 }
 
-// Makes the plan of a block that is not malformed.
-pub fn plan_block(words: &[u16], plan: &mut Plan)
-    requires { is_malformed words.now ≡ false }
-    ensures { IsPlan words.now plan.new }
+// Makes the plan of a block.
+pub fn plan_block(block: &Block, plan: &mut Plan)
+    ensures { IsPlan block.now.words.now plan.new }
 {
-    decode_gates(words, &mut plan.graph);
-    layer_gates(
-        &plan.graph,
-        gates_of(words),
-        &mut plan.order,
-        &mut plan.ends,
-    );
+    decode_gates(block, &mut plan.graph);
+    let graph = GateGraph {
+        words: &plan.graph,
+        gates: gates_of(block.words),
+    };
+    layer_gates(graph, &mut plan.order, &mut plan.ends);
 }

@@ -5,4 +5,5 @@ pub mod LaneLaws
 pub mod RoundLaws
 pub mod InputLaws
 pub mod WordLaws
+pub mod Differing
 pub mod LaneWordLaws

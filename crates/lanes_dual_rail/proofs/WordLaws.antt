@@ -4,6 +4,8 @@
 --   trailing-least, ones-count      what the machine's operations find
 --   lane-bit                        a lane's bit as a number
 --   tells-lowest, tells-count       the lowest lane, and how many
+--   lowest-marked, lowest-none      a lowest lane is marked; a word without one is 0
+--   lane-below                      a number that is told if it is below another
 -- Assumes nothing.
 use mathlib.Core.Path.{◌≡◌, refl, sym, ap, ◌∙◌}
 use mathlib.Core.Logic.{◌⊎◌, ⊎_elim}
@@ -14,10 +16,12 @@ use native.Mathlib.Numerals.{one-add}
 use native.Mathlib.Omega.{arith}
 use lib.Bits.{bit_and, bit_or, bit_xor, differ, and_lt, or_lt, xor_lt}
 use lib.Count.{ones, under, count_trailing_zeros, ones_step, trailing_le}
-use lib.Dec.{eqb}
+use lib.Dec.{eqb, ltb}
 use lib.Pow.{pow_pos, pow_mono, ones_lt, shr-shr}
-use borrow.Author.Tests.{eqb-false, eq-eqb}
-use Rattle.prelude.specs.Lists.{count_below, least}
+use borrow.Author.Tests.{eqb-false, eq-eqb, ltb-true, ltb-false}
+use Rattle.std.specs.declared.option.Option.TheVariants.{None, Some}
+use Rattle.std.specs.Bool.{then_some}
+use Rattle.prelude.specs.Lists.{count_below, least, IfBelow}
 use Rattle.prelude.proofs.Tests.{not-both, lt-or-le}
 use Rattle.prelude.proofs.Counting.{count_below-ext}
 use Rattle.prelude.proofs.Least.{least-below, least_at, least-is}
@@ -216,3 +220,25 @@ tells-count {lanes} {base} {p} {w} few t =
     let more : 2 ^ lanes ≤ 2 ^ 64 = pow_mono {i = lanes} {j = 64} few in
     sym (ones-count 64 w (omega (arith, t.within, more))) ∙ ones-count lanes w t.within
     ∙ count_below-ext (has_lane w) (λ s. p (base + s)) lanes t.each
+
+no-lane : (w s : ℕ) → w ≡ 0 → has_lane w s ≡ false
+unfolding has_lane
+no-lane w s z = rw (z, bit-zero s)
+
+-- the lane that `lowest_lane` answers is marked, so that the word is not 0
+pub lowest-marked : (w : ℕ) {s : ℕ} → IfBelow (least (has_lane w) 64) 64 (Some s)
+    → (s ≡ least (has_lane w) 64) × (s < 64) × (w ≡ 0 → ⊥)
+lowest-marked w {s} (l, e) =
+    let r = least (has_lane w) 64 in
+    (e, omega (arith, e, l), λ z. not-both (least_at (has_lane w) 64 l) (no-lane w r z))
+
+pub lowest-none : {lanes : ℕ} (w : ℕ) → lanes ≤ 64 → w < 2 ^ lanes → IfBelow (least (has_lane w) 64) 64 None → w ≡ 0
+lowest-none {lanes} w few l none =
+    let past : 64 ≤ least (has_lane w) 64 = ⊎_elim (λ m. absurd (none m)) (λ m. m) (lt-or-le (least (has_lane w) 64) 64) in
+    eq-by-bits w 0 (λ s. ⊎_elim (λ m. no-bit w s (least-below (has_lane w) 64 s (omega (arith, past, m))))
+    (λ m. bit_high w lanes s l (omega arith)) (lt-or-le s 64) ∙ sym (bit-zero s))
+
+-- a number that is told if it is below another
+pub lane-below : (k n : ℕ) (b : Bool) → ltb k n ≡ b → IfBelow k n (then_some b k)
+lane-below k n true e = (ltb-true k n e, refl)
+lane-below k n false e = λ l. let g = ltb-false k n e in omega arith

@@ -3,11 +3,11 @@
 --   pair_at, put_pair              the pair at a place, and the words with another one there
 --   inputs_in, gates_in            the pairs of all inputs and of the first gates
 --   Filled                       the words of the two constants are there
---   operand_word, some_word, every_word   a gate's operands at a value: one of them, some of the four, every one of the
---                                      four
+--   operand_word, operand_words           a gate's operands at a value: one of them, each of the four
+--   some_word, every_word                 some of the four, every one of the four
 --   rule_pair, parity_at, gate_pair_in     a gate's pair by its row, by parity, by its operation
 -- Assumes nothing.
-use Rattle.std.specs.Prelude.{ℕ, ◌+◌, ◌-◌, ◌*◌, ◌/◌, ◌%◌, ◌≡◌, true, false, cond, List, eqb, leb, length, get_or, set}
+use Rattle.std.specs.Prelude.{ℕ, ◌+◌, ◌-◌, ◌*◌, ◌/◌, ◌%◌, ◌≡◌, true, false, cond, List, [], ◌∷◌, eqb, leb, length, get_or, set}
 use Rattle.std.specs.Int.Bits.{bit_and, bit_or}
 use Rattle.prelude.specs.Lists.{tab}
 use Rattle.netlist.specs.Limits.{max_inputs}
@@ -43,6 +43,11 @@ pub record Filled (used : ℕ) (w : List ℕ) : Type 0 where
 -- the word at value v of operand i of gate j
 unfoldable pub operand_word : List ℕ → ℕ → List ℕ → ℕ → ℕ → ℕ
 operand_word graph j w v i = get_or w (2 * place_at graph j i + v) 0
+
+-- the words at value v of the four operands of gate j
+unfoldable pub operand_words : List ℕ → ℕ → List ℕ → ℕ → List ℕ
+operand_words graph j w v =
+    operand_word graph j w v 0 ∷ operand_word graph j w v 1 ∷ operand_word graph j w v 2 ∷ operand_word graph j w v 3 ∷ []
 
 unfoldable pub some_word : List ℕ → ℕ → List ℕ → ℕ → ℕ
 some_word graph j w v =

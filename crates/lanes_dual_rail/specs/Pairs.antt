@@ -4,10 +4,11 @@
 --   Proper             no bit in both words, and none at a lane that is not in use
 --   full               the word with a bit at each lane in use
 --   no_lanes, always    undefined at every lane; a constant at every lane in use
+--   difference_of      the lanes at which two pairs have another value
 --   combined, swapped, pair_of   a kind's pair from its operands' pairs
 -- Assumes nothing.
 use Rattle.std.specs.Prelude.{ℕ, ◌+◌, ◌-◌, ◌^◌, ◌≤◌, ◌<◌, Bool, true, false, cond, ◌||◌, List, [], ◌∷◌, eqb}
-use Rattle.std.specs.Int.Bits.{bit_and, bit_or}
+use Rattle.std.specs.Int.Bits.{bit_and, bit_or, bit_xor}
 use Rattle.netlist.specs.Values.{Value, undefined, val}
 use Rattle.netlist.specs.Assignments.{bit}
 use Rattle.lanes_dual_rail.specs.declared.Pair.{Pair}
@@ -32,6 +33,10 @@ full lanes = 2 ^ lanes - 1
 -- undefined at every lane
 unfoldable pub no_lanes : Pair
 no_lanes = record { zeros = 0; ones = 0 }
+
+-- the lanes at which two pairs have another value
+unfoldable pub difference_of : Pair → Pair → ℕ
+difference_of p q = bit_or (bit_xor p.zeros q.zeros) (bit_xor p.ones q.ones)
 
 -- a constant, where `used` has a bit at each lane in use
 unfoldable pub always : ℕ → Bool → Pair

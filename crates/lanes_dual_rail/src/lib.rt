@@ -2,6 +2,8 @@
 // words comes from its operands' pairs.
 #![tactic(auto)]
 
+ghost use Rattle.std.specs.Prelude.{◌≡◌};
+
 use graph_gates::PLACES;
 
 pub mod evaluate;
@@ -13,6 +15,18 @@ pub mod words;
 pub struct Pair {
     pub zeros: u64,
     pub ones: u64,
+}
+
+impl Pair {
+    ghost use Rattle.lanes_dual_rail.specs.Pairs.{difference_of};
+
+    // The lanes at which two pairs have another value.
+    #[tactic(auto, unfolding(crate::specs::Pairs::difference_of))]
+    pub fn difference(self, other: Pair) -> u64
+        ensures { result ≡ difference_of self other }
+    {
+        (self.zeros ^ other.zeros) | (self.ones ^ other.ones)
+    }
 }
 
 // Two words for each place: word 2 × place + v marks the lanes of value v.

@@ -1,10 +1,13 @@
 // How many lanes a batch has, and how many and which of them a word marks.
 ghost use Rattle.std.specs.Prelude.{◌≡◌};
-ghost use Rattle.prelude.specs.Lists.{count_below, least};
+ghost use Rattle.prelude.specs.Lists.{count_below, least, IfBelow};
 ghost use Rattle.lanes_dual_rail.specs.Batches.{lanes_of};
 ghost use Rattle.lanes_dual_rail.specs.Words.{has_lane};
 
 use crate::inputs::LOW_INPUTS;
+
+// The lanes of a word.
+const LANES: usize = 1 << LOW_INPUTS;
 
 // A lane for each setting, but at most 64.
 pub fn lane_count(n: usize) -> usize
@@ -13,11 +16,12 @@ pub fn lane_count(n: usize) -> usize
     1usize << n.min(LOW_INPUTS)
 }
 
-// The lowest lane that is marked; 64 where none is.
-pub fn lowest_lane(word: u64) -> usize
-    ensures { result ≡ least (has_lane word) 64 }
+// The lowest lane that is marked.
+pub fn lowest_lane(word: u64) -> Option<usize>
+    ensures { IfBelow (least (has_lane word) 64) 64 result }
 {
-    u64::trailing_zeros(word) as usize
+    let lane = word.trailing_zeros() as usize;
+    (lane < LANES).then_some(lane)
 }
 
 // How many lanes are marked.

@@ -1,9 +1,9 @@
 -- Batches one after the other.
 --   Place, place-first, place-next    where a batch starts
 --   lanes_of-some                      a batch has a lane
---   tells-from                        the number of inputs
 --   passed-sound, found-unsound       what the outputs' words tell of a batch
 --   batch-more, lowest-in-batch       one batch more; the lowest setting in the first batch that has one
+--   batch-marks                       such a batch has a lane that is marked
 -- Assumes nothing.
 use mathlib.Core.Path.{◌≡◌, refl, sym, ap}
 use mathlib.Core.Logic.{⊎_elim}
@@ -75,11 +75,6 @@ pub lanes_of-some : (n : ℕ) → 0 < lanes_of n
 unfolding lanes_of
 lanes_of-some n = pow_pos (min n 6)
 
--- ---- the number of inputs, as the code reads it and as the words have it
-
-pub tells-from : {n k base : ℕ} {p : ℕ → Bool} {w : ℕ} → n ≡ k → Tells (lanes_of n) base p w → Tells (lanes_of k) base p w
-tells-from e t = rw e at t
-
 -- ---- what the outputs' words tell
 
 -- a setting that is not sound may come and is not settled
@@ -102,10 +97,10 @@ both-unsound b s = go (is_excluded b s) (is_settled b s)
     go false false h k = refl
 
 module _ {ws : List ℕ} {n base : ℕ} {w : List ℕ} (j : Judged ws n base w) {at : ℕ}
-    (first : at ≡ outputs_at (get_or ws 0 0) (get_or ws 3 0) (get_or ws 1 0)) {k : ℕ} (same : k ≡ n) {coming : ℕ}
-    (comes : Tells (lanes_of k) base (may_come (decode ws)) coming) where
+    (first : at ≡ outputs_at (get_or ws 0 0) (get_or ws 3 0) (get_or ws 1 0)) {coming : ℕ}
+    (comes : Tells (lanes_of n) base (may_come (decode ws)) coming) where
   -- no output is undefined at a lane that may come
-  pub passed-sound : ((o : ℕ) → o < get_or ws 2 0 → bit_and coming (undefined_word ws at k w o) ≡ 0)
+  pub passed-sound : ((o : ℕ) → o < get_or ws 2 0 → bit_and coming (undefined_word ws at n w o) ≡ 0)
       → (s : ℕ) → s < lanes_of n → is_sound_at (decode ws) (base + s) ≡ true
   passed-sound none s l = ⊎_elim (λ h. h) (λ h. absurd (no-lane h)) (bool_cases (is_sound_at (decode ws) (base + s)))
     where
@@ -115,14 +110,13 @@ module _ {ws : List ℕ} {n base : ℕ} {w : List ℕ} (j : Judged ws n base w) 
           let f = undefined-some ws (base + s) u.1 in
           not-both
           (and_intro (may_come (decode ws) (base + s)) (is_undefined_at (decode ws) f.0 (base + s)) u.0 f.2)
-          (tells-no-lane (tells-and (tells-from same comes) (undefined-tells j first f.0 f.1))
-          (rw same at (none f.0 f.1)) s l)
+          (tells-no-lane (tells-and comes (undefined-tells j first f.0 f.1)) (none f.0 f.1) s l)
 
   -- an output is undefined at one
-  pub found-unsound : (o : ℕ) → o < get_or ws 2 0 → (bit_and coming (undefined_word ws at k w o) ≡ 0 → ⊥)
+  pub found-unsound : (o : ℕ) → o < get_or ws 2 0 → (bit_and coming (undefined_word ws at n w o) ≡ 0 → ⊥)
       → (s : ℕ) × (s < lanes_of n) × (is_sound_at (decode ws) (base + s) ≡ false)
   found-unsound o l h =
-      let f = tells-some (tells-and (tells-from same comes) (undefined-tells j first o l)) (λ z. h (rw same z)) in
+      let f = tells-some (tells-and comes (undefined-tells j first o l)) h in
       let may = may_come (decode ws) (base + f.0) in
       let lacks = is_undefined_at (decode ws) o (base + f.0) in (
         f.0,
@@ -140,6 +134,16 @@ pub batch-more : (P : ℕ → Type 0) {base lanes step : ℕ} → step ≡ lanes
 batch-more P {base} {lanes} {step} is before inside i l =
     ⊎_elim (before i) (λ h. let e : base + (i - base) ≡ i = omega arith in rw e at (inside (i - base) (omega arith)))
     (lt-or-le i base)
+
+-- the first batch has a lane that is marked
+pub batch-marks : {ws : List ℕ} {r : ℕ} {w : List ℕ} {word : ℕ} → FirstBatch ws r w → r < 2 ^ get_or ws 0 0
+    → Tells (lanes_of (get_or ws 0 0)) r (is_unsound (decode ws)) word
+    → word ≡ 0 → ⊥
+unfolding is_unsound
+batch-marks {ws} {r} f l t z =
+    let s = f.some l in
+    let unsound : not (is_sound_at (decode ws) (r + s.0)) ≡ true = rw s.2 refl in
+    not-both unsound (tells-no-lane t z s.0 s.1)
 
 -- the lowest lane of the first batch that has one
 pub lowest-in-batch : {ws : List ℕ} {r : ℕ} {w : List ℕ} {word : ℕ} → FirstBatch ws r w → r < 2 ^ get_or ws 0 0

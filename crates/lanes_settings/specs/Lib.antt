@@ -3,3 +3,4 @@
 pub mod Lanes
 pub mod Nevers
 pub mod Batches
+pub mod Judged

@@ -14,8 +14,7 @@ agrees_at a i s = not (fixes a i) || eqb (bit s i) (bit a.ones i)
 unfoldable pub may_come : Block → ℕ → Bool
 may_come b s = not (is_excluded b s)
 
--- a batch of settings of the words' block, which has n inputs, starts at `base`
-pub record BatchOf (ws : List ℕ) (n base : ℕ) : Type 0 where
-  pub few_inputs : n ≤ max_inputs
+-- a batch of settings of the words' block starts at `base`
+pub record BatchOf (ws : List ℕ) (base : ℕ) : Type 0 where
+  pub few_inputs : get_or ws 0 0 ≤ max_inputs
   pub aligned : base % 64 ≡ 0
-  pub inputs : n ≡ get_or ws 0 0

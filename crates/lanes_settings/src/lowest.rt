@@ -1,26 +1,26 @@
-// The lowest setting that may come and is not settled, by a block's plan: its graph and its gates in layers
-// (crates/lanes_batch).
-ghost use Rattle.std.specs.Prelude.{◌≡◌, false};
-ghost use Rattle.netlist.specs.StoredBlock.{decode, is_malformed};
+// The lowest setting that may come and is not settled, of a planned block (crates/lanes_batch). Where there is none it
+// is 2^n, as the definition `lowest_unsettled` says and Verdict tells, and no `Option`.
+ghost use Rattle.std.specs.Prelude.{◌≡◌};
+ghost use Rattle.netlist.specs.StoredBlock.{decode};
 ghost use Rattle.netlist.specs.Rounds.{lowest_unsettled};
-ghost use Rattle.lanes_batch.specs.Plan.{IsPlan};
 ghost use Rattle.lanes_settings.specs.Batches.{FirstBatch};
 
 use crate::decided::judge_batch;
 use crate::nevers::coming_lanes;
 use crate::outputs::undefined_lanes;
 use crate::setting_count;
-use crate::settled::unsound_lanes;
-use lanes_batch::plan::Plan;
+use crate::settled::JudgedBatch;
+use lanes_batch::plan::PlannedBlock;
 use lanes_dual_rail::LANE_WORDS;
 use lanes_dual_rail::words::{lane_count, lowest_lane};
+use words_layout::block::Block;
 use words_layout::offsets::{inputs_of, outputs_at, outputs_of};
 
 // The first batch that has a setting which may come and is not settled, or 2^n; `lanes` holds its settled values.
-pub fn unsettled_batch(words: &[u16], plan: &Plan, lanes: &mut [u64; LANE_WORDS]) -> usize
-    requires { IsPlan words.now plan.now }
-    ensures { FirstBatch words.now result lanes.new }
+pub fn unsettled_batch(block: PlannedBlock, lanes: &mut [u64; LANE_WORDS]) -> usize
+    ensures { FirstBatch block.entry.words.now result lanes.new }
 {
+    let words = block.words;
     let n = inputs_of(words);
     let count = setting_count(n);
     let batch = lane_count(n);
@@ -30,8 +30,8 @@ pub fn unsettled_batch(words: &[u16], plan: &Plan, lanes: &mut [u64; LANE_WORDS]
     // A `while`, and a `for` inside it: must-fail/lowest_not_left_at.edit leaves the inner one alone, and what `base` is
     // after the loops, under `step_by`, is no variable's value.
     'batches: while base < count {
-        judge_batch(words, plan, base, lanes);
-        let coming = coming_lanes(words, n, base);
+        judge_batch(block, base, lanes);
+        let coming = coming_lanes(words, base);
         for o in 0..outputs {
             if coming & undefined_lanes(words, at, n, o, lanes) != 0 {
                 break 'batches;
@@ -44,22 +44,26 @@ pub fn unsettled_batch(words: &[u16], plan: &Plan, lanes: &mut [u64; LANE_WORDS]
 
 // The lowest setting that may come and has an undefined output, or 2^n, when `base` is the first batch with such a
 // setting and `lanes` holds its settled values: the lowest lane at which any output is undefined.
-pub fn lowest_in(words: &[u16], base: usize, lanes: &[u64; LANE_WORDS]) -> usize
-    requires { (is_malformed words.now ≡ false) × FirstBatch words.now base lanes.now }
-    ensures { result ≡ lowest_unsettled (decode words.now) }
+pub fn lowest_in(block: &Block, base: usize, lanes: &[u64; LANE_WORDS]) -> usize
+    requires { FirstBatch block.now.words.now base lanes.now }
+    ensures { result ≡ lowest_unsettled (decode block.now.words.now) }
 {
-    let n = inputs_of(words);
-    if base < setting_count(n) {
-        return base + lowest_lane(unsound_lanes(words, n, base, lanes));
+    let words = block.words;
+    if base == setting_count(inputs_of(words)) {
+        return base;
     }
-    base
+    let batch = JudgedBatch { words, base, lanes };
+    match lowest_lane(batch.unsound_lanes()) {
+        Some(lane) => base + lane,
+        None => base, // the first batch has such a lane
+    }
 }
 
 // The lowest setting that may come and has an undefined output, or 2^n, from all batches.
-pub fn lowest_unsettled(words: &[u16], plan: &Plan, lanes: &mut [u64; LANE_WORDS]) -> usize
-    requires { IsPlan words.now plan.now }
-    ensures { result ≡ lowest_unsettled (decode words.now) }
+pub fn lowest_unsettled(block: PlannedBlock, lanes: &mut [u64; LANE_WORDS]) -> usize
+    ensures { result ≡ lowest_unsettled (decode block.entry.words.now) }
 {
-    let first = unsettled_batch(words, plan, lanes);
-    lowest_in(words, first, lanes)
+    let first = unsettled_batch(block, lanes);
+    let stored = Block { words: block.words };
+    lowest_in(&stored, first, lanes)
 }

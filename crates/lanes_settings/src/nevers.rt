@@ -1,6 +1,6 @@
 // The settings of a batch that never come (SPECIFICATION 4.2): those that agree with a never line. The batch starts at
 // setting number `base`.
-ghost use Rattle.std.specs.Prelude.{◌≡◌, ◌%◌, ◌≤◌, ◌<◌};
+ghost use Rattle.std.specs.Prelude.{◌≡◌, ◌%◌, ◌≤◌, ◌<◌, get_or};
 ghost use Rattle.netlist.specs.Limits.{max_inputs};
 ghost use Rattle.netlist.specs.Assignments.{agrees};
 ghost use Rattle.netlist.specs.StoredBlock.{never_at, decode};
@@ -11,7 +11,7 @@ ghost use Rattle.lanes_dual_rail.specs.Words.{Tells};
 ghost use Rattle.lanes_settings.specs.Nevers.{agrees_at, may_come, BatchOf};
 
 use lanes_dual_rail::inputs::{input_pair, used_lanes};
-use words_layout::offsets::{NEVER_SIZE, nevers_at, nevers_of};
+use words_layout::offsets::{NEVER_SIZE, inputs_of, nevers_at, nevers_of};
 use words_layout::read::word_at;
 
 // The lanes at which input `i` has an assignment's value; all lanes where the assignment does not fix it.
@@ -42,32 +42,39 @@ fn agreeing_lanes(n: usize, base: usize, fixed: usize, values: usize) -> u64
     agreeing
 }
 
-// The lanes that agree with the never line whose two masks stand at `at`.
-fn line_lanes(words: &[u16], n: usize, base: usize, at: usize) -> u64
-    requires { (n ≤ max_inputs) × (base % 64 ≡ 0) × (at < count_room) }
-    ensures { Tells (lanes_of n) base (agrees n (never_at words.now at)) result }
+// The lanes that agree with the never line whose two masks stand at `at`. That the words are a block's and a
+// batch starts at `base` is asked of three functions: a value of both would be made for each call of `coming_lanes` alone.
+fn line_lanes(words: &[u16], base: usize, at: usize) -> u64
+    requires { BatchOf words.now base × (at < count_room) }
+    ensures { Tells (lanes_of (get_or words.now 0 0)) base
+        (agrees (get_or words.now 0 0) (never_at words.now at)) result }
 {
-    agreeing_lanes(n, base, word_at(words, at), word_at(words, at + 1))
+    agreeing_lanes(
+        inputs_of(words),
+        base,
+        word_at(words, at),
+        word_at(words, at + 1),
+    )
 }
 
 // The lanes whose setting agrees with one of the block's never lines, and so never comes.
-fn excluded_lanes(words: &[u16], n: usize, base: usize) -> u64
-    requires { BatchOf words.now n base }
-    ensures { Tells (lanes_of n) base (is_excluded (decode words.now)) result }
+fn excluded_lanes(words: &[u16], base: usize) -> u64
+    requires { BatchOf words.now base }
+    ensures { Tells (lanes_of (get_or words.now 0 0)) base (is_excluded (decode words.now)) result }
 {
     let lines = nevers_of(words);
-    let first = nevers_at(n);
+    let first = nevers_at(inputs_of(words));
     let mut excluded = 0u64;
     for i in 0..lines {
-        excluded |= line_lanes(words, n, base, first + NEVER_SIZE * i);
+        excluded |= line_lanes(words, base, first + NEVER_SIZE * i);
     }
     excluded
 }
 
 // The lanes whose setting may come.
-pub fn coming_lanes(words: &[u16], n: usize, base: usize) -> u64
-    requires { BatchOf words.now n base }
-    ensures { Tells (lanes_of n) base (may_come (decode words.now)) result }
+pub fn coming_lanes(words: &[u16], base: usize) -> u64
+    requires { BatchOf words.now base }
+    ensures { Tells (lanes_of (get_or words.now 0 0)) base (may_come (decode words.now)) result }
 {
-    used_lanes(n) ^ excluded_lanes(words, n, base)
+    used_lanes(inputs_of(words)) ^ excluded_lanes(words, base)
 }

@@ -1,47 +1,75 @@
-// Which settings of a batch are settled, when `lanes` holds its settled values.
-ghost use Rattle.netlist.specs.StoredBlock.{decode};
-ghost use Rattle.netlist.specs.Rounds.{is_counted, is_sound_at};
-ghost use Rattle.lanes_dual_rail.specs.Batches.{lanes_of};
-ghost use Rattle.lanes_dual_rail.specs.Words.{Tells};
-ghost use Rattle.lanes_settings.specs.Lanes.{Judged, is_unsettled, is_unsound};
+// A decided batch: what its outputs are, and which of its settings are settled.
+ghost use Rattle.std.specs.Prelude.{◌≡◌, ◌<◌, get_or};
+ghost use Rattle.std.proofs.Props.{props};
+ghost use Rattle.lanes_settings.specs.Lanes.{Judged};
 
 use crate::nevers::coming_lanes;
-use crate::outputs::unsettled_lanes;
-use lanes_dual_rail::LANE_WORDS;
+use crate::outputs::{output_pair, unsettled_lanes};
 use lanes_dual_rail::inputs::used_lanes;
-use words_layout::offsets::{outputs_at, outputs_of};
+use lanes_dual_rail::{LANE_WORDS, Pair};
+use words_layout::offsets::{inputs_of, outputs_at, outputs_of};
 
-// The lanes at which some output is undefined.
-fn undecided_lanes(words: &[u16], n: usize, base: usize, lanes: &[u64; LANE_WORDS]) -> u64
-    requires { Judged words.now n base lanes.now }
-    ensures { Tells (lanes_of n) base (is_unsettled (decode words.now)) result }
-{
-    let at = outputs_at(words);
-    let outputs = outputs_of(words);
-    unsettled_lanes(words, at, n, outputs, lanes)
+// The batch at `base` of a block's settings; `lanes` holds its settled values.
+#[derive(Clone, Copy)]
+pub struct JudgedBatch<'a> {
+    pub words: &'a [u16],
+    pub base: usize,
+    pub lanes: &'a [u64; LANE_WORDS],
+    ghost judged: { Judged words.now (get_or words.now 0 0) base lanes.now } by { Prim.hlevel props },
 }
 
-// The lanes whose setting may come and is not settled.
-pub fn unsound_lanes(words: &[u16], n: usize, base: usize, lanes: &[u64; LANE_WORDS]) -> u64
-    requires { Judged words.now n base lanes.now }
-    ensures { Tells (lanes_of n) base (is_unsound (decode words.now)) result }
-{
-    coming_lanes(words, n, base) & undecided_lanes(words, n, base, lanes)
-}
+impl<'a> JudgedBatch<'a> {
+    ghost use Rattle.netlist.specs.Rounds.{is_counted, is_sound_at};
+    ghost use Rattle.lanes_settings.specs.Lanes.{is_unsettled, is_unsound};
+    ghost use Rattle.lanes_settings.specs.Judged.{TellsIn, pair_shown};
 
-// The lanes whose setting may come and is settled.
-pub fn counted_lanes(words: &[u16], n: usize, base: usize, lanes: &[u64; LANE_WORDS]) -> u64
-    requires { Judged words.now n base lanes.now }
-    ensures { Tells (lanes_of n) base (is_counted (decode words.now)) result }
-{
-    let undecided = undecided_lanes(words, n, base, lanes);
-    coming_lanes(words, n, base) & (used_lanes(n) ^ undecided)
-}
+    // The pair of output `o`.
+    pub fn output_pair(&self, o: usize) -> Pair
+        requires { o < get_or self.now.words.now 2 0 }
+        ensures { result ≡ pair_shown self.now o }
+    {
+        output_pair(
+            self.words,
+            outputs_at(self.words),
+            inputs_of(self.words),
+            o,
+            self.lanes,
+        )
+    }
 
-// The lanes whose setting never comes or is settled.
-pub fn sound_lanes(words: &[u16], n: usize, base: usize, lanes: &[u64; LANE_WORDS]) -> u64
-    requires { Judged words.now n base lanes.now }
-    ensures { Tells (lanes_of n) base (is_sound_at (decode words.now)) result }
-{
-    used_lanes(n) ^ unsound_lanes(words, n, base, lanes)
+    // The lanes at which some output is undefined.
+    fn undecided_lanes(&self) -> u64
+        ensures { TellsIn self.now is_unsettled result }
+    {
+        let at = outputs_at(self.words);
+        unsettled_lanes(
+            self.words,
+            at,
+            inputs_of(self.words),
+            outputs_of(self.words),
+            self.lanes,
+        )
+    }
+
+    // The lanes whose setting may come and is not settled.
+    pub fn unsound_lanes(&self) -> u64
+        ensures { TellsIn self.now is_unsound result }
+    {
+        coming_lanes(self.words, self.base) & self.undecided_lanes()
+    }
+
+    // The lanes whose setting may come and is settled.
+    pub fn counted_lanes(&self) -> u64
+        ensures { TellsIn self.now is_counted result }
+    {
+        let used = used_lanes(inputs_of(self.words));
+        coming_lanes(self.words, self.base) & (used ^ self.undecided_lanes())
+    }
+
+    // The lanes whose setting never comes or is settled.
+    pub fn sound_lanes(&self) -> u64
+        ensures { TellsIn self.now is_sound_at result }
+    {
+        used_lanes(inputs_of(self.words)) ^ self.unsound_lanes()
+    }
 }

@@ -180,6 +180,6 @@ unfolding bring bring_words
 bring-start ws room = refl
 
 pub bring-room : (ws : List ℕ) (room : ℕ) → is_malformed_before ws ≡ false
-    → bring ws room ≡ refuse_if (ltb room (length (brought ws))) NoRoom (done (brought ws) (length (brought ws)) 0)
+    → bring ws room ≡ refuse_if (ltb room (length ws + 1)) NoRoom (done (brought ws) (length ws + 1) 0)
 unfolding bring bring_words counted refuse_if in_room
-bring-room ws room whole = rw whole refl
+bring-room ws room whole = rw (whole, length-brought ws (whole_long ws whole)) refl

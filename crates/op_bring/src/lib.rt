@@ -37,7 +37,8 @@ fn check_brought(old: &[u16], words: &mut [u16]) -> Result<(), Refusal>
     ensures { result ≡ test_of (is_malformed_before old.now) MalformedBlock }
 {
     put_brought(old, words);
-    check_words(&words[..old.len() + 1])
+    check_words(&words[..old.len() + 1])?;
+    Ok(())
 }
 
 // Refusal 6 by the rules that held before there were never lines.

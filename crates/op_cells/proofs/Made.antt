@@ -1,8 +1,8 @@
 -- The cells of a block: word by word, as the code writes them, and read back as cells, as a run reads them.
---   length-cells_of, cells_of-count        how many words and cells there are
---   at-truth, at-operand, at-absent      the words of one cell
---   Making, made_none, made_more, made_all   all of them, one cell after the other
---   cell_for, cell-made, cells-made       the cells that a run reads
+--   length-cells_of, cells_of-count   how many words and cells there are
+--   at-truth, at-operand, at-absent   the words of one cell
+--   Making, made_more, made_all       all of them, one cell after the other
+--   cell_for, cell-made, cells-made   the cells that a run reads
 -- Assumes nothing.
 use mathlib.Core.Path.{◌≡◌, refl, sym, ap, ◌∙◌}
 use mathlib.Core.Logic.{⊎_elim}
@@ -14,7 +14,7 @@ use lib.ListN.{length, get_or, set, get_or-append, get_or-eq_default}
 use Rattle.prelude.specs.Lists.{tab, placed}
 use Rattle.prelude.proofs.Tests.{lt-or-le}
 use Rattle.prelude.proofs.Tab.{get_d-tab, tab-ext, tab-get_d, map-tab}
-use Rattle.prelude.proofs.Tabled.{Tabled, tabled-none, tabled-more, tabled-all}
+use Rattle.prelude.proofs.Tabled.{Tabled, tabled-more, tabled-all}
 use Rattle.prelude.proofs.Quantifiers.{all-at}
 use Rattle.netlist.specs.Netlist.{Operand, constant, Gate, Block, input_count, gate_count, gate_of}
 use Rattle.netlist.specs.StoredBlock.{operand_words, gates_at, node_word, operand_of, gate_at, is_operand, gate_fits}
@@ -115,9 +115,6 @@ made_word ws p = get_or (cells_of (decode ws)) p 0
 pub record Making (ws : List ℕ) (count : ℕ) (cells₀ cells : List ℕ) (p : ℕ) : Type 0 where
   pub whole : p % cell_size ≡ 0
   pub tabled : Tabled (made_word ws) count cells₀ cells p
-
-pub made_none : {ws cells : List ℕ} {count : ℕ} → Making ws count cells cells 0
-made_none = record { whole = refl; tabled = tabled-none }
 
 -- one cell more
 pub made_more : {ws cells₀ cells : List ℕ} {count at p : ℕ} → count ≡ cell_size * get_or ws 1 0 → count ≤ length cells₀

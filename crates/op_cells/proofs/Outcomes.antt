@@ -1,5 +1,6 @@
 -- The outcomes of making and of running cells, as chains of conditions, and what they promise of each other.
 --   make-chain, run-chain    the conditions in their order, the room last
+--   words-passed, straight-passed, cells-passed, bytes-passed    what is left of them behind the tests that passed
 --   good-bits, legal-short   what a run's tests leave
 --   run-done                 a run that nothing refuses
 --   runs_as                  a run of the made cells answers what Pass answers, on every setting without a byte above 1
@@ -18,6 +19,7 @@ use Rattle.prelude.specs.Lists.{all, up_to}
 use Rattle.prelude.proofs.Tests.{and_left, and_right, or-neither}
 use Rattle.prelude.proofs.Slices.{take-placed}
 use Rattle.prelude.proofs.Quantifiers.{all_from}
+use Rattle.std.specs.declared.result.Result.TheVariants.{Ok}
 use Rattle.netlist.specs.Answers.{Answer}
 use Rattle.netlist.specs.declared.Refusal.TheVariants.{MalformedBlock, BadSetting, NotStraight, NoRoom}
 use Rattle.netlist.specs.Limits.{max_inputs, max_gates}
@@ -32,6 +34,8 @@ use Rattle.netlist.specs.Cells.{cell_size, cells_of, make_words, make_cells, cel
 use Rattle.netlist.specs.Cells.{is_bad_run, cell_values, run_cells}
 use Rattle.theory_encoding.proofs.Decoded.{decode-gate_count}
 use Rattle.theory_encoding.proofs.RoundTrip.{whole-well_formed}
+use Rattle.words_refusals.specs.Tests.{Test, test_of}
+use Rattle.words_refusals.proofs.Promised.{passed, bare, keeps-bare}
 use Rattle.op_settle.specs.Tests.{at_most, is_bad_bytes}
 use Rattle.op_cells.specs.Runs.{Bits}
 use Rattle.op_cells.specs.Promise.{is_two_valued, AgreesWith, RunsAs, CellsPromise}
@@ -56,14 +60,29 @@ module _ (ws : List ℕ) (room : ℕ) where
   abbrev word_count : ℕ
   word_count = cell_size * get_or ws 1 0
 
-  pub make-chain : make_cells ws room
-      ≡ refuse_if (is_malformed ws) MalformedBlock
-      (refuse_if (not (is_straight (decode ws))) NotStraight
-      (refuse_if (ltb room word_count) NoRoom (done (cells_of (decode ws)) word_count 0)))
+  -- what is left of the conditions behind the block's rules
+  abbrev pub straight_on : Outcome
+  straight_on =
+      refuse_if (not (is_straight (decode ws))) NotStraight
+      (refuse_if (ltb room word_count) NoRoom (done (cells_of (decode ws)) word_count 0))
+
+  pub make-chain : make_cells ws room ≡ refuse_if (is_malformed ws) MalformedBlock straight_on
   unfolding make_cells make_words
   make-chain =
       let long : length (cells_of (decode ws)) ≡ word_count = length-cells_of (decode ws) ∙ rw (decode-gate_count ws) in
       make-last room (cells_of (decode ws)) (is_malformed ws) (is_straight (decode ws)) ∙ rw long
+
+-- the outcome when the first tests have passed, from what each of them says; g is the number of gates
+module _ (ws : List ℕ) (room : ℕ) {w : Test} (words : w ≡ test_of (is_malformed ws) MalformedBlock) (whole : w ≡ Ok tt)
+  where
+    pub words-passed : make_cells ws room ≡ straight_on ws room
+    words-passed = passed bare keeps-bare _ _ MalformedBlock (make-chain ws room) words whole
+
+    pub straight-passed : {s : Test} {g : ℕ} → s ≡ test_of (not (is_straight (decode ws))) NotStraight → s ≡ Ok tt
+        → g ≡ get_or ws 1 0
+        → make_cells ws room
+        ≡ refuse_if (ltb room (cell_size * g)) NoRoom (done (cells_of (decode ws)) (cell_size * g) 0)
+    straight-passed e f m = rw m (passed bare keeps-bare _ _ NotStraight words-passed e f)
 
 -- ---- running
 
@@ -76,15 +95,29 @@ run-last room values count false true e = refl
 run-last room values count false false e = rw e
 
 module _ (n : ℕ) (cells setting : List ℕ) (room : ℕ) where
-  pub run-chain : run_cells n cells setting room
-      ≡ refuse_if (not (are_legal_cells n cells)) MalformedBlock
-      (refuse_if (is_bad_bytes n 1 setting) BadSetting
-      (refuse_if (ltb room (length cells / cell_size)) NoRoom
-      (done (cell_values n cells setting) (length cells / cell_size) 0)))
+  -- what is left of the conditions behind each: behind the setting, the room; behind the cells, both
+  abbrev pub room_on : Outcome
+  room_on =
+      refuse_if (ltb room (length cells / cell_size)) NoRoom
+      (done (cell_values n cells setting) (length cells / cell_size) 0)
+
+  abbrev pub bytes_on : Outcome
+  bytes_on = refuse_if (is_bad_bytes n 1 setting) BadSetting room_on
+
+  pub run-chain : run_cells n cells setting room ≡ refuse_if (not (are_legal_cells n cells)) MalformedBlock bytes_on
   unfolding run_cells is_bad_run is_bad_bytes cell_count
   run-chain =
       run-last room (cell_values n cells setting) (cell_count cells) (not (are_legal_cells n cells))
       (is_bad_bytes n 1 setting) (length-values n cells setting)
+
+  -- the outcome when the first tests have passed, from what each of them says
+  module _ {t : Test} (cells-told : t ≡ test_of (not (are_legal_cells n cells)) MalformedBlock) (legal : t ≡ Ok tt) where
+    pub cells-passed : run_cells n cells setting room ≡ bytes_on
+    cells-passed = passed bare keeps-bare _ _ MalformedBlock run-chain cells-told legal
+
+    pub bytes-passed : {b : Test} → b ≡ test_of (is_bad_bytes n 1 setting) BadSetting → b ≡ Ok tt
+        → run_cells n cells setting room ≡ room_on
+    bytes-passed e f = passed bare keeps-bare _ _ BadSetting cells-passed e f
 
 -- a setting that passed its test has bits,
 pub good-bits : (n : ℕ) (setting : List ℕ) → is_bad_bytes n 1 setting ≡ false → Bits setting

@@ -2,3 +2,5 @@
 pub mod Made
 pub mod Runs
 pub mod Promise
+pub mod Gate
+pub mod Known

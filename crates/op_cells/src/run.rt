@@ -8,7 +8,7 @@ ghost use Rattle.op_cells.specs.Runs.{Bits};
 
 use crate::CELL_SIZE;
 use crate::legal::check_cells;
-use crate::value::cell_value;
+use crate::value::Known;
 use netlist::{Answer, Done};
 use op_settle::setting::test_bytes;
 use words_refusals::test_room;
@@ -24,7 +24,12 @@ fn run_each(inputs: usize, cells: &[u16], count: usize, setting: &[u8], values: 
         values.old }
 {
     for j in 0..count {
-        let found = cell_value(cells, inputs, CELL_SIZE * j, setting, &values[..j]);
+        let known = Known {
+            inputs,
+            setting,
+            found: &values[..j],
+        };
+        let found = known.cell_value(cells, CELL_SIZE * j);
         values[j] = found;
     }
 }

@@ -1,106 +1,61 @@
 -- What a batch of settings tells of two blocks, and the search over all of them. Cited by `outputs` and `settings`.
+--   both-judged                        both blocks' values
 --   differing-tells, differing-first   where an output shows another value; where one of the first outputs does
 --   marked-lanes                       where the blocks disagree
 --   lowest-there                       the lowest output that differs at a lane
---   marked-lowest                      the lowest lane of a batch
 --   search-accepted, search-found      no setting disagrees; one does, and no lower one
 --   search-passed, search-marked       one batch more; the batch at which the search ends
 -- Assumes nothing.
 use mathlib.Core.Path.{◌≡◌, refl, sym, ◌∙◌}
-use mathlib.Core.Bool.{Bool, true, false, not}
+use mathlib.Core.Bool.{Bool, true, false}
 use mathlib.Core.List.{List}
-use Prim.Native.Nat.{ℕ, zero, suc, ◌+◌, ◌^◌, ◌≤◌, ◌<◌, max}
+use Prim.Native.Nat.{ℕ, zero, suc, ◌+◌, ◌^◌, ◌≤◌, ◌<◌}
 use native.Mathlib.Omega.{arith}
-use lib.Bits.{bit_and, bit_xor, differ, or_lt, xor_lt}
-use lib.Dec.{eqb}
+use lib.Bits.{bit_and}
 use lib.ListN.{get_or}
 use borrow.Author.Tests.{lt-ltb, le-ltb}
 use Rattle.prelude.specs.Lists.{any, up_to, least}
 use Rattle.prelude.proofs.Least.{least-le, least-below, least_at, least-is}
 use Rattle.std.specs.declared.result.Result.TheVariants.{Ok}
-use Rattle.netlist.specs.Values.{code}
 use Rattle.netlist.specs.Netlist.{Block}
-use Rattle.netlist.specs.Assignments.{bit}
 use Rattle.netlist.specs.StoredBlock.{decode}
 use Rattle.netlist.specs.Rounds.{setting_count, is_counted}
 use Rattle.netlist.specs.Answers.{answer_of}
 use Rattle.netlist.specs.Compare.{differs, disagrees, lowest_disagreement, lowest_differing, judged_at, compare_blocks}
 use Rattle.theory_encoding.proofs.Decoded.{decode-output_count}
-use Rattle.lanes_dual_rail.specs.declared.Pair.{Pair}
-use Rattle.lanes_dual_rail.specs.Pairs.{marked_lanes, lane, Proper}
 use Rattle.lanes_dual_rail.specs.Batches.{lanes_of}
-use Rattle.lanes_dual_rail.proofs.BitLaws.{bit-or, bit-xor}
+use Rattle.lanes_dual_rail.proofs.Differing.{difference-within, difference-lane}
 use Rattle.lanes_dual_rail.proofs.InputLaws.{lanes_of-most}
 use Rattle.lanes_dual_rail.specs.Words.{has_lane, Tells}
 use Rattle.lanes_dual_rail.proofs.WordLaws.{tells_as, tells_none, tells-and, tells-or, tells-no-lane, tells-some}
 use Rattle.lanes_dual_rail.proofs.WordLaws.{tells-lowest}
 use Rattle.lanes_settings.proofs.OutputLaws.{output-proper, output-lane, any-first}
-use Rattle.op_compare.specs.Words.{differing_in, port_pair, differing_word, differing_words, differs_at}
+use Rattle.lanes_settings.specs.Lanes.{Judged}
+use Rattle.op_compare.specs.Words.{port_pair, differing_word, differing_words, differs_at}
 use Rattle.lanes_settings.proofs.Batching.{Place, batch-more}
-use Rattle.op_compare.specs.Ready.{BothJudged}
+use Rattle.op_compare.specs.Ready.{BlockPair, BothJudged}
 use Rattle.op_compare.proofs.Rooms.{setting-count}
 
--- ---- two pairs at a lane
-
--- the two bits of a value
-data Bits : ℕ → ℕ → Type 0 where
-  none : Bits zero zero
-  low : Bits (suc zero) zero
-  high : Bits zero (suc zero)
-
-bits : (z o : ℕ) → z + o ≤ 1 → Bits z o
-bits zero zero h = none
-bits zero (suc zero) h = high
-bits zero (suc (suc o)) h = absurd (omega arith)
-bits (suc zero) zero h = low
-bits (suc zero) (suc o) h = absurd (omega arith)
-bits (suc (suc z)) o h = absurd (omega arith)
-
--- a bit in one of the pairs alone: another value
-other : {z o y p : ℕ} → Bits z o → Bits y p
-    → eqb (max (differ z y) (differ o p)) 1 ≡ not (eqb (code (marked_lanes z o)) (code (marked_lanes y p)))
-unfolding marked_lanes code
-other none none = refl
-other none low = refl
-other none high = refl
-other low none = refl
-other low low = refl
-other low high = refl
-other high none = refl
-other high low = refl
-other high high = refl
-
-module _ {lanes : ℕ} {p q : Pair} (first : Proper lanes p) (second : Proper lanes q) where
-  differing_in-within : differing_in p q < 2 ^ lanes
-  unfolding differing_in
-  differing_in-within =
-      or_lt lanes (bit_xor p.zeros q.zeros) (bit_xor p.ones q.ones)
-      (xor_lt lanes p.zeros q.zeros first.zeros_within second.zeros_within)
-      (xor_lt lanes p.ones q.ones first.ones_within second.ones_within)
-
-  differing_in-lane : (s : ℕ) → has_lane (differing_in p q) s ≡ not (eqb (code (lane s p)) (code (lane s q)))
-  unfolding differing_in has_lane lane
-  differing_in-lane s =
-      rw (
-        bit-or (bit_xor p.zeros q.zeros) (bit_xor p.ones q.ones) s,
-        bit-xor p.zeros q.zeros s,
-        bit-xor p.ones q.ones s,
-      )
-      (other (bits (bit p.zeros s) (bit p.ones s) (first.apart s))
-      (bits (bit q.zeros s) (bit q.ones s) (second.apart s)))
+-- both blocks are decided
+pub both-judged : {ours theirs : List ℕ} {base at : ℕ} {w others : List ℕ} → BlockPair ours theirs → at ≡ base
+    → Judged ours (get_or ours 0 0) base w → Judged theirs (get_or theirs 0 0) at others
+    → BothJudged ours theirs base w others
+both-judged pair same j k = record { pair = pair; our-values = j; their-values = rw (pair.inputs, same) at k }
 
 -- ---- one batch
 
-module _ {ours theirs : List ℕ} {base : ℕ} {w others : List ℕ} (j : BothJudged ours theirs base w others) {n : ℕ}
-    (same : n ≡ get_or ours 0 0) where
+module _ {ours theirs : List ℕ} {base : ℕ} {w others : List ℕ} (j : BothJudged ours theirs base w others) where
   abbrev a : Block
   a = decode ours
 
   abbrev b : Block
   b = decode theirs
 
+  abbrev n : ℕ
+  n = get_or ours 0 0
+
   abbrev lanes : ℕ
-  lanes = lanes_of (get_or ours 0 0)
+  lanes = lanes_of n
 
   pub differing-tells : (o : ℕ) → o < get_or ours 2 0
       → Tells lanes base (λ s. differs a b s o) (differing_word ours theirs n w others o)
@@ -109,13 +64,12 @@ module _ {ours theirs : List ℕ} {base : ℕ} {w others : List ℕ} (j : BothJu
       let there' : o < get_or theirs 2 0 = rw j.pair.outputs there in
       let first = output-proper j.our-values refl o there in
       let second = output-proper j.their-values refl o there' in
-      rw same
-      (record {
-        within = differing_in-within first second;
+      record {
+        within = difference-within first second;
         each = λ s l.
-            differing_in-lane first second s
+            difference-lane first second s
             ∙ rw (output-lane j.our-values refl o there s l, output-lane j.their-values refl o there' s l);
-      })
+      }
 
   differing-first : (k : ℕ) → k ≤ get_or ours 2 0
       → Tells lanes base (λ s. any (differs a b s) (up_to k)) (differing_words ours theirs n w others k)
@@ -149,7 +103,7 @@ module _ {ours theirs : List ℕ} {base : ℕ} {w others : List ℕ} (j : BothJu
       (λ there. sym (alike r there) ∙ rw e (least_at test count (rw (← e) there)))))
 
 -- the lowest lane of a word that is not 0
-pub marked-lowest : (n : ℕ) {base : ℕ} {test : ℕ → Bool} {w : ℕ} → Tells (lanes_of n) base test w → (w ≡ 0 → ⊥) → let r =
+marked-lowest : (n : ℕ) {base : ℕ} {test : ℕ → Bool} {w : ℕ} → Tells (lanes_of n) base test w → (w ≡ 0 → ⊥) → let r =
     least (has_lane w) 64 in
     (r < lanes_of n) × (test (base + r) ≡ true) × ((i : ℕ) → i < r → test (base + i) ≡ false)
 marked-lowest n t h = let (s, l, p) = tells-some t h in tells-lowest t (lanes_of-most n) s l p
@@ -190,7 +144,7 @@ module _ {ours theirs : List ℕ} {n base : ℕ} {w others : List ℕ} {word : �
 
   -- some: the lowest lane, and there the lowest output
   pub search-marked : (word ≡ 0 → ⊥) → {count lane o : ℕ} → count ≡ 2 ^ n → Place n base → base < count
-      → lane ≡ least (has_lane word) 64 → o ≡ least (differs_at ours theirs n w others lane) (get_or ours 2 0)
+      → lane ≡ least (has_lane word) 64 → o ≡ least (differs_at ours theirs (get_or ours 0 0) w others lane) (get_or ours 2 0)
       → Ok (record { count = (o + 1); detail = (base + lane) }) ≡ answer_of (compare_blocks (decode ours) (decode theirs))
   search-marked h {count} {lane} {o} many place below is lowest =
       let f = marked-lowest (get_or ours 0 0) t h in
@@ -200,4 +154,4 @@ module _ {ours theirs : List ℕ} {n base : ℕ} {w others : List ℕ} {word : �
       search-found (decode ours) (decode theirs) (base + lane) count (setting-count ours e many)
       (batch-more (λ i. disagrees (decode ours) (decode theirs) i ≡ false) refl before (λ i l. f.2 i (rw (← is) l))) o
       (omega arith) (rw is f.1)
-      (lowest-there j e there lowest)
+      (lowest-there j there lowest)

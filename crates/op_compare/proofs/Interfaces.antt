@@ -144,11 +144,34 @@ module _ (ours theirs : List ℕ) where
           let i : input-names ≡ true = inputs-rule ∙ sym a ∙ not-false r t in
           rw i (b ∙ sym ports-rule)
 
--- the test of the ports, from counts and places that were read
-pub ports-told : (ours theirs : List ℕ) {k at other : ℕ} {q : Bool}
-    → q ≡ all (same_name_at ours at theirs other output_size) (up_to k)
-    → k ≡ get_or ours 2 0 → at ≡ outputs_at (get_or ours 0 0) (get_or ours 3 0) (get_or ours 1 0)
-    → other ≡ outputs_at (get_or theirs 0 0) (get_or theirs 3 0) (get_or theirs 1 0) → get_or theirs 0 0 ≡ get_or ours 0 0
-    → q ≡ all (same_name_at ours (outputs_at (get_or ours 0 0) (get_or ours 3 0) (get_or ours 1 0)) theirs
-    (outputs_at (get_or ours 0 0) (get_or theirs 3 0) (get_or theirs 1 0)) output_size) (up_to (get_or ours 2 0))
-ports-told ours theirs e k a o n = e ∙ rw (a, o, n, k) refl
+-- ---- the same laws, of the counts and places that were read
+
+module _ (ours theirs : List ℕ) where
+  pub outputs-differ : {k other : ℕ} → k ≡ get_or ours 2 0 → other ≡ get_or theirs 2 0 → (other ≡ k → ⊥)
+      → false ≡ same_interface (decode ours) (decode theirs)
+  outputs-differ outputs others h = other-outputs ours theirs (λ e. h (others ∙ e ∙ sym outputs))
+
+  module _ {n other : ℕ} (inputs : n ≡ get_or ours 0 0) (others : other ≡ get_or theirs 0 0) where
+    pub inputs-differ : (other ≡ n → ⊥) → false ≡ same_interface (decode ours) (decode theirs)
+    inputs-differ h = other-inputs ours theirs (λ e. h (others ∙ e ∙ sym inputs))
+
+    module _ (same : other ≡ n) {r : Bool}
+        (told : r ≡ all (same_name_at ours inputs_at theirs inputs_at name_size) (up_to n)) where
+      same-inputs : get_or theirs 0 0 ≡ get_or ours 0 0
+      same-inputs = sym others ∙ same ∙ inputs
+
+      names-told : r ≡ all (same_name_at ours inputs_at theirs inputs_at name_size) (up_to (get_or ours 0 0))
+      names-told = told ∙ rw inputs refl
+
+      pub names-differ : not r ≡ true → false ≡ same_interface (decode ours) (decode theirs)
+      names-differ t = other-names ours theirs same-inputs names-told t
+
+      pub names-same : {k others : ℕ} {at other : ℕ} {q : Bool} → not r ≡ false
+          → k ≡ get_or ours 2 0 → others ≡ get_or theirs 2 0 → others ≡ k
+          → at ≡ outputs_at (get_or ours 0 0) (get_or ours 3 0) (get_or ours 1 0)
+          → other ≡ outputs_at (get_or theirs 0 0) (get_or theirs 3 0) (get_or theirs 1 0)
+          → q ≡ all (same_name_at ours at theirs other output_size) (up_to k)
+          → q ≡ same_interface (decode ours) (decode theirs)
+      names-same t outputs others same here there ports =
+          both-names ours theirs same-inputs (sym others ∙ same ∙ outputs) names-told t
+          (ports ∙ rw (here, there, outputs, same-inputs) refl)

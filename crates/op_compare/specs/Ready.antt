@@ -3,7 +3,7 @@
 use Rattle.std.specs.Prelude.{ℕ, ◌≡◌, true, false, List, get_or}
 use Rattle.netlist.specs.StoredBlock.{decode, is_malformed}
 use Rattle.netlist.specs.Rendering.{is_straight}
-use Rattle.lanes_batch.specs.Layered.{Planned, StraightPlanned}
+use Rattle.lanes_batch.specs.Layered.{StraightPlanned}
 use Rattle.lanes_settings.specs.Lanes.{Judged}
 
 -- both blocks are whole, theirs is straight, and they have as many inputs and outputs
@@ -14,10 +14,9 @@ pub record BlockPair (ours theirs : List ℕ) : Type 0 where
   pub inputs : get_or theirs 0 0 ≡ get_or ours 0 0
   pub outputs : get_or theirs 2 0 ≡ get_or ours 2 0
 
--- the plan of our block (graph and layers) and the graph of theirs are made
-pub record CompareReady (ours theirs graph order ends their_graph : List ℕ) : Type 0 where
+-- the graph of their block is made
+pub record CompareReady (ours theirs their_graph : List ℕ) : Type 0 where
   pub pair : BlockPair ours theirs
-  pub plan : Planned ours graph order ends
   pub their_plan : StraightPlanned theirs their_graph
 
 -- the lanes hold the settled values of both blocks in the batch at `base`

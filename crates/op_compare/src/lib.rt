@@ -15,6 +15,7 @@ use lanes_batch::plan::blank_plan;
 use lanes_dual_rail::LANE_WORDS;
 use netlist::Answer;
 use words_block::{check_straight, check_words};
+use words_layout::block::Block;
 
 mod interface;
 mod outputs;
@@ -22,9 +23,9 @@ mod settings;
 
 // Compare of two blocks that passed the tests: makes room for a plan of ours, a graph of theirs, and two words a place
 // of each.
-fn compare_pair(ours: &[u16], theirs: &[u16]) -> Answer
-    requires { BlockPair ours.now theirs.now }
-    ensures { result ≡ answer_of (compare_blocks (decode ours.now) (decode theirs.now)) }
+fn compare_pair(ours: &Block, theirs: &Block) -> Answer
+    requires { BlockPair ours.now.words.now theirs.now.words.now }
+    ensures { result ≡ answer_of (compare_blocks (decode ours.now.words.now) (decode theirs.now.words.now)) }
 {
     let mut plan = blank_plan();
     let mut their_graph = [0u16; GRAPH_WORDS];
@@ -45,9 +46,9 @@ fn compare_pair(ours: &[u16], theirs: &[u16]) -> Answer
 pub fn compare(ours: &[u16], theirs: &[u16]) -> Answer
     ensures { Told (compare_of ours.now theirs.now) result }
 {
-    check_words(ours)?;
-    check_words(theirs)?;
-    check_straight(theirs)?;
-    check_interface(ours, theirs)?;
-    compare_pair(ours, theirs)
+    let our_block = check_words(ours)?;
+    let their_block = check_words(theirs)?;
+    check_straight(&their_block)?;
+    check_interface(&our_block, &their_block)?;
+    compare_pair(&our_block, &their_block)
 }

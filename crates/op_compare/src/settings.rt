@@ -8,44 +8,45 @@ ghost use Rattle.op_compare.specs.Ready.{BlockPair, CompareReady};
 
 use crate::outputs::Compared;
 use graph_gates::{GRAPH_WORDS, decode_gates};
-use lanes_batch::plan::{Plan, plan_block};
+use lanes_batch::plan::{Plan, PlannedBlock, plan_block};
 use lanes_dual_rail::LANE_WORDS;
 use lanes_dual_rail::words::{lane_count, lowest_lane};
 use lanes_settings::decided::{judge_batch, judge_straight};
 use lanes_settings::setting_count;
+use lanes_settings::settled::JudgedBatch;
 use netlist::{Answer, Done};
+use words_layout::block::Block;
 use words_layout::offsets::inputs_of;
 
 // Goes over the batches in ascending order, up to the first disagreement: its lowest lane, and there the lowest output.
-fn search_settings(
-    ours: &[u16],
-    theirs: &[u16],
-    plan: &Plan,
+fn search_settings<'a>(
+    ours: PlannedBlock<'a>,
+    theirs: &'a [u16],
     their_graph: &[u16; GRAPH_WORDS],
     lanes: &mut [u64; LANE_WORDS],
     others: &mut [u64; LANE_WORDS],
 ) -> Answer
-    requires { CompareReady ours.now theirs.now plan.now.graph plan.now.order plan.now.ends their_graph.now }
-    ensures { result ≡ answer_of (compare_blocks (decode ours.now) (decode theirs.now)) }
+    requires { CompareReady ours.words.now theirs.now their_graph.now }
+    ensures { result ≡ answer_of (compare_blocks (decode ours.entry.words.now) (decode theirs.now)) }
 {
-    let n = inputs_of(ours);
+    let n = inputs_of(ours.words);
     let count = setting_count(n);
     let batch = lane_count(n);
     let mut base = 0;
     // A range with step_by would need the same measure, and be no plainer.
     while base < count {
-        judge_batch(ours, plan, base, lanes);
+        judge_batch(ours, base, lanes);
         judge_straight(theirs, their_graph, base, others);
+        let words = ours.words;
         let compared = Compared {
-            ours,
-            theirs,
-            inputs: n,
-            lanes,
-            others,
+            ours: JudgedBatch { words, base, lanes },
+            theirs: JudgedBatch {
+                words: theirs,
+                base,
+                lanes: others,
+            },
         };
-        let word = compared.disagreeing_lanes(base);
-        if word != 0 {
-            let lane = lowest_lane(word);
+        if let Some(lane) = lowest_lane(compared.disagreeing_lanes()) {
             let o = compared.lowest_differing(lane);
             return Ok(Done {
                 count: o + 1,
@@ -62,17 +63,21 @@ fn search_settings(
 
 // The search over all settings, with room lent for a plan of ours, a graph of theirs, and two words a place of each.
 pub fn compare_with(
-    ours: &[u16],
-    theirs: &[u16],
+    ours: &Block,
+    theirs: &Block,
     plan: &mut Plan,
     their_graph: &mut [u16; GRAPH_WORDS],
     lanes: &mut [u64; LANE_WORDS],
     others: &mut [u64; LANE_WORDS],
 ) -> Answer
-    requires { BlockPair ours.now theirs.now }
-    ensures { result ≡ answer_of (compare_blocks (decode ours.now) (decode theirs.now)) }
+    requires { BlockPair ours.now.words.now theirs.now.words.now }
+    ensures { result ≡ answer_of (compare_blocks (decode ours.now.words.now) (decode theirs.now.words.now)) }
 {
     plan_block(ours, plan);
     decode_gates(theirs, their_graph);
-    search_settings(ours, theirs, plan, their_graph, lanes, others)
+    let planned = PlannedBlock {
+        words: ours.words,
+        plan,
+    };
+    search_settings(planned, theirs.words, their_graph, lanes, others)
 }

@@ -3,11 +3,11 @@
 --   operand-place              the place of a legal cell's operand is an earlier one
 --   tabled-none, tabled-more, tabled-count   word after word, and the whole table
 -- Assumes nothing.
-use mathlib.Core.Path.{◌≡◌, refl, sym, ap, ◌∙◌}
+use mathlib.Core.Path.{◌≡◌, refl, ◌∙◌}
 use mathlib.Core.Logic.{⊎_elim}
 use mathlib.Core.Bool.{true, ◌&&◌}
 use mathlib.Core.List.{List}
-use Prim.Native.Nat.{ℕ, ◌+◌, ◌-◌, ◌*◌, ◌/◌, ◌%◌, ◌≤◌, ◌<◌}
+use Prim.Native.Nat.{ℕ, ◌+◌, ◌*◌, ◌/◌, ◌%◌, ◌≤◌, ◌<◌}
 use native.Mathlib.Omega.{arith}
 use native.Mathlib.Nat.{not-suc-le-zero}
 use borrow.Author.Tests.{leb-true, eqb-true, eq-eqb, ne_eqb}
@@ -21,13 +21,13 @@ use Rattle.prelude.proofs.Quantifiers.{all-below}
 use Rattle.netlist.specs.Limits.{max_inputs, max_gates}
 use Rattle.netlist.specs.Netlist.{Operand}
 use Rattle.netlist.specs.StoredBlock.{operand_words, operand_of}
-use Rattle.netlist.specs.Cells.{cell_size, Cell, cell_count, cell_at, cells_in, reads_earlier, are_legal_cells}
+use Rattle.netlist.specs.Cells.{cell_size, cell_count, cell_at, cells_in, reads_earlier, are_legal_cells}
 use Rattle.theory_encoding.proofs.Readers.{OperandWord, operand_rule-cases}
 use Rattle.op_cells.proofs.Earlier.{word_rule, reads-rule}
 use Rattle.graph_gates.specs.Places.{first_gate, operand_at, place_of}
 use Rattle.graph_gates.proofs.Places.{place-input, place-zero, place-one, place-gate, operand_at-word}
 use Rattle.op_compare_cells.specs.Table.{count_at, table_size, count_in, table_word, cell_in, table_cells, CellPlaces}
-use Rattle.op_compare_cells.specs.Table.{EarlierPlaces, Tabled, CellTable}
+use Rattle.op_compare_cells.specs.Table.{Tabled, CellTable}
 
 -- ---- legal cells
 

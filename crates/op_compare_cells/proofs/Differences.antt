@@ -4,11 +4,11 @@
 --   lowest-there                       the lowest output that differs at a lane
 --   search-accepted, search-found      no setting disagrees; one does, and no lower one
 -- Assumes nothing.
-use mathlib.Core.Path.{◌≡◌, refl, sym, ap, ◌∙◌}
+use mathlib.Core.Path.{◌≡◌, refl, sym, ◌∙◌}
 use mathlib.Core.Logic.{⊎_elim}
-use mathlib.Core.Bool.{Bool, true, false, not}
+use mathlib.Core.Bool.{true, false, not}
 use mathlib.Core.List.{List}
-use Prim.Native.Nat.{ℕ, zero, suc, ◌+◌, ◌-◌, ◌%◌, ◌^◌, ◌≤◌, ◌<◌, max}
+use Prim.Native.Nat.{ℕ, zero, suc, ◌+◌, ◌^◌, ◌≤◌, ◌<◌}
 use native.Mathlib.Omega.{arith}
 use lib.Bits.{bit_and, differ, and_le_l, xor_lt}
 use lib.Dec.{eqb}
@@ -20,17 +20,16 @@ use Rattle.prelude.proofs.Tests.{lt-or-le}
 use Rattle.prelude.proofs.Least.{least-le, least-below, least_at, least-is}
 use Rattle.std.specs.declared.result.Result.TheVariants.{Ok}
 use Rattle.netlist.specs.Limits.{max_inputs, max_gates}
-use Rattle.netlist.specs.Values.{undefined, code}
+use Rattle.netlist.specs.Values.{code}
 use Rattle.netlist.specs.Netlist.{Block, input_count}
 use Rattle.netlist.specs.Assignments.{bit}
-use Rattle.netlist.specs.StoredBlock.{operand_of, outputs_at, decode}
-use Rattle.netlist.specs.Rounds.{setting_count, outputs_under, is_counted}
+use Rattle.netlist.specs.StoredBlock.{operand_of, decode}
+use Rattle.netlist.specs.Rounds.{setting_count, is_counted}
 use Rattle.netlist.specs.Answers.{answer_of}
 use Rattle.netlist.specs.Cells.{cell_count, cells_in, cell_values}
 use Rattle.netlist.specs.CompareCells.{cell_shown, cell_differs, cells_disagree, lowest_cell_disagreement}
 use Rattle.netlist.specs.CompareCells.{lowest_cell_differing, cells_judged_at, compare_block_cells}
 use Rattle.theory_encoding.proofs.Decoded.{decode-input_count, decode-output_count}
-use Rattle.theory_encoding.proofs.Readers.{whole_parts}
 use Rattle.graph_gates.specs.Places.{first_gate, place_of}
 use Rattle.graph_gates.proofs.Places.{place-input, place-gate, operand_at-word}
 use Rattle.lanes_dual_rail.specs.declared.Pair.{Pair}
@@ -40,7 +39,7 @@ use Rattle.lanes_dual_rail.proofs.BitLaws.{bit-low, bit-xor, bit-full}
 use Rattle.lanes_dual_rail.proofs.InputLaws.{lanes_of-most}
 use Rattle.lanes_dual_rail.specs.Words.{has_lane, Tells}
 use Rattle.lanes_dual_rail.proofs.WordLaws.{tells_as, tells_none, tells-and, tells-or}
-use Rattle.lanes_settings.specs.Lanes.{output_pair, Judged}
+use Rattle.lanes_settings.specs.Lanes.{Judged}
 use Rattle.lanes_settings.proofs.OutputLaws.{output-proper, output-lane, any-first}
 use Rattle.op_compare_cells.specs.Choices.{choice_word}
 use Rattle.op_compare_cells.specs.CellLanes.{Carries, place_bit, Evaluated}

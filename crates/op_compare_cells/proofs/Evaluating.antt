@@ -2,9 +2,9 @@
 --   filled-first, filled_more, inputs_in    the constants and the inputs
 --   cell-carried, evaluated-more            a cell from its operands' words; one cell more
 -- Assumes nothing.
-use mathlib.Core.Path.{◌≡◌, refl, sym, ap, ◌∙◌}
+use mathlib.Core.Path.{◌≡◌, refl, sym, ◌∙◌}
 use mathlib.Core.Logic.{⊎_elim}
-use mathlib.Core.Bool.{true, false}
+use mathlib.Core.Bool.{true}
 use mathlib.Core.List.{List, [], ◌∷◌}
 use Prim.Native.Nat.{ℕ, zero, suc, ◌+◌, ◌-◌, ◌*◌, ◌%◌, ◌^◌, ◌≤◌, ◌<◌, min}
 use native.Mathlib.Omega.{arith}
@@ -17,11 +17,10 @@ use lib.Seq.{get_or-set_same, get_or-set_other}
 use Rattle.prelude.specs.Lists.{tab}
 use Rattle.prelude.proofs.Tests.{lt-or-le, eq-or-ne}
 use Rattle.prelude.proofs.Tab.{length-tab, get_d-tab}
-use Rattle.netlist.specs.Limits.{max_inputs, max_gates}
+use Rattle.netlist.specs.Limits.{max_inputs}
 use Rattle.netlist.specs.Assignments.{bit}
-use Rattle.netlist.specs.Netlist.{Operand}
 use Rattle.netlist.specs.StoredBlock.{operand_words}
-use Rattle.netlist.specs.Cells.{cell_size, Cell, is_earlier, operand_bit, number_of_bits, cell_value, run_from}
+use Rattle.netlist.specs.Cells.{cell_size, Cell, is_earlier, operand_bit, number_of_bits, cell_value}
 use Rattle.netlist.specs.CompareCells.{setting_bits}
 use Rattle.lanes_dual_rail.specs.Pairs.{full}
 use Rattle.lanes_dual_rail.specs.Batches.{lanes_of, pattern}
@@ -29,7 +28,6 @@ use Rattle.lanes_dual_rail.proofs.BitLaws.{bit-low, bit-zero, bit-and, bit-full}
 use Rattle.lanes_dual_rail.proofs.InputLaws.{lanes_of-most, pattern-bit}
 use Rattle.graph_gates.specs.Places.{first_input, first_gate, place_count, operand_at}
 use Rattle.graph_gates.proofs.Places.{operand_at-zero, operand_at-one, operand_at-input, operand_at-gate}
-use Rattle.op_compare_cells.specs.Choices.{cell_word}
 use Rattle.op_compare_cells.specs.Table.{count_in, cell_in, table_cells, CellPlaces, EarlierPlaces}
 use Rattle.op_compare_cells.specs.CellLanes.{Carries, place_bit, input_word, operand_word, cell_word_at, Filled}
 use Rattle.op_compare_cells.specs.CellLanes.{InputsIn}

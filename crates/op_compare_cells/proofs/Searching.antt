@@ -1,21 +1,19 @@
 -- The search batch by batch, whichever cells the table is of. Cited by `settings`.
---   marked-below                            a word that is not 0 marks a lane
 --   agreed-none, agreed-more                before the first batch, and one batch more
 --   found_none, found_here                  no batch has a lane; one has, and no earlier one
 --   table-for, search-ready                 the table of cells that passed the tests
 -- Assumes nothing.
-use mathlib.Core.Path.{◌≡◌, refl, sym, ap, ◌∙◌}
+use mathlib.Core.Path.{◌≡◌, refl, ◌∙◌}
 use mathlib.Core.Bool.{false}
 use mathlib.Core.List.{List}
 use Prim.Native.Nat.{ℕ, ◌+◌, ◌^◌, ◌≤◌, ◌<◌}
 use native.Mathlib.Omega.{arith}
-use native.Mathlib.Nat.{not-suc-le-zero, zero-add}
-use lib.ListN.{length, get_or}
+use native.Mathlib.Nat.{not-suc-le-zero}
+use lib.ListN.{get_or}
 use Rattle.prelude.specs.Lists.{least}
-use Rattle.prelude.proofs.Least.{least-le}
 use Rattle.std.specs.declared.result.Result.TheVariants.{Ok}
-use Rattle.netlist.specs.Limits.{max_inputs, max_gates}
-use Rattle.netlist.specs.StoredBlock.{decode, is_malformed}
+use Rattle.netlist.specs.Limits.{max_gates}
+use Rattle.netlist.specs.StoredBlock.{decode}
 use Rattle.netlist.specs.Rounds.{setting_count}
 use Rattle.netlist.specs.Answers.{answer_of}
 use Rattle.netlist.specs.Cells.{cell_count, cells_in}
@@ -30,17 +28,10 @@ use Rattle.lanes_settings.specs.Lanes.{Judged}
 use Rattle.lanes_settings.proofs.Batching.{Place, batch-more}
 use Rattle.op_compare_cells.specs.Table.{count_in, table_cells, CellTable}
 use Rattle.op_compare_cells.specs.CellLanes.{Evaluated}
-use Rattle.op_compare_cells.specs.Words.{ListReady, differs_at, Listed, Marks}
+use Rattle.op_compare_cells.specs.Words.{differs_at, Listed, Marks}
 use Rattle.op_compare_cells.proofs.Differences.{listed-place, lowest-there, search-accepted, search-found}
 use Rattle.op_compare_cells.specs.Ready.{Comparable, SearchReady}
 use Rattle.op_compare_cells.specs.Found.{Agreed, Found}
-
--- the lowest lane of a word that is not 0
-pub marked-below : (w : ℕ) → w < 2 ^ 64 → (w ≡ 0 → ⊥) → least (has_lane w) 64 < 64
-marked-below w l h =
-    let t : Tells 64 0 (has_lane w) w = record { within = l; each = λ s k. rw (zero-add s) } in
-    let (s, k, p) = tells-some t h in
-    (tells-lowest t (omega arith) s k p).0
 
 -- the number of settings, as read
 setting-count : (ws : List ℕ) {n count : ℕ} → n ≡ get_or ws 0 0 → count ≡ 2 ^ n → count ≡ setting_count (decode ws)

@@ -6,3 +6,4 @@ pub mod Table
 pub mod CellLanes
 pub mod Ready
 pub mod Found
+pub mod Miter

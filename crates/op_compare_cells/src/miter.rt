@@ -1,92 +1,70 @@
 // A miter of a block and of cells, at the lanes of a batch: where an output and the node listed for it show other
-// values. `lanes` holds two words for each place of the block, `nodes` one for each place of the cells.
-ghost use Rattle.std.specs.Prelude.{◌≡◌, ◌<◌, get_or};
+// values.
+ghost use Rattle.std.specs.Prelude.{◌≡◌, ◌<◌};
 ghost use Rattle.prelude.specs.Lists.{least};
-ghost use Rattle.lanes_settings.specs.Lanes.{Judged};
-ghost use Rattle.op_compare_cells.specs.Words.{ListReady, shown_word, differing_word, differing_words, differs_at};
-ghost use Rattle.op_compare_cells.specs.Words.{Marks};
+ghost use Rattle.op_compare_cells.specs.Words.{ListReady};
 
 use crate::choice::choose;
 use graph_gates::{PLACES, place_of};
-use lanes_dual_rail::LANE_WORDS;
 use lanes_dual_rail::inputs::used_lanes;
-use lanes_settings::outputs::output_pair;
-use lanes_settings::settled::counted_lanes;
-use words_layout::offsets::{inputs_of, outputs_at, outputs_of};
+use lanes_settings::outputs::{any_lanes, lowest_output};
+use lanes_settings::settled::JudgedBatch;
+use words_layout::offsets::{inputs_of, outputs_of};
 
-// The word of the node listed for output `o`.
-fn shown_word(words: &[u16], shown: &[u16], o: usize, nodes: &[u64; PLACES]) -> u64
-    requires { ListReady words.now shown.now × (o < get_or words.now 2 0) }
-    ensures { result ≡ shown_word words.now shown.now nodes.now o }
-{
-    nodes[place_of(shown[o] as usize, inputs_of(words))]
+// A batch of the block, the node listed for each output, and a word for each place of the cells in that batch.
+#[derive(Clone, Copy)]
+pub struct Miter<'a> {
+    pub batch: JudgedBatch<'a>,
+    pub shown: &'a [u16],
+    pub nodes: &'a [u64; PLACES],
+    ghost listed: { ListReady batch.words.now shown.now },
 }
 
-// The lanes at which output `o` shows another value: where the node is 1 the output has to be 1, and elsewhere 0.
-fn differing_lanes(
-    words: &[u16],
-    shown: &[u16],
-    o: usize,
-    lanes: &[u64; LANE_WORDS],
-    nodes: &[u64; PLACES],
-) -> u64
-    requires { ListReady words.now shown.now × (o < get_or words.now 2 0) }
-    ensures { result ≡ differing_word words.now shown.now lanes.now nodes.now o }
-{
-    let n = inputs_of(words);
-    let pair = output_pair(words, outputs_at(words), n, o, lanes);
-    let word = shown_word(words, shown, o, nodes);
-    used_lanes(n) ^ choose(pair.zeros, pair.ones, word)
-}
+impl<'a> Miter<'a> {
+    ghost use Rattle.op_compare_cells.specs.Miter.{output_total, shown_of, differing_of, differing_below};
+    ghost use Rattle.op_compare_cells.specs.Miter.{differs_in, MarksIn};
 
-// The lanes at which some output shows another value than its listed node.
-fn any_differing(
-    words: &[u16],
-    shown: &[u16],
-    lanes: &[u64; LANE_WORDS],
-    nodes: &[u64; PLACES],
-) -> u64
-    requires { ListReady words.now shown.now }
-    ensures { result ≡ differing_words words.now shown.now lanes.now nodes.now
-        (get_or words.now 2 0) }
-{
-    let count = outputs_of(words);
-    let mut differing = 0u64;
-    for o in 0..count {
-        differing = differing | differing_lanes(words, shown, o, lanes, nodes);
+    // The word of the node listed for output `o`.
+    fn shown_word(&self, o: usize) -> u64
+        requires { o < output_total self.now }
+        ensures { result ≡ shown_of self.now o }
+    {
+        self.nodes[place_of(self.shown[o] as usize, inputs_of(self.batch.words))]
     }
-    differing
-}
 
-// The lowest output that shows another value at a lane, or the number of outputs.
-pub fn lowest_differing(
-    words: &[u16],
-    shown: &[u16],
-    lane: usize,
-    lanes: &[u64; LANE_WORDS],
-    nodes: &[u64; PLACES],
-) -> usize
-    requires { ListReady words.now shown.now × (lane < 64) }
-    ensures { result ≡ least (differs_at words.now shown.now lanes.now nodes.now lane)
-        (get_or words.now 2 0) }
-{
-    let count = outputs_of(words);
-    (0..count)
-        .find(|&o| (differing_lanes(words, shown, o, lanes, nodes) >> lane) % 2 == 1)
-        .unwrap_or(count)
-}
+    // The lanes at which output `o` shows another value: where the node is 1 the output has to be 1, and elsewhere 0.
+    fn differing_lanes(&self, o: usize) -> u64
+        requires { o < output_total self.now }
+        ensures { result ≡ differing_of self.now o }
+    {
+        let used = used_lanes(inputs_of(self.batch.words));
+        let pair = self.batch.output_pair(o);
+        used ^ choose(pair.zeros, pair.ones, self.shown_word(o))
+    }
 
-// The lanes of the batch at `base` at which the setting counts and some output differs.
-pub fn disagreeing_lanes(
-    words: &[u16],
-    shown: &[u16],
-    base: usize,
-    lanes: &[u64; LANE_WORDS],
-    nodes: &[u64; PLACES],
-) -> u64
-    requires { ListReady words.now shown.now × Judged words.now (get_or words.now 0 0) base lanes.now }
-    ensures { Marks words.now shown.now base nodes.now result }
-{
-    let n = inputs_of(words);
-    counted_lanes(words, n, base, lanes) & any_differing(words, shown, lanes, nodes)
+    // The lanes at which some output shows another value than its listed node.
+    fn any_differing(&self) -> u64
+        ensures { result ≡ differing_below self.now (output_total self.now) }
+    {
+        any_lanes(outputs_of(self.batch.words), |o| self.differing_lanes(o))
+    }
+
+    // The lowest output that shows another value at a lane, or the number of outputs.
+    pub fn lowest_differing(&self, lane: usize) -> usize
+        requires { lane < 64 }
+        ensures { result ≡ least (differs_in self.now lane) (output_total self.now) }
+    {
+        lowest_output(
+            outputs_of(self.batch.words),
+            lane,
+            |o| self.differing_lanes(o),
+        )
+    }
+
+    // The lanes at which the setting counts and some output differs.
+    pub fn disagreeing_lanes(&self) -> u64
+        ensures { MarksIn self.now result }
+    {
+        self.batch.counted_lanes() & self.any_differing()
+    }
 }

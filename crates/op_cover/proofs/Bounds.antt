@@ -10,6 +10,9 @@ use Rattle.netlist.specs.Limits.{max_inputs}
 pub three-fits : {i n : ℕ} → i ≤ n → n ≤ max_inputs → 3 ^ i ≤ 3 ^ max_inputs
 three-fits {i} l h = pow-le-pow_right {n = 3} (omega arith) {i = i} {j = max_inputs} (omega arith)
 
+pub three-grows : {i n : ℕ} → i ≤ n → 3 ^ i ≤ 3 ^ n
+three-grows {i} {n} l = pow-le-pow_right {n = 3} (omega arith) {i = i} {j = n} l
+
 pub two_fits : {i n : ℕ} → i ≤ n → n ≤ max_inputs → 2 ^ i ≤ 2 ^ max_inputs
 two_fits {i} l h = pow_mono {i = i} {j = max_inputs} (omega arith)
 

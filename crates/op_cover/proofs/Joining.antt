@@ -12,10 +12,11 @@ use native.Mathlib.Numerals.{add-one}
 use native.Mathlib.Omega.{arith}
 use lib.Arith.{digits_lt, digits_div}
 use lib.Bits.{bit_and}
-use lib.ListN.{length, get_or, set, length-set}
+use lib.ListN.{length, get_or, set, take, length-set}
 use lib.Pow.{pow-add, pow_pos}
-use lib.Seq.{get_or-set_same, get_or-set_other}
+use lib.Seq.{get_or-set_same, get_or-set_other, length-take-le}
 use borrow.Author.Tests.{eq-eqb, ne_eqb}
+use Rattle.std.proofs.lemmas.List.{get_or-take}
 use Rattle.prelude.proofs.Tests.{eq-or-ne, lt-or-le}
 use Rattle.netlist.specs.Limits.{max_inputs}
 use Rattle.netlist.specs.Assignments.{bit}
@@ -252,3 +253,18 @@ filled_none settled sound n few settings room = record {
 
 pub filled-all : {settled sound : List ℕ} {n k : ℕ} → Filled settled sound n (2 ^ n) k → k ≡ 3 ^ n
 filled-all {n = n} f = f.number ∙ weight-power n
+
+-- the bytes of the assignments stand in front of a table with more room
+pub front-length : {settled sound : List ℕ} {n k : ℕ} → Filled settled sound n (2 ^ n) k
+    → length (take k sound) ≡ 3 ^ n
+front-length {sound = sound} {k = k} f = let e = filled-all f in length-take-le k sound (omega (arith, f.room, e)) ∙ e
+
+pub filled-front : {settled sound : List ℕ} {n k : ℕ} → Filled settled sound n (2 ^ n) k
+    → Filled settled (take k sound) n (2 ^ n) k
+filled-front {sound = sound} {k = k} f = record {
+  few = f.few;
+  settings = f.settings;
+  room = omega (arith, front-length f);
+  number = f.number;
+  right = λ j l. get_or-take k sound j 0 l ∙ f.right j l;
+}

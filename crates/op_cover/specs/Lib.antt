@@ -1,3 +1,4 @@
 -- What the contracts of this crate add to the definitions of `netlist` and of crates/theory_cover: the arrays that
--- Cover lends, and its table of settings.
+-- Cover lends, its table of settings, and its table of entries.
 pub mod Table
+pub mod Primes

@@ -7,9 +7,10 @@ ghost use Rattle.theory_cover.specs.Over.{cover_over};
 ghost use Rattle.theory_cover.specs.Tables.{settled_by};
 ghost use Rattle.theory_cover.specs.Entries.{EntriesWritten};
 
-use crate::entries::write_entries;
+use crate::entries::Primes;
 use crate::everywhere::{are_all_settled, write_nothing};
 use crate::minimal::keep_minimal;
+use crate::settings::Settings;
 use crate::tables::{fill_sound, fill_weights};
 use words_layout::limits::{MAX_ASSIGNMENTS, MAX_SETTINGS};
 
@@ -20,48 +21,55 @@ const FEW_SETTINGS: usize = 1 << FEW_INPUTS;
 
 const FEW_ASSIGNMENTS: usize = 6561;
 
-// The number of entries; their words, two an entry, where `out` has room for all of them. `settled` has a 1 for each
-// settled setting. There are as many masks as settings.
-pub fn cover_entries(settled: &[u8], n: usize, out: &mut [u16]) -> usize
-    requires { (n ≤ max_inputs) × (2 ^ n ≤ length settled.now) }
-    ensures { EntriesWritten (cover_over (settled_by settled.now) n) out.old out.new result }
+// The number of entries; their words, two an entry, where `out` has room for all of them. There are as many masks as
+// settings.
+pub fn cover_entries(settings: &Settings, out: &mut [u16]) -> usize
+    ensures { EntriesWritten (cover_over (settled_by settings.now.settled.now) settings.now.inputs)
+        out.old out.new result }
 {
-    if are_all_settled(settled, n) {
+    if are_all_settled(settings) {
         return write_nothing(out);
     }
-    if n <= FEW_INPUTS {
-        return cover_with::<FEW_ASSIGNMENTS, FEW_SETTINGS>(settled, n, out);
+    if settings.inputs <= FEW_INPUTS {
+        return cover_with::<FEW_ASSIGNMENTS, FEW_SETTINGS>(settings, out);
     }
-    cover_with::<MAX_ASSIGNMENTS, MAX_SETTINGS>(settled, n, out)
+    cover_with::<MAX_ASSIGNMENTS, MAX_SETTINGS>(settings, out)
 }
 
 // `cover_entries` with tables of A assignments and S settings. Their lengths stay parameters, so that no proof computes
 // the length of half a million elements.
-fn cover_with<const A: usize, const S: usize>(settled: &[u8], n: usize, out: &mut [u16]) -> usize
-    requires settings { (n ≤ max_inputs) × (2 ^ n ≤ length settled.now) }
-    requires many { (3 ^ n ≤ A) × (2 ^ n ≤ S) }
+fn cover_with<const A: usize, const S: usize>(settings: &Settings, out: &mut [u16]) -> usize
+    requires many { (3 ^ settings.now.inputs ≤ A) × (2 ^ settings.now.inputs ≤ S) }
     requires fits { (A ≤ 3 ^ max_inputs) × (S ≤ 2 ^ max_inputs) }
-    ensures { EntriesWritten (cover_over (settled_by settled.now) n) out.old out.new result }
+    ensures { EntriesWritten (cover_over (settled_by settings.now.settled.now) settings.now.inputs)
+        out.old out.new result }
 {
     let mut sound = [0u8; A];
     let mut weights = [0u32; S];
-    cover_within(settled, n, &mut sound, &mut weights, out)
+    cover_within(settings, &mut sound, &mut weights, out)
 }
 
 // `cover_entries` with the tables of soundness and of weights lent.
 fn cover_within(
-    settled: &[u8],
-    n: usize,
+    settings: &Settings,
     sound: &mut [u8],
     weights: &mut [u32],
     out: &mut [u16],
 ) -> usize
-    requires { (n ≤ max_inputs) × (2 ^ n ≤ length settled.now) × (3 ^ n ≤ length sound.old) × (2 ^ n ≤ length weights.old) }
-    ensures { EntriesWritten (cover_over (settled_by settled.now) n) out.old out.new result }
+    requires { (3 ^ settings.now.inputs ≤ length sound.old) × (2 ^ settings.now.inputs ≤ length weights.old) }
+    ensures { EntriesWritten (cover_over (settled_by settings.now.settled.now) settings.now.inputs)
+        out.old out.new result }
 {
-    fill_weights(n, weights);
-    let size = fill_sound(settled, n, sound);
-    let total = keep_minimal(n, size, sound);
-    write_entries(sound, weights, n, size, total, out);
+    let inputs = settings.inputs;
+    fill_weights(inputs, weights);
+    let size = fill_sound(settings, sound);
+    let marks = &mut sound[..size];
+    let total = keep_minimal(inputs, marks);
+    let primes = Primes {
+        marks,
+        weights,
+        inputs,
+    };
+    primes.write_entries(total, out);
     total
 }

@@ -3,18 +3,19 @@
 // decided once, into a table (`table`); `implicants` and the modules that it calls find the entries in it.
 #![tactic(auto)]
 
-ghost use Rattle.std.specs.Prelude.{◌≡◌, false, ◌^◌, length};
+ghost use Rattle.std.specs.Prelude.{◌≡◌, ◌^◌, length};
 ghost use Rattle.netlist.specs.Limits.{max_inputs};
 ghost use Rattle.netlist.specs.Answers.{Promise};
-ghost use Rattle.netlist.specs.StoredBlock.{is_malformed};
 ghost use Rattle.netlist.specs.Operations.{cover_of};
 
 use crate::implicants::cover_entries;
+use crate::settings::Settings;
 use lanes_batch::plan::{Plan, blank_plan};
 use lanes_dual_rail::LANE_WORDS;
 use netlist::{Answer, Done};
 use table::tabulate;
 use words_block::check_words;
+use words_layout::block::Block;
 use words_layout::limits::MAX_SETTINGS;
 use words_layout::offsets;
 use words_refusals::test_room;
@@ -24,26 +25,25 @@ mod everywhere;
 mod implicants;
 mod minimal;
 mod pairs;
+mod settings;
 mod table;
 mod tables;
 
-// Cover of a block that is not torn, with arrays for its graph, its gates in layers, two words a place, and a byte a
-// setting. `cover_entries` alters nothing where the entries' words, two an entry, do not fit.
+// Cover of a block, with room lent for its plan, two words a place, and a byte a setting. `cover_entries` alters nothing where the entries' words, two an entry, do not fit.
 fn whole_cover(
-    words: &[u16],
+    block: &Block,
     plan: &mut Plan,
     lanes: &mut [u64; LANE_WORDS],
     settled: &mut [u8],
     entries: &mut [u16],
 ) -> Answer
-    requires words_value { is_malformed words.now ≡ false }
-    requires settled_room { length settled.old ≡ 2 ^ max_inputs }
-    ensures { Promise (cover_of words.now (length entries.old)) entries.old result
+    requires { length settled.old ≡ 2 ^ max_inputs }
+    ensures { Promise (cover_of block.now.words.now (length entries.old)) entries.old result
         entries.new }
 {
-    tabulate(words, plan, lanes, settled);
-    let n = offsets::inputs_of(words);
-    let count = cover_entries(settled, n, entries);
+    tabulate(block, plan, lanes, settled);
+    let inputs = offsets::inputs_of(block.words);
+    let count = cover_entries(&Settings { settled, inputs }, entries);
     test_room(entries.len() / 2, count)?;
     Ok(Done { count, detail: 0 })
 }
@@ -53,9 +53,9 @@ pub fn cover(words: &[u16], entries: &mut [u16]) -> Answer
     ensures { Promise (cover_of words.now (length entries.old)) entries.old result
         entries.new }
 {
-    check_words(words)?;
+    let block = check_words(words)?;
     let mut plan = blank_plan();
     let mut lanes = [0u64; LANE_WORDS];
     let mut settled = [0u8; MAX_SETTINGS];
-    whole_cover(words, &mut plan, &mut lanes, &mut settled, entries)
+    whole_cover(&block, &mut plan, &mut lanes, &mut settled, entries)
 }

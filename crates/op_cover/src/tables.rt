@@ -4,7 +4,10 @@ ghost use Rattle.std.specs.Prelude.{◌+◌, ◌*◌, ◌^◌, ◌≤◌, ◌<�
 ghost use Rattle.netlist.specs.Limits.{max_inputs};
 ghost use Rattle.theory_cover.specs.Tables.{Weighed, Filled, HalvesJoined};
 
+use crate::settings::Settings;
+
 // The weight of each mask of n bits, its bits read as ternary digits: three times that of its half, and the lowest bit.
+// The bound on n stands here, since no value says it before the weights are there.
 pub fn fill_weights(n: usize, weights: &mut [u32])
     requires { (n ≤ max_inputs) × (2 ^ n ≤ length weights.old) }
     ensures { Weighed weights.new n }
@@ -29,12 +32,13 @@ fn join_halves(sound: &mut [u8], k: usize, power: usize)
 
 // Puts the byte of a setting at its number k, and those of the assignments with free inputs up to the number of the
 // next setting: where its lowest inputs are at 1, both halves are there for each of them. Gives that next number.
-fn add_setting(settled: &[u8], n: usize, setting: usize, k: usize, sound: &mut [u8]) -> usize
-    requires { Filled settled.now sound.old n setting k × (setting < 2 ^ n) }
-    ensures { Filled settled.now sound.new n (setting + 1) result }
+fn add_setting(settings: &Settings, setting: usize, k: usize, sound: &mut [u8]) -> usize
+    requires { Filled settings.now.settled.now sound.old settings.now.inputs setting k
+        × (setting < 2 ^ settings.now.inputs) }
+    ensures { Filled settings.now.settled.now sound.new settings.now.inputs (setting + 1) result }
 {
-    sound[k] = if settled[setting] == 1 { 1 } else { 0 };
-    // The walk ends at the lowest input at 0; three numbers go on in it.
+    sound[k] = if settings.settled[setting] == 1 { 1 } else { 0 };
+    // The walk ends at the lowest input at 0, which it comes to bit by bit.
     let mut end = k + 1;
     let mut power: usize = 1;
     let mut i: usize = 0;
@@ -48,14 +52,14 @@ fn add_setting(settled: &[u8], n: usize, setting: usize, k: usize, sound: &mut [
 }
 
 // A byte for each assignment: 1 where it is sound. Gives their number.
-pub fn fill_sound(settled: &[u8], n: usize, sound: &mut [u8]) -> usize
-    requires { (n ≤ max_inputs) × (2 ^ n ≤ length settled.now) × (3 ^ n ≤ length sound.old) }
-    ensures { Filled settled.now sound.new n (2 ^ n) result }
+pub fn fill_sound(settings: &Settings, sound: &mut [u8]) -> usize
+    requires { 3 ^ settings.now.inputs ≤ length sound.old }
+    ensures { Filled settings.now.settled.now sound.new settings.now.inputs (2 ^ settings.now.inputs) result }
 {
-    let count = 1usize << n;
+    let count = 1usize << settings.inputs;
     let mut k = 0;
     for setting in 0..count {
-        k = add_setting(settled, n, setting, k, sound);
+        k = add_setting(settings, setting, k, sound);
     }
     k
 }

@@ -13,7 +13,7 @@ use native.Mathlib.Omega.{arith}
 use lib.ListN.{length, get_or, take, length-append}
 use lib.Seq.{sets, get_or-take, length-take-le}
 use borrow.Author.Tests.{ltb-true}
-use Rattle.prelude.specs.Lists.{all, tab, joined, placed}
+use Rattle.prelude.specs.Lists.{tab, joined, placed}
 use Rattle.prelude.proofs.Quantifiers.{all-at}
 use Rattle.prelude.proofs.Tab.{length-tab, get_d-tab, tab-add, tab-ext, tab-get_d, map-tab, placed-tab}
 use Rattle.prelude.proofs.Stores.{sets-append, sets-joined-next, length-joined-tab}

@@ -1,8 +1,7 @@
--- Gather's promise, which is on two slices (SPECIFICATION 7.17), and what its and Scatter's inner functions need.
+-- Gather's promise, which is on two slices (SPECIFICATION 7.17), and what its inner functions need.
 -- Assumes nothing.
-use Rattle.std.specs.Prelude.{ℕ, ◌≤◌, ◌≡◌, false, List, length, get_or}
+use Rattle.std.specs.Prelude.{ℕ, ◌≤◌, ◌≡◌, List, length, get_or}
 use Rattle.netlist.specs.Answers.{Answer}
-use Rattle.netlist.specs.StoredBlock.{is_malformed}
 use Rattle.netlist.specs.Answers.{left_in, Promise}
 use Rattle.netlist.specs.Gather.{gather, gather_list}
 
@@ -14,18 +13,5 @@ pub record GatherPromise (ws entry list_entry : List ℕ) (r : Answer) (exit lis
 
 -- what writing asks when nothing can refuse any more: as many words go out as came in, and a word for each gate
 pub record BlockRoom (ws gathered order : List ℕ) : Type 0 where
-  pub whole : is_malformed ws ≡ false
   pub room : length ws ≤ length gathered
   pub list_room : get_or ws 1 0 ≤ length order
-
--- what gathering asks: room for both results, and arrays with room for every gate
-pub record GatherReady (ws numbers places table gathered order : List ℕ) : Type 0 where
-  pub block : BlockRoom ws gathered order
-  pub number_room : get_or ws 1 0 ≤ length numbers
-  pub place_room : get_or ws 1 0 ≤ length places
-  pub table_room : get_or ws 1 0 ≤ length table
-
-pub record ScatterReady (ws places table : List ℕ) : Type 0 where
-  pub whole : is_malformed ws ≡ false
-  pub place_room : get_or ws 1 0 ≤ length places
-  pub table_room : get_or ws 1 0 ≤ length table

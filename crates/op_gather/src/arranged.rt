@@ -4,10 +4,11 @@ ghost use Rattle.std.proofs.lemmas.List.Edits.{sets};
 ghost use Rattle.prelude.specs.Lists.{tab, joined, placed};
 ghost use Rattle.netlist.specs.StoredBlock.{encode};
 ghost use Rattle.words_layout.specs.Bounds.{node_room};
-ghost use Rattle.unroll_emission.specs.Words.{GateRoom, Order};
+ghost use Rattle.unroll_emission.specs.Words.{Order};
+ghost use Rattle.unroll_emission.specs.Mapping.{CopyRoom};
 ghost use Rattle.op_gather.specs.Arranging.{new_word, moved_at, arrangement, ArrangeReady};
 
-use unroll_emission::entry::{copy_words, write_gate};
+use unroll_emission::entry::{Mapping, copy_words};
 use unroll_emission::rendered::copy_outputs;
 use words_layout::nodes::{Nodes, nodes_of};
 use words_layout::offsets::{GATE_SIZE, outputs_of};
@@ -25,14 +26,15 @@ fn fill_table(nodes: Nodes, numbers: &[u16], table: &mut [u16])
 }
 
 // Writes the gates in the order listed, their operands renumbered.
-fn move_gates(words: &[u16], nodes: Nodes, order: &[u16], table: &[u16], out: &mut [u16])
-    requires { Order nodes.gates nodes.gates order.now
-        × GateRoom words.now nodes nodes.gates table.now out.old }
-    ensures { out.new ≡ sets out.old nodes.start
-        (joined (tab (moved_at words.now nodes order.now table.now) nodes.gates)) }
+fn move_gates(mapping: &Mapping, order: &[u16], out: &mut [u16])
+    requires { Order mapping.now.nodes.gates mapping.now.nodes.gates order.now
+        × CopyRoom mapping.now mapping.now.nodes.gates out.old }
+    ensures { out.new ≡ sets out.old mapping.now.nodes.start
+        (joined (tab (moved_at mapping.now.words.now mapping.now.nodes order.now mapping.now.table.now)
+        mapping.now.nodes.gates)) }
 {
-    for t in 0..nodes.gates {
-        write_gate(words, nodes, order[t] as usize, t, table, out);
+    for t in 0..mapping.nodes.gates {
+        mapping.write_gate(order[t] as usize, t, out);
     }
 }
 
@@ -54,6 +56,11 @@ pub fn write_arranged(
     fill_table(nodes, numbers, table);
     // The counts, the names and the never lines.
     copy_words(words, 0, nodes.start, out);
-    move_gates(words, nodes, order, table, out);
-    copy_outputs(words, nodes, outputs_of(words), table, out, outputs);
+    let mapping = Mapping {
+        words,
+        nodes,
+        table,
+    };
+    move_gates(&mapping, order, out);
+    copy_outputs(&mapping, outputs_of(words), out, outputs);
 }

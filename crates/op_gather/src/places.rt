@@ -5,11 +5,13 @@ ghost use Rattle.op_gather.specs.Places.{Places, MarkReady};
 
 use words_layout::fill::fill_words;
 
-// Marks the place of each number; false at a number that isn't below m or is marked already. A place of m is no mark.
-fn mark_places(order: &[u16], m: usize, places: &mut [u16]) -> bool
-    requires { MarkReady m order.now places.old }
-    ensures { Places m order.now result places.new }
+// Marks the place of each number; false at a number that isn't below m, the list's length, or is marked already. A place
+// of m is no mark.
+fn mark_places(order: &[u16], places: &mut [u16]) -> bool
+    requires { MarkReady (length order.now) order.now places.old }
+    ensures { Places (length order.now) order.now result places.new }
 {
+    let m = order.len();
     for t in 0..m {
         let j = order[t] as usize;
         if m <= j {
@@ -32,5 +34,5 @@ pub fn find_places(order: &[u16], m: usize, places: &mut [u16]) -> bool
         return false;
     }
     fill_words(places, m, m as u16);
-    mark_places(order, m, places)
+    mark_places(order, places)
 }

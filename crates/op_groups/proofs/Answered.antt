@@ -11,8 +11,11 @@ use Rattle.netlist.specs.declared.Refusal.TheVariants.{MalformedBlock, NoRoom}
 use Rattle.netlist.specs.Netlist.{Block, gate_count}
 use Rattle.netlist.specs.StoredBlock.{decode, is_malformed}
 use Rattle.netlist.specs.Groups.{groups, group_number, group_numbers}
+use Rattle.std.specs.declared.result.Result.TheVariants.{Ok}
 use Rattle.netlist.specs.Answers.{done, refuse_if, in_room}
 use Rattle.netlist.specs.Operations.{groups_block, groups_of}
+use Rattle.words_refusals.specs.Tests.{Test, test_of}
+use Rattle.words_refusals.proofs.Promised.{passed, keeps-room}
 use Rattle.theory_encoding.proofs.Decoded.{decode-gate_count}
 use Rattle.graph_gates.specs.Graph.{network, Decoded}
 use Rattle.graph_gates.proofs.Network.{network-gates, network-count, groups-gates, group_numbers-gates}
@@ -24,10 +27,17 @@ module _ (ws : List ℕ) (room : ℕ) where
   unfolding groups_of
   groups-chain = refl
 
-  pub groups-room : in_room room (groups_block (decode ws))
+  groups-room : in_room room (groups_block (decode ws))
       ≡ refuse_if (ltb room (get_or ws 1 0)) NoRoom (done (group_numbers (decode ws)) (length (groups (decode ws))) 0)
   unfolding groups_block in_room group_numbers
   groups-room = rw (length-tab (group_number (decode ws)) (gate_count (decode ws)), decode-gate_count ws) refl
+
+  -- the outcome when the first test has passed, from what it says; g is the number of gates
+  pub words-passed : {w : Test} {g : ℕ} → w ≡ test_of (is_malformed ws) MalformedBlock → w ≡ Ok tt → g ≡ get_or ws 1 0
+      → groups_of ws room
+      ≡ refuse_if (ltb room g) NoRoom (done (group_numbers (decode ws)) (length (groups (decode ws))) 0)
+  words-passed e f m =
+      rw m (passed (in_room room) (keeps-room room) _ _ MalformedBlock groups-chain e f ∙ groups-room)
 
 -- a block has its graph's groups
 pub block-numbered : {b : Block} {m : ℕ} {graph numbers entry exit : List ℕ} {count : ℕ} → Decoded b m graph

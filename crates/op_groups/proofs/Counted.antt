@@ -4,7 +4,7 @@
 --   waiting-as, count-down-some, -stays, -ready, -skip   a slot is counted down
 --   number-one                                a gate gets its number
 --   taken_out, taken_in                       a group is taken out of the set, and has its number
---   set_next, lowest-next, none-next          the set holds the groups that may be next
+--   set_next, lowest-next, none-next   the set holds the groups that may be next
 -- Assumes nothing.
 use mathlib.Core.Path.{◌≡◌, refl, sym, ◌∙◌, subst}
 use mathlib.Core.Logic.{inl, inr, ⊎_elim}
@@ -793,22 +793,32 @@ module _ {m : ℕ} {graph leaders numbers counts ready : List ℕ} (r : NumberRe
             zero = ⊎_elim (λ z. z) (λ n. not-both may (some_read l lm n leads)) (eq-or-ne (get_or counts l 0) 0);
           })
 
-  module _ {j : ℕ} (is : j ≡ least (in_set ready) (64 * length ready)) where
-    -- the lowest gate is in the set
-    pub lowest-in : j < m → in_set ready j ≡ true
-    lowest-in l =
-        rw is (least_at (in_set ready) (64 * length ready) (rw (← is) (omega (arith, w.ready_room, r.legal.few))))
+  module _ {j : ℕ} (some : least (in_set ready) (64 * length ready) < 64 * length ready)
+      (is : j ≡ least (in_set ready) (64 * length ready)) where
+    -- the lowest gate is in the set, and so a gate
+    pub lowest-in : in_set ready j ≡ true
+    lowest-in = rw is (least_at (in_set ready) (64 * length ready) some)
 
-    -- the lowest of the set is the next
-    pub lowest-next : j < m → j ≡ least (leads_next (network m graph) m numbers leaders) m
-    lowest-next l =
-        sym (least-is (leads_next (network m graph) m numbers leaders) m j (omega arith)
-        (λ i il. sym (set_next i (omega arith)) ∙ least-below (in_set ready) (64 * length ready) i (rw (← is) il))
-        (λ jl. sym (set_next j l) ∙ lowest-in l))
+    pub lowest-gate : j < m
+    lowest-gate = (w.sound j lowest-in).below
 
-    -- an empty set has none
-    pub none-next : m ≤ j → m ≡ least (leads_next (network m graph) m numbers leaders) m
-    none-next l =
-        sym (least-is (leads_next (network m graph) m numbers leaders) m m (omega arith)
-        (λ i il. sym (set_next i il) ∙ least-below (in_set ready) (64 * length ready) i (rw (← is) (omega arith)))
-        (λ q. absurd (omega arith)))
+    -- and it is the next
+    pub lowest-next : j ≡ least (leads_next (network m graph) m numbers leaders) m
+    lowest-next =
+        sym (least-is (leads_next (network m graph) m numbers leaders) m j (omega (arith, lowest-gate))
+        (λ i il. sym (set_next i (omega (arith, il, lowest-gate)))
+        ∙ least-below (in_set ready) (64 * length ready) i (rw (← is) il))
+        (λ jl. sym (set_next j lowest-gate) ∙ lowest-in))
+
+  -- an empty set has none
+  pub none-next : (least (in_set ready) (64 * length ready) < 64 * length ready → ⊥)
+      → m ≡ least (leads_next (network m graph) m numbers leaders) m
+  none-next none =
+      sym (least-is (leads_next (network m graph) m numbers leaders) m m (omega arith)
+      (λ i il. sym (set_next i il) ∙ least-below (in_set ready) (64 * length ready) i (past i il))
+      (λ q. absurd (omega arith)))
+    where
+      past : (i : ℕ) → i < m → i < least (in_set ready) (64 * length ready)
+      past i il =
+          ⊎_elim (λ b. absurd (none b)) (λ b. omega (arith, b, w.ready_room, r.legal.few))
+          (lt-or-le (least (in_set ready) (64 * length ready)) (64 * length ready))

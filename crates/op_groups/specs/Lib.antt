@@ -4,3 +4,4 @@ pub mod Links
 pub mod Numbering
 pub mod Ready
 pub mod Waiting
+pub mod Underway

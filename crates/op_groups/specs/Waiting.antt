@@ -6,12 +6,13 @@
 --   count_of       the slots that a group waits for
 --   Waiting       all counts are right, and the set holds the groups that are ready
 -- Assumes nothing.
-use Rattle.std.specs.Prelude.{ℕ, ◌+◌, ◌-◌, ◌*◌, ◌/◌, ◌<◌, ◌≡◌, Bool, true, false, cond, not, ◌&&◌, ◌||◌, List, length, get_or, eqb, ltb, leb}
+use Rattle.std.specs.Prelude.{ℕ, ◌+◌, ◌-◌, ◌*◌, ◌/◌, ◌<◌, ◌≡◌, Bool, true, false, cond, not, ◌&&◌, ◌||◌}
+use Rattle.std.specs.Prelude.{List, length, get_or, eqb, ltb, leb}
 use Rattle.prelude.specs.Lists.{count_below}
 use Rattle.netlist.specs.Limits.{max_gates}
 use Rattle.op_groups.specs.Links.{FirstFrom}
 use Rattle.graph_gates.specs.Places.{first_gate}
-use Rattle.graph_gates.specs.Graph.{slots, Graph}
+use Rattle.graph_gates.specs.Graph.{slots}
 use Rattle.graph_gates.specs.Fanout.{slot_place, Fanout, Empty}
 use Rattle.op_groups.specs.Numbering.{unnumbered, NumberReady, NumberedUpTo}
 use Rattle.op_groups.specs.Ready.{in_set}
@@ -124,8 +125,7 @@ pub record AllReady (m : ℕ) (graph leaders nexts fanout numbers counts ready :
   pub numbers_are : NumberedUpTo m graph 0 numbers
   pub waiting : Waiting m leaders numbers m (all_open graph leaders numbers) counts ready
 
--- a graph, with empty lists and an empty set
-pub record NumberRooms (m : ℕ) (graph fanout ready : List ℕ) : Type 0 where
-  pub legal : Graph m graph
+-- empty lists and an empty set
+pub record NumberingReady (fanout ready : List ℕ) : Type 0 where
   pub unlinked : Empty fanout
   pub none : (l : ℕ) → in_set ready l ≡ false

@@ -24,8 +24,8 @@ pub fn groups(words: &[u16], numbers: &mut [u16]) -> Answer
     ensures { Promise (groups_of words.now (length numbers.old)) numbers.old result
         numbers.new }
 {
-    check_words(words)?;
+    let block = check_words(words)?;
     test_room(numbers.len(), gates_of(words))?;
-    let count = assign(words, numbers);
+    let count = assign(&block, numbers);
     Ok(Done { count, detail: 0 })
 }

@@ -1,6 +1,6 @@
 // A bit set of gates, 64 to a word: Kahn's algorithm keeps the leaders of the ready groups in one.
 ghost use Rattle.std.specs.Prelude.{◌≡◌, true, ◌*◌, ◌<◌, length};
-ghost use Rattle.prelude.specs.Lists.{least};
+ghost use Rattle.prelude.specs.Lists.{least, IfBelow};
 ghost use Rattle.op_groups.specs.Ready.{word_bits, in_set, Added, Removed};
 
 use lanes_dual_rail::words::lowest_lane;
@@ -37,16 +37,16 @@ impl ReadySet {
         self.words[l / WORD_BITS] ^= 1 << (l % WORD_BITS);
     }
 
-    // The lowest gate in the set; where it is empty, the number of all its bits.
-    pub fn lowest(&self) -> usize
-        ensures { result ≡ least (in_set self.now.words) (word_bits * length self.now.words) }
+    // The lowest gate in the set.
+    pub fn lowest(&self) -> Option<usize>
+        ensures { IfBelow (least (in_set self.now.words) (word_bits * length self.now.words))
+            (word_bits * length self.now.words) result }
     {
         for at in 0..READY_WORDS {
-            let word = self.words[at];
-            if word != 0 {
-                return WORD_BITS * at + lowest_lane(word);
+            if let Some(bit) = lowest_lane(self.words[at]) {
+                return Some(WORD_BITS * at + bit);
             }
         }
-        WORD_BITS * READY_WORDS
+        None
     }
 }

@@ -1,20 +1,19 @@
 -- The two ends of a line: what one byte more tells of each, and that they lie in order inside the text. Assumes
 -- nothing.
 use mathlib.Core.Path.{◌≡◌, refl, sym, ap, ◌∙◌}
-use mathlib.Core.Bool.{Bool, true, false, cond, ◌||◌, true≢false}
+use mathlib.Core.Bool.{Bool, true, false, cond}
 use mathlib.Core.List.{List, [], ◌∷◌}
 use Prim.Native.Nat.{ℕ, zero, suc, ◌+◌, ◌-◌, ◌≤◌, ◌<◌}
 use native.Mathlib.Omega.{arith}
 use lib.ListN.{length, drop, get_or, length-drop}
 use lib.Seq.{drop-cons}
 use lib.Dec.{eqb, ltb}
-use borrow.Author.Tests.{eq-eqb, ne_eqb, eqb-false, ltb-false}
+use borrow.Author.Tests.{eq-eqb, ne_eqb, ltb-false}
 use Rattle.std.specs.declared.option.Option.{Option}
 use Rattle.std.specs.declared.option.Option.TheVariants.{None, Some}
 use Rattle.std.specs.Option.{unwrap_or}
 use Rattle.std.specs.List.{position_or_len}
 use Rattle.std.proofs.lemmas.List.Recursion.{is_position_or_len}
-use borrow.Author.Count.{below_more}
 use Rattle.netlist.specs.Line.{lf, clamped, start_before, until_lf, line_start, line_end}
 
 -- ---- a part without an LF
@@ -22,14 +21,6 @@ use Rattle.netlist.specs.Line.{lf, clamped, start_before, until_lf, line_start, 
 -- no LF among the first `n` bytes from `at` on
 abbrev pub NoLf : List ℕ → ℕ → ℕ → Type 0
 NoLf text at n = (k : ℕ) → k < n → get_or text (at + k) 0 ≡ lf → ⊥
-
--- one byte more
-pub no_more : (text : List ℕ) (at i : ℕ) (found : Bool) → (found ≡ false → NoLf text at i)
-    → found || eqb (get_or text (at + i) 0) lf ≡ false
-    → NoLf text at (i + 1)
-no_more text at i true none e = absurd (true≢false e)
-no_more text at i false none e =
-    below_more (λ k. get_or text (at + k) 0 ≡ lf → ⊥) i (none refl) (eqb-false (get_or text (at + i) 0) lf e)
 
 -- ---- the start
 

@@ -12,9 +12,12 @@ use Rattle.netlist.specs.Netlist.{Block, gate_count}
 use Rattle.netlist.specs.StoredBlock.{decode, is_malformed}
 use Rattle.netlist.specs.Rounds.{rounds, settled}
 use Rattle.netlist.specs.Rendering.{is_straight, sweep}
+use Rattle.std.specs.declared.result.Result.TheVariants.{Ok}
 use Rattle.netlist.specs.Answers.{Answer}
 use Rattle.netlist.specs.Answers.{refusal_number, number_of, Outcome, done, refuse_if, in_room, answer_of, left_in, Promise}
 use Rattle.netlist.specs.Operations.{is_bad_setting, settle_block, settle, pass_block, pass}
+use Rattle.words_refusals.specs.Tests.{Test, test_of}
+use Rattle.words_refusals.proofs.Promised.{passed, keeps-room}
 use Rattle.theory_encoding.proofs.Decoded.{decode-gate_count}
 use Rattle.theory_fixpoint.proofs.Sweep.{length-sweep, sweep-settled}
 use Rattle.op_pass.specs.Swept.{sweep_codes}
@@ -27,18 +30,36 @@ module _ (ws setting : List ℕ) (room : ℕ) where
   abbrev b : Block
   b = decode ws
 
-  -- Pass's
-  pub pass-chain : pass ws setting room
-      ≡ in_room room
-      (refuse_if (is_malformed ws) MalformedBlock
-      (refuse_if (not (is_straight b)) NotStraight (refuse_if (is_bad_setting b setting) BadSetting (pass_block b x))))
+  -- what is left of Pass's conditions behind each: behind the block's form, the setting; behind its rules, both
+  abbrev pub setting_on : Outcome
+  setting_on = refuse_if (is_bad_setting b setting) BadSetting (pass_block b x)
+
+  abbrev pub straight_on : Outcome
+  straight_on = refuse_if (not (is_straight b)) NotStraight setting_on
+
+  pub pass-chain : pass ws setting room ≡ in_room room (refuse_if (is_malformed ws) MalformedBlock straight_on)
   unfolding pass
   pass-chain = refl
 
-  pub pass-room : in_room room (pass_block b x)
-      ≡ refuse_if (ltb room (get_or ws 1 0)) NoRoom (done (sweep_codes ws setting) (get_or ws 1 0) 0)
+  -- the last one, where g is the number of gates
+  pass-room : {g : ℕ} → g ≡ get_or ws 1 0
+      → in_room room (pass_block b x) ≡ refuse_if (ltb room g) NoRoom (done (sweep_codes ws setting) (get_or ws 1 0) 0)
   unfolding pass_block in_room sweep_codes
-  pass-room = rw (length-map (sweep b x) code, length-sweep b x, decode-gate_count ws) refl
+  pass-room m = rw (length-map (sweep b x) code, length-sweep b x, decode-gate_count ws, m) refl
+
+  -- the outcome when the first tests have passed, from what each of them says
+  module _ {w : Test} (words : w ≡ test_of (is_malformed ws) MalformedBlock) (whole : w ≡ Ok tt) where
+    pub words-passed : pass ws setting room ≡ in_room room straight_on
+    words-passed = passed (in_room room) (keeps-room room) _ _ MalformedBlock pass-chain words whole
+
+    module _ {s : Test} (told : s ≡ test_of (not (is_straight b)) NotStraight) (straight : s ≡ Ok tt) where
+      pub straight-passed : pass ws setting room ≡ in_room room setting_on
+      straight-passed = passed (in_room room) (keeps-room room) _ _ NotStraight words-passed told straight
+
+      pub setting-passed : {t : Test} {g : ℕ} → t ≡ test_of (is_bad_setting b setting) BadSetting → t ≡ Ok tt
+          → g ≡ get_or ws 1 0
+          → pass ws setting room ≡ refuse_if (ltb room g) NoRoom (done (sweep_codes ws setting) (get_or ws 1 0) 0)
+      setting-passed e f m = passed (in_room room) (keeps-room room) _ _ BadSetting straight-passed e f ∙ pass-room m
 
 -- ---- Pass and Settle
 

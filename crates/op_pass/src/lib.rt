@@ -16,10 +16,10 @@ pub mod sweep;
 pub fn pass(words: &[u16], setting: &[u8], values: &mut [u8]) -> Answer
     ensures { PassPromise words.now setting.now values.old result values.new }
 {
-    check_words(words)?;
-    check_straight(words)?;
+    let block = check_words(words)?;
+    check_straight(&block)?;
     test_setting(words, setting)?;
     test_room(values.len(), gates_of(words))?;
-    let count = sweep_into(words, setting, values);
+    let count = sweep_into(&block, setting, values);
     Ok(Done { count, detail: 0 })
 }

@@ -2,7 +2,7 @@
 use mathlib.Core.Path.{◌≡◌, refl, sym, ap, ap₂, ◌∙◌}
 use mathlib.Core.Bool.{true}
 use mathlib.Core.List.{List, [], ◌∷◌, ◌++◌, map, append_assoc, map-append, map-map}
-use Prim.Native.Nat.{ℕ, ◌+◌, ◌*◌, ◌≤◌}
+use Prim.Native.Nat.{ℕ, ◌*◌, ◌≤◌}
 use native.Mathlib.Omega.{arith}
 use lib.ListN.{length, get_or, take, length-append, length-map}
 use lib.Seq.{take-take, take_at, get_or-take}
@@ -12,7 +12,7 @@ use Rattle.prelude.proofs.Tab.{tab-ext, tab-get_d, map-tab}
 use Rattle.netlist.specs.Netlist.{Name, gate_count, output_count, never_count}
 use Rattle.netlist.specs.StoredBlock.{name_words, never_words, gate_words, output_words, encode}
 use Rattle.netlist.specs.Names.{is_plain_name}
-use Rattle.netlist.specs.Syntax.{name, Tree, is_legal_tree, print_input, print_gate}
+use Rattle.netlist.specs.Syntax.{Tree, is_legal_tree, print_input, print_gate}
 use Rattle.netlist.specs.Reading.{Mention, mentions, input_mention, gate_mention, gate_lines_at, declared_nodes}
 use Rattle.netlist.specs.Reading.{declared_ports}
 use Rattle.netlist.specs.Reading.{block_of}

@@ -1,6 +1,6 @@
 -- What each step of Read needs, from what the steps before it tell, and what it answers. Assumes nothing.
 use mathlib.Core.Path.{◌≡◌, refl, sym, ap, ◌∙◌}
-use mathlib.Core.Bool.{true, false}
+use mathlib.Core.Bool.{true}
 use mathlib.Core.List.{List, map}
 use mathlib.Core.Option.{Option, none, some}
 use Prim.Native.Nat.{ℕ, ◌+◌, ◌-◌, ◌*◌, ◌≤◌, ◌<◌}
@@ -9,7 +9,7 @@ use lib.ListN.{length, get_or, take, drop, length-map, length-drop, length-take}
 use lib.Seq.{sets}
 use lib.Dec.{ltb}
 use borrow.Author.Tests.{ltb-false}
-use Rattle.prelude.specs.Lists.{placed, joined}
+use Rattle.prelude.specs.Lists.{joined}
 use Rattle.prelude.proofs.Elements.{rest-is-drop}
 use Rattle.prelude.proofs.Slices.{sets-placed, placed-room}
 use Rattle.netlist.specs.Answers.{Answer}
@@ -36,14 +36,14 @@ use Rattle.text_names.specs.Index.{hashes}
 use Rattle.text_lines.specs.Trees.{TextOf}
 use Rattle.text_lines.specs.Counting.{tree_counts}
 use Rattle.text_symbols.specs.Results.{declared, packed_names, Declared, TableRoom, Filled, declared_twice, Repeats}
-use Rattle.text_symbols.specs.Results.{IndexReady, NodesIndexed}
+use Rattle.text_symbols.specs.Results.{IndexReady}
 use Rattle.text_symbols.proofs.Room.{node-room, table-room}
 use Rattle.text_constraints.specs.declared.NeverLines.{NeverLines}
 use Rattle.text_constraints.specs.declared.NeverTold.{NeverTold}
-use Rattle.text_constraints.specs.Places.{never_lines, lines_words, Told}
+use Rattle.text_constraints.specs.Places.{never_lines, Told}
 use Rattle.text_constraints.specs.Ready.{NeversReady}
 use Rattle.text_constraints.proofs.LineWalk.{failed-first}
-use Rattle.text_expressions.specs.Resolution.{TreeAt, first_unknown, ResolveReady, Resolved}
+use Rattle.text_expressions.specs.Resolution.{first_unknown, ResolveReady, Resolved}
 use Rattle.words_refusals.proofs.Promised.{IsFailed, not-err, passed_none, passed-false, failed, failed-at, passed, keeps-room}
 use Rattle.words_refusals.proofs.Promised.{bare, keeps-bare, finished}
 use Rattle.text_block.specs.Words.{tree_block_words, word_count, PutReady}

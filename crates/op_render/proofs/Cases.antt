@@ -53,24 +53,22 @@ module _ (ws : List ℕ) (room : ℕ) where
   abbrev b : Block
   b = decode ws
 
-  -- what a block that is whole can be refused for, and what one that is sound
+  -- what a block that is whole and not too large can be refused for
   abbrev pub copied : Outcome
   copied = refuse_if (not (is_sound b)) (NotSettled (lowest_unsettled b)) (counted (encode (rendering b)))
-
-  abbrev pub roomed : Outcome
-  roomed =
-      refuse_if (ltb room (length (encode (rendering b)))) NoRoom
-      (done (encode (rendering b)) (length (encode (rendering b))) 0)
 
   pub render-chain : render ws room ≡ in_room room (refuse_if (is_malformed ws) MalformedBlock (render_block b))
   unfolding render render_words
   render-chain = refl
 
-  pub render-whole : is_malformed ws ≡ false
-      → render ws room ≡ in_room room (refuse_if (ltb max_copies (copy_count b)) TooManyCopies copied)
+  -- total is what was counted, and size the rendered block's length
+  pub render-whole : (total : ℕ) → is_malformed ws ≡ false → ltb max_copies total ≡ ltb max_copies (copy_count b)
+      → render ws room ≡ in_room room (refuse_if (ltb max_copies total) TooManyCopies copied)
   unfolding render render_words render_block refuse_if
-  render-whole t = rw t refl
+  render-whole total t e = rw (t, e) refl
 
-  pub render-left : is_malformed ws ≡ false → copy_count b ≤ max_copies → is_sound b ≡ true → render ws room ≡ roomed
+  pub render-left : (size : ℕ) → is_malformed ws ≡ false → copy_count b ≤ max_copies → is_sound b ≡ true
+      → length (encode (rendering b)) ≡ size
+      → render ws room ≡ refuse_if (ltb room size) NoRoom (done (encode (rendering b)) size 0)
   unfolding render render_words render_block counted in_room refuse_if
-  render-left t m s = rw (t, le-ltb max_copies (copy_count b) m, s) refl
+  render-left size t m s e = rw (t, le-ltb max_copies (copy_count b) m, s, e) refl

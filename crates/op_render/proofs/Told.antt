@@ -33,7 +33,9 @@ use Rattle.theory_unrolling.proofs.Block.{length-schedule-is}
 use Rattle.theory_cover.proofs.Blocks.{sound-lowest, lowest-sound}
 use Rattle.lanes_batch.specs.Batch.{place_of}
 use Rattle.lanes_batch.specs.Layered.{part}
-use Rattle.unroll_order.specs.Listing.{Numbers, PassesAre, GatesAppended, members_of, part_of, parts_of, ListReady}
+use Rattle.unroll_order.specs.declared.GroupPasses.{GroupPasses}
+use Rattle.unroll_order.specs.GroupPasses.{gates_in}
+use Rattle.unroll_order.specs.Listing.{Numbers, PassesAre, GatesAppended, members_of, part_of, ListReady}
 use Rattle.unroll_order.specs.Listing.{GroupsListed}
 use Rattle.unroll_order.proofs.Listing.{front}
 use Rattle.unroll_order.proofs.Blocks.{count-few, members-groups, members-long, group-part, group-bounds}
@@ -94,14 +96,14 @@ pub schedule-length : (ws : List ℕ) (total : ℕ) → total ≡ copy_count (de
 schedule-length ws total et = length-schedule-is (decode ws) ∙ rendering-count (decode ws) ∙ sym et
 
 -- the copies written one behind the other are the schedule
-pub scheduled : (ws : List ℕ) {members starts passes entry order : List ℕ} {count total at : ℕ}
-    → CopiesReady ws count members starts passes total
-    → max_gates ≤ length entry → GatesAppended (parts_of members starts passes count) entry 0 order at
+pub scheduled : (ws : List ℕ) {passes : GroupPasses} {entry order : List ℕ} {total at : ℕ}
+    → CopiesReady ws passes total
+    → max_gates ≤ length entry → GatesAppended (gates_in passes) entry 0 order at
     → take total order ≡ schedule (decode ws)
-scheduled ws {members} {starts} {passes} {entry} {order} {count} {total} r room e =
+scheduled ws {passes} {entry} {order} {total} r room e =
     let len : length (schedule (decode ws)) ≡ total = schedule-length ws total r.total_is in
     let few = r.fits in
-    let fits : length (parts_of members starts passes count) ≤ length entry = rw (r.copies, len) (omega arith) in
+    let fits : length (gates_in passes) ≤ length entry = rw (r.copies, len) (omega arith) in
     rw (front e fits, r.copies) (take_at (schedule (decode ws)) _ total len)
 
 -- the passes that are counted, group by group

@@ -58,7 +58,7 @@ module _ (ws : List ℕ) (whole : is_malformed ws ≡ false) (room : ℕ) (enoug
       let setting = setting_bytes (input_count (decode ws)) fixed ones in
       settle-chain ws setting room
       ∙ rw (whole, setting-legal fixed ones)
-      (settle-room ws setting room ∙ rw (le-ltb room (get_or ws 1 0) (rw (← decode-gate_count ws) enough)))
+      (settle-room ws setting room refl ∙ rw (le-ltb room (get_or ws 1 0) (rw (← decode-gate_count ws) enough)))
 
   -- Each record's answer is that of one call of Settle.
   pub record-one-call : (r : Record) → answered_record (decode ws) r ≡ one_call ws room r

@@ -1,14 +1,14 @@
-// The inputs of up to 64 records in lanes: lane s has the setting of record s, whose masks are entry s of `fixed` and
-// `ones`.
+// The inputs of up to 64 records in lanes: lane s has the setting of record s.
 ghost use Rattle.std.specs.Prelude.{◌≡◌, cond, ◌≤◌, ◌<◌};
 ghost use Rattle.netlist.specs.Limits.{max_inputs, max_gates};
 ghost use Rattle.netlist.specs.Values.{value_of};
 ghost use Rattle.netlist.specs.Assignments.{is_one};
 ghost use Rattle.netlist.specs.Sheet.{input_byte};
 ghost use Rattle.lanes_batch.specs.Layered.{InputsPut};
-ghost use Rattle.op_sheet.specs.Records.{is_zero, record_pair, RecordsStarted};
+ghost use Rattle.op_sheet.specs.Records.{is_zero};
+ghost use Rattle.op_sheet.specs.Masks.{pair_of, MasksStarted};
 
-use crate::records::LANES;
+use crate::records::Masks;
 use graph_gates::FIRST_INPUT;
 use lanes_batch::layered::start_constants;
 use lanes_dual_rail::evaluate::put_pair;
@@ -39,16 +39,16 @@ fn one_bit(fixed: u16, ones: u16, i: usize) -> u64
     }
 }
 
-// The pair of input i of `count` records, made from the last record to the first.
-fn record_pair(fixed: &[u16; LANES], ones: &[u16; LANES], count: usize, i: usize) -> Pair
-    requires { (count ≤ 64) × (i < max_inputs) }
-    ensures { result ≡ record_pair count fixed.now ones.now i }
+// The pair of input i of the records, made from the last record to the first.
+fn record_pair(masks: &Masks, i: usize) -> Pair
+    requires { i < max_inputs }
+    ensures { result ≡ pair_of masks.now i }
 {
     let mut zeros: u64 = 0;
     let mut marked: u64 = 0;
-    for s in (0..count).rev() {
-        let f = fixed[s];
-        let v = ones[s];
+    for s in (0..masks.count).rev() {
+        let f = masks.fixed[s];
+        let v = masks.ones[s];
         zeros = 2 * zeros + zero_bit(f, v, i);
         marked = 2 * marked + one_bit(f, v, i);
     }
@@ -59,34 +59,21 @@ fn record_pair(fixed: &[u16; LANES], ones: &[u16; LANES], count: usize, i: usize
 }
 
 // Stores the pair of each of the n inputs.
-fn put_records(
-    n: usize,
-    count: usize,
-    fixed: &[u16; LANES],
-    ones: &[u16; LANES],
-    lanes: &mut [u64; LANE_WORDS],
-)
-    requires { (n ≤ max_inputs) × (count ≤ 64) }
-    ensures { InputsPut (record_pair count fixed.now ones.now) n lanes.old lanes.new }
+fn put_records(n: usize, masks: &Masks, lanes: &mut [u64; LANE_WORDS])
+    requires { n ≤ max_inputs }
+    ensures { InputsPut (pair_of masks.now) n lanes.old lanes.new }
 {
     for k in 0..n {
-        put_pair(lanes, FIRST_INPUT + k, record_pair(fixed, ones, count, k));
+        put_pair(lanes, FIRST_INPUT + k, record_pair(masks, k));
     }
 }
 
-// Starts the lanes of `count` records of a block of n inputs and m gates. All 64 lanes are in use, as in a batch of
+// Starts the lanes of the records of a block of n inputs and m gates. All 64 lanes are in use, as in a batch of
 // settings of LOW_INPUTS inputs; one behind the last record has undefined inputs.
-pub fn start_records(
-    m: usize,
-    n: usize,
-    count: usize,
-    fixed: &[u16; LANES],
-    ones: &[u16; LANES],
-    lanes: &mut [u64; LANE_WORDS],
-)
-    requires { (m ≤ max_gates) × (n ≤ max_inputs) × (count ≤ 64) }
-    ensures { RecordsStarted m n count fixed.now ones.now lanes.new }
+pub fn start_records(m: usize, n: usize, masks: &Masks, lanes: &mut [u64; LANE_WORDS])
+    requires { (m ≤ max_gates) × (n ≤ max_inputs) }
+    ensures { MasksStarted m n masks.now lanes.new }
 {
     start_constants(m, LOW_INPUTS, lanes);
-    put_records(n, count, fixed, ones, lanes);
+    put_records(n, masks, lanes);
 }

@@ -1,15 +1,16 @@
 // The turns of a call, two for each record: up to LANES records are read one after the other, at the last of them they
 // are settled, and then they are answered one after the other.
 ghost use Rattle.std.specs.Prelude.{◌≡◌, false, ◌*◌, ◌-◌, ◌%◌, ◌<◌};
-ghost use Rattle.netlist.specs.StoredBlock.{decode, is_malformed};
+ghost use Rattle.netlist.specs.StoredBlock.{decode};
 ghost use Rattle.netlist.specs.Sheet.{refused_record, record_of};
 ghost use Rattle.op_sheet.specs.Side.{Room};
 ghost use Rattle.op_sheet.specs.Order.{size_at, record_at, reads_at, BatchAdvanced, Answerable, turned};
 
 use crate::outputs::{SHOWN_WORDS, show_lane};
-use crate::records::LANES;
+use crate::records::{LANES, Masks};
 use crate::settling::settle_records;
 use netlist::{Record, Refusal};
+use words_layout::block::Block;
 use words_layout::masks::are_masks;
 use words_layout::offsets::inputs_of;
 use words_refusals::number_of;
@@ -62,9 +63,9 @@ pub fn place_at(count: usize, t: usize) -> usize
 }
 
 // The batch after turn t, which finds this record at its place.
-pub fn advance(words: &[u16], count: usize, t: usize, asked: Record, batch: Batch) -> Batch
-    requires { (is_malformed words.now ≡ false) × (t < 2 * count) × Room batch }
-    ensures { BatchAdvanced words.now count t asked batch result }
+pub fn advance(block: &Block, count: usize, t: usize, asked: Record, batch: Batch) -> Batch
+    requires { (t < 2 * count) × Room batch }
+    ensures { BatchAdvanced block.now.words.now count t asked batch result }
 {
     let size = size_at(count, t);
     let s = t % TURNS;
@@ -79,7 +80,12 @@ pub fn advance(words: &[u16], count: usize, t: usize, asked: Record, batch: Batc
     if s + 1 < size {
         return Batch { fixed, ones, shown };
     }
-    settle_records(words, size, &fixed, &ones, &mut shown);
+    let masks = Masks {
+        fixed: &fixed,
+        ones: &ones,
+        count: size,
+    };
+    settle_records(block, &masks, &mut shown);
     Batch { fixed, ones, shown }
 }
 
@@ -97,14 +103,14 @@ fn refuse(fixed: u16, ones: u16) -> Record
 }
 
 // The answer to a record's masks, which were settled at lane s.
-fn answer_lane(words: &[u16], s: usize, fixed: u16, ones: u16, shown: &[u64; SHOWN_WORDS]) -> Record
-    requires { Answerable words.now s fixed ones shown.now }
-    ensures { result ≡ record_of (decode words.now) fixed ones }
+fn answer_lane(block: &Block, s: usize, fixed: u16, ones: u16, shown: &[u64; SHOWN_WORDS]) -> Record
+    requires { Answerable block.now.words.now s fixed ones shown.now }
+    ensures { result ≡ record_of (decode block.now.words.now) fixed ones }
 {
-    if !are_masks(inputs_of(words), fixed as usize, ones as usize) {
+    if !are_masks(inputs_of(block.words), fixed as usize, ones as usize) {
         return refuse(fixed, ones);
     }
-    show_lane(words, s, fixed, ones, shown)
+    show_lane(block, s, fixed, ones, shown)
 }
 
 // The record that turn t leaves at its place: the one that it found there, or the answer.
@@ -120,5 +126,6 @@ pub fn answer(words: &[u16], count: usize, t: usize, asked: Record, batch: Batch
         return asked;
     }
     let shown = batch.shown;
-    answer_lane(words, s - size, asked.fixed, asked.ones, &shown)
+    let block = Block { words };
+    answer_lane(&block, s - size, asked.fixed, asked.ones, &shown)
 }

@@ -1,8 +1,9 @@
--- The conditions of `write` one after the other, and that what it writes is short. Cited by `write`. Assumes nothing.
+-- The conditions of `write` one after the other, that what it writes is short, and its parts. Cited by `write` and
+-- `put_block`. Assumes nothing.
 use Prim.Native.Nat.{ℕ, ◌≤◌}
 use mathlib.Core.Path.{◌≡◌, refl}
 use mathlib.Core.Bool.{false}
-use mathlib.Core.List.{List}
+use mathlib.Core.List.{List, ◌++◌}
 use native.Mathlib.Omega.{arith}
 use lib.ListN.{length, get_or}
 use lib.Dec.{ltb}
@@ -18,29 +19,69 @@ use Rattle.theory_encoding.proofs.WellFormed.{well_formed-parts}
 use Rattle.theory_grammar.proofs.WritingLength.{written-length}
 use Rattle.std.specs.declared.result.Result.TheVariants.{Ok}
 use Rattle.words_refusals.specs.Tests.{test_of}
-use Rattle.text_pieces.specs.Pieces.{Short, pieces}
+use Rattle.text_pieces.specs.Pieces.{Appended, Short, pieces}
+use Rattle.text_pieces.proofs.Appending.{appended_then, short-first, short-rest}
 use Rattle.op_write.specs.Lines.{input_text, never_line_text, gate_text, output_text, block_text}
 use Rattle.op_write.proofs.WrittenText.{decoded-well, written-pieces}
 
--- ---- the parts, from the header's words
+-- ---- the parts, one after the other: each has room, and together they are the block's text
 
-module _ (ws : List ℕ) (n : ℕ) (is_inputs : n ≡ get_or ws 0 0) where
-  pub inputs-part : pieces (input_text ws) n ≡ pieces (input_text ws) (get_or ws 0 0)
-  inputs-part = rw is_inputs refl
+module _ (ws : List ℕ) where
+  abbrev nevers_text : List ℕ
+  nevers_text = pieces (never_line_text ws (nevers_at (get_or ws 0 0))) (get_or ws 3 0)
 
-  pub nevers-part : (from count : ℕ) → from ≡ nevers_at n → count ≡ get_or ws 3 0
-      → pieces (never_line_text ws from) count ≡ pieces (never_line_text ws (nevers_at (get_or ws 0 0))) (get_or ws 3 0)
-  nevers-part from count e k = rw (e, is_inputs, k) refl
+  abbrev gates_text : List ℕ
+  gates_text = pieces (gate_text ws (gates_at (get_or ws 0 0) (get_or ws 3 0))) (get_or ws 1 0)
 
-pub gates-part : (ws : List ℕ) (from m : ℕ) → from ≡ gates_at (get_or ws 0 0) (get_or ws 3 0) → m ≡ get_or ws 1 0
-    → pieces (gate_text ws from) m ≡ pieces (gate_text ws (gates_at (get_or ws 0 0) (get_or ws 3 0))) (get_or ws 1 0)
-gates-part ws from m e k = rw (e, k) refl
+  abbrev outputs_text : List ℕ
+  outputs_text = pieces (output_text ws (outputs_at (get_or ws 0 0) (get_or ws 3 0) (get_or ws 1 0))) (get_or ws 2 0)
 
-pub outputs-part : (ws : List ℕ) (from k : ℕ) → from ≡ outputs_at (get_or ws 0 0) (get_or ws 3 0) (get_or ws 1 0)
-    → k ≡ get_or ws 2 0
-    → pieces (output_text ws from) k ≡ pieces (output_text ws (outputs_at (get_or ws 0 0) (get_or ws 3 0) (get_or ws 1 0)))
-    (get_or ws 2 0)
-outputs-part ws from k e d = rw (e, d) refl
+module _ (ws : List ℕ) {n at : ℕ} (inputs_are : n ≡ get_or ws 0 0) (short : Short (block_text ws) at) where
+  pub inputs-short : Short (pieces (input_text ws) n) at
+  unfolding block_text
+  inputs-short = rw inputs_are (short-first _ short)
+
+  module _ {text text₁ : List ℕ} {end₁ : ℕ} (inputs : Appended (pieces (input_text ws) n) text at text₁ end₁)
+      {nevers_from nevers_count : ℕ} (nevers_here : nevers_from ≡ nevers_at n) (nevers_are : nevers_count ≡ get_or ws 3 0)
+    where
+      behind-inputs : Short (nevers_text ws ++ (gates_text ws ++ outputs_text ws)) end₁
+      unfolding block_text
+      behind-inputs = short-rest _ short (rw inputs_are at inputs)
+
+      pub nevers-short : Short (pieces (never_line_text ws nevers_from) nevers_count) end₁
+      nevers-short = rw (nevers_here, inputs_are, nevers_are) (short-first _ behind-inputs)
+
+      module _ {text₂ : List ℕ} {end₂ : ℕ}
+          (nevers : Appended (pieces (never_line_text ws nevers_from) nevers_count) text₁ end₁ text₂ end₂)
+          {gates_from gates_count : ℕ} (gates_here : gates_from ≡ gates_at (get_or ws 0 0) (get_or ws 3 0))
+          (gates_are : gates_count ≡ get_or ws 1 0) where
+        nevers-put : Appended (nevers_text ws) text₁ end₁ text₂ end₂
+        nevers-put = rw (nevers_here, inputs_are, nevers_are) at nevers
+
+        behind-nevers : Short (gates_text ws ++ outputs_text ws) end₂
+        behind-nevers = short-rest _ behind-inputs nevers-put
+
+        pub gates-short : Short (pieces (gate_text ws gates_from) gates_count) end₂
+        gates-short = rw (gates_here, gates_are) (short-first _ behind-nevers)
+
+        module _ {text₃ : List ℕ} {end₃ : ℕ}
+            (gates : Appended (pieces (gate_text ws gates_from) gates_count) text₂ end₂ text₃ end₃)
+            {outputs_from outputs_count : ℕ}
+            (outputs_here : outputs_from ≡ outputs_at (get_or ws 0 0) (get_or ws 3 0) (get_or ws 1 0))
+            (outputs_are : outputs_count ≡ get_or ws 2 0) where
+          gates-put : Appended (gates_text ws) text₂ end₂ text₃ end₃
+          gates-put = rw (gates_here, gates_are) at gates
+
+          pub outputs-short : Short (pieces (output_text ws outputs_from) outputs_count) end₃
+          outputs-short = rw (outputs_here, outputs_are) (short-rest _ behind-nevers gates-put)
+
+          pub block-put : {text₄ : List ℕ} {end₄ : ℕ}
+              → Appended (pieces (output_text ws outputs_from) outputs_count) text₃ end₃ text₄ end₄
+              → Appended (block_text ws) text at text₄ end₄
+          unfolding block_text
+          block-put outputs =
+              appended_then (rw inputs_are at inputs)
+              (appended_then nevers-put (appended_then gates-put (rw (outputs_here, outputs_are) at outputs)))
 
 -- ---- the length
 

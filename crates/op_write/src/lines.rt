@@ -1,7 +1,6 @@
-// The lines of a text, those of inputs, gates and outputs, appended as in `pieces`, and the whole of it (SPECIFICATION
+// The lines of a text, those of inputs, gates and outputs, appended as in crates/text_pieces, and the whole of it (SPECIFICATION
 // 1).
-ghost use Rattle.std.specs.Prelude.{◌≤◌, get_or};
-ghost use Rattle.netlist.specs.Limits.{max_inputs};
+ghost use Rattle.std.specs.Prelude.{◌≤◌};
 ghost use Rattle.words_layout.specs.Bounds.{max_word, written_room, line_room};
 ghost use Rattle.text_pieces.specs.Pieces.{Appended, Short, pieces};
 ghost use Rattle.op_write.specs.Lines.{item_text, expression_text, input_text, gate_text, output_text, block_text};
@@ -9,6 +8,7 @@ ghost use Rattle.op_write.specs.Lines.{item_text, expression_text, input_text, g
 use crate::nevers::put_nevers;
 use text_pieces::each::put_each;
 use text_pieces::{put, put_all, put_gate_name, put_keyword, put_name, put_operand};
+use words_layout::block::Block;
 use words_layout::offsets::{
     GATE_SIZE, INPUTS_AT, NAME_SIZE, OUTPUT_SIZE, gates_at, gates_of, inputs_of, nevers_at,
     nevers_of, outputs_at, outputs_of,
@@ -123,14 +123,13 @@ fn put_outputs(text: &mut [u8], at: usize, words: &[u16], from: usize, k: usize)
     )
 }
 
-// Appends the lines of all inputs, never lines, gates and outputs.
-pub fn put_block(text: &mut [u8], at: usize, words: &[u16]) -> usize
-    requires words_bound { get_or words.now 0 0 ≤ max_inputs }
-    requires short { Short (block_text words.now) at }
-    ensures { Appended (block_text words.now) text.old at text.new result }
+// Writes the lines of all inputs, never lines, gates and outputs, from the text's beginning.
+pub fn put_block(text: &mut [u8], block: &Block) -> usize
+    ensures { Appended (block_text block.now.words.now) text.old 0 text.new result }
 {
+    let words = block.words;
     let n = inputs_of(words);
-    let first = put_inputs(text, at, words, n);
+    let first = put_inputs(text, 0, words, n);
     let second = put_nevers(text, first, words, nevers_at(n), nevers_of(words));
     let third = put_gates(text, second, words, gates_at(words), gates_of(words));
     put_outputs(text, third, words, outputs_at(words), outputs_of(words))

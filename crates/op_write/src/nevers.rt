@@ -1,4 +1,4 @@
-// Never lines, appended as in `pieces`: a pair for each input that a line fixes, by ascending input (SPECIFICATION 1.3,
+// Never lines, appended as in crates/text_pieces: a pair for each input that a line fixes, by ascending input (SPECIFICATION 1.3,
 // 7.11).
 ghost use Rattle.std.specs.Prelude.{◌≤◌, get_or};
 ghost use Rattle.netlist.specs.Limits.{max_inputs};

@@ -14,3 +14,4 @@ pub mod Tested
 pub mod Counting
 pub mod Ranges
 pub mod Places
+pub mod Below

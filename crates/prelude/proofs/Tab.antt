@@ -2,18 +2,19 @@
 -- with it.
 --   length-tab, get_d-tab, tab-get_d   its length and elements
 --   tab-add, tab-ext, map-tab        in two parts, two that are equal, mapped
+--   tab-cut                          of a list's first elements
 --   fill-next, placed-tab           a slice that is being filled with it
 -- Assumes nothing.
 use mathlib.Core.Path.{◌≡◌, refl, sym, ap, ◌∙◌}
 use mathlib.Core.Logic.{⊎_elim}
 use mathlib.Core.List.{List, [], ◌∷◌, ◌++◌, map, append_assoc, append-nil}
 pub use mathlib.Core.List.{map-append}
-use Prim.Native.Nat.{ℕ, zero, suc, ◌+◌, ◌<◌}
+use Prim.Native.Nat.{ℕ, zero, suc, ◌+◌, ◌≤◌, ◌<◌}
 use native.Mathlib.Nat.{not-suc-le-zero, add-zero, add-suc}
 use native.Mathlib.Numerals.{add-one}
 use native.Mathlib.Omega.{arith}
-use lib.ListN.{length, get_or, set, length-append, get_or-append}
-use lib.Seq.{get_or_at, ext_get_or}
+use lib.ListN.{length, get_or, set, take, length-append, get_or-append}
+use lib.Seq.{get_or_at, ext_get_or, get_or-take, length-take-le}
 use Rattle.prelude.specs.Lists.{tab, placed}
 use Rattle.prelude.proofs.Tests.{eq-or-ne}
 use Rattle.prelude.proofs.Slices.{set-placed}
@@ -71,6 +72,13 @@ module _ {A : Type 0} where
       get_or-append (tab f n) _ d j (rw (length-tab f n) l) ∙ get_d-tab f n j d l
 
 module _ {A B : Type 0} where
+  -- what a function makes of a list's first elements, cut or not
+  pub tab-cut : (f : A → B) (xs : List A) (n : ℕ) (d : A) → n ≤ length xs
+      → tab (λ i. f (get_or (take n xs) i d)) (length (take n xs)) ≡ tab (λ i. f (get_or xs i d)) n
+  tab-cut f xs n d l =
+      rw (length-take-le n xs l)
+      (tab-ext (λ i. f (get_or (take n xs) i d)) (λ i. f (get_or xs i d)) n (λ i k. ap f (get_or-take n xs i d k)))
+
   pub map-tab : (g : A → B) (f : ℕ → A) (n : ℕ) → map g (tab f n) ≡ tab (λ i. g (f i)) n
   map-tab g f zero = refl
   map-tab g f (suc n) = map-append g (tab f n) (f n ∷ []) ∙ ap (λ (r : List B). r ++ (g (f n) ∷ [])) (map-tab g f n)

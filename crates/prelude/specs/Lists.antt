@@ -1,6 +1,7 @@
 -- Tests and searches over lists and numbers, as functions that compute. The toolchain's own are over another ℕ or do
 -- not unfold. Every crate above cites these. Assumes nothing.
-use Rattle.std.specs.Prelude.{ℕ, zero, suc, ◌+◌, Bool, true, false, cond, ◌&&◌, ◌||◌, List, [], ◌∷◌, ◌++◌, eqb, length, drop}
+use Rattle.std.specs.Prelude.{ℕ, zero, suc, ◌+◌, Bool, true, false, cond, ◌&&◌, ◌||◌, List, [], ◌∷◌, ◌++◌, eqb, ◌<◌, length, drop}
+use Rattle.std.specs.Prelude.{Option, SomeIff}
 use Prim.Native.Char.{Char, code}
 use Prim.Native.String.{String, [] as []ˢ, ◌∷◌ as ◌∷ˢ◌}
 
@@ -74,6 +75,11 @@ least_from p k (suc n) = let r = least_from p (suc k) n in cond (p k) k r
 -- the lowest number below n that passes the test, or n where none does
 abbrev pub least : (ℕ → Bool) → ℕ → ℕ
 least p n = least_from p 0 n
+
+-- r is the number k where k is below n, and none where it is not: for `least p n`, the lowest number below n that passes
+-- the test, where one does
+abbrev pub IfBelow : ℕ → ℕ → Option ℕ → Type 0
+IfBelow k n r = SomeIff r (k < n) k
 
 -- the number is in the list; the list of numbers is in the list
 abbrev pub member : ℕ → List ℕ → Bool

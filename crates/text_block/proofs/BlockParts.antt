@@ -4,7 +4,7 @@ use Rattle.std.proofs.lemmas.Slice.{put_mid-paste}
 use Rattle.std.proofs.lemmas.List.Edits.{sets-eq}
 use Rattle.prelude.proofs.Tab.{tab-ext, tab-get_d}
 use lib.Seq.{take_all, get_or-take, length-take-le}
-use mathlib.Core.Path.{◌≡◌, refl, sym, ◌∙◌}
+use mathlib.Core.Path.{◌≡◌, refl, sym, ap, ◌∙◌}
 use mathlib.Core.List.{List, [], ◌∷◌, ◌++◌}
 use Prim.Native.Nat.{ℕ, suc, ◌+◌, ◌*◌, ◌≤◌}
 use native.Mathlib.Omega.{arith}
@@ -62,15 +62,23 @@ block_written c names masks gates outputs block a b d e f p q m r s =
 
 -- ---- words copied into a part of a block
 
-words-tab : (words : List ℕ) (n : ℕ) → n ≤ length words → tab (word_of words) n ≡ take n words
+pub words-tab : (words : List ℕ) (n : ℕ) → n ≤ length words → take n words ≡ tab (word_of words) n
 unfolding word_of
 words-tab words n l =
-    tab-ext (word_of words) (λ i. get_or (take n words) i 0) n (λ i h. sym (get_or-take n words i 0 h))
-    ∙ tab-get_d 0 (take n words) n (length-take-le n words l)
+    sym
+    (tab-ext (word_of words) (λ i. get_or (take n words) i 0) n (λ i h. sym (get_or-take n words i 0 h))
+    ∙ tab-get_d 0 (take n words) n (length-take-le n words l))
 
-pub words-put : (block words part : List ℕ) (at n k : ℕ) → at + n ≤ length block → n ≤ length words → n ≡ k
-    → part ≡ take n words → put_mid at k block part ≡ sets block at (tab (word_of words) n)
-words-put block words part at n k room long e copied =
-    let size : length (take n words) ≡ n = length-take-le n words long in
-    put_mid-paste at k block part (take n words) n copied e (sym size)
-    ∙ rw (words-tab words n long, sets-eq (take n words) block at (omega (arith, size)), size, take_all n (take n words) (omega (arith, size)))
+-- the names of the first n numbers
+pub names-tab : (names : List ℕ) (n : ℕ) → n ≤ length names
+    → tab (name_of (take n names)) (length (take n names)) ≡ tab (name_of names) n
+unfolding name_of
+names-tab names n l =
+    rw (length-take-le n names l)
+    (tab-ext (name_of (take n names)) (name_of names) n (λ i h. ap port_words (get_or-take n names i 0 h)))
+
+pub words-put : (block words part : List ℕ) (at k : ℕ) → at + length words ≤ length block → length words ≡ k
+    → part ≡ words → put_mid at k block part ≡ sets block at words
+words-put block words part at k room e copied =
+    put_mid-paste at k block part words (length words) copied e refl
+    ∙ rw (sets-eq words block at room, take_all (length words) words (omega arith))

@@ -40,23 +40,23 @@ pub fn put_name(block: &mut [u16], at: usize, name: u64)
     block[at + 3] = (name / 281474976710656 % 65536) as u16;
 }
 
-// Writes the first n names.
-fn put_names(names: &[u64], n: usize, block: &mut [u16])
-    requires { (n ≤ length names.now) × (inputs_at + name_size * n ≤ length block.old) }
+// Writes these names.
+fn put_names(names: &[u64], block: &mut [u16])
+    requires { inputs_at + name_size * length names.now ≤ length block.old }
     ensures { block.new ≡ sets block.old inputs_at
-        (joined (tab (name_of names.now) n)) }
+        (joined (tab (name_of names.now) (length names.now))) }
 {
-    for i in 0..n {
+    for i in 0..names.len() {
         put_name(block, INPUTS_AT + NAME_SIZE * i, names[i]);
     }
 }
 
-// Copies the first `count` words to place `at` of the block.
-fn put_words(words: &[u16], count: usize, block: &mut [u16], at: usize)
-    requires { (count ≤ length words.now) × (at + count ≤ length block.old) }
-    ensures { block.new ≡ sets block.old at (tab (word_of words.now) count) }
+// Copies these words to place `at` of the block.
+fn put_words(words: &[u16], block: &mut [u16], at: usize)
+    requires { at + length words.now ≤ length block.old }
+    ensures { block.new ≡ sets block.old at words.now }
 {
-    block[at..at + count].copy_from_slice(&words[..count]);
+    block[at..at + words.len()].copy_from_slice(words);
 }
 
 // Writes a whole block.
@@ -76,12 +76,11 @@ pub fn put_block(
     let lines = c.nevers;
     let m = c.gates;
     put_counts(c, block);
-    put_names(names, n, block);
-    put_words(masks, NEVER_SIZE * lines, block, nevers_at(n));
-    put_words(gates, GATE_SIZE * m, block, gates_behind(n, lines));
+    put_names(&names[..n], block);
+    put_words(&masks[..NEVER_SIZE * lines], block, nevers_at(n));
+    put_words(&gates[..GATE_SIZE * m], block, gates_behind(n, lines));
     put_words(
-        outputs,
-        OUTPUT_SIZE * c.outputs,
+        &outputs[..OUTPUT_SIZE * c.outputs],
         block,
         outputs_behind(n, lines, m),
     );

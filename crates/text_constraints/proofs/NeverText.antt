@@ -3,24 +3,23 @@
 --   never-line: an LF stands at its end alone
 --   line-size: the bytes up to the LF are its own
 --   pairs-here, opens-behind: where its pairs stand, and their brackets
---   line-inside, pairs-few, taken-few: the place of its pairs, and room for their table and for what they give
-use Prim.Native.Nat.{ℕ, zero, suc, ◌+◌, ◌*◌, ◌≤◌}
+--   line-inside, pairs-few: the place of its pairs, and room for their table
+use Prim.Native.Nat.{ℕ, suc, ◌+◌, ◌*◌, ◌≤◌}
 use mathlib.Core.Path.{◌≡◌, refl, sym, ◌∙◌}
 use mathlib.Core.Bool.{Bool, true, false}
 use mathlib.Core.List.{List, [], ◌∷◌, ◌++◌}
 use native.Mathlib.Omega.{arith}
-use lib.ListN.{length, take, drop, length-drop}
+use lib.ListN.{length, drop, length-drop}
 use lib.Seq.{drop-drop}
 use lib.Dec.{leb}
 use Rattle.prelude.specs.Lists.{ascii, all}
 use Rattle.prelude.proofs.Tests.{and_left, and_right}
-use Rattle.netlist.specs.Limits.{max_text, max_inputs}
+use Rattle.netlist.specs.Limits.{max_text}
 use Rattle.netlist.specs.Values.{val}
 use Rattle.netlist.specs.Names.{is_name_start, is_node_name}
 use Rattle.netlist.specs.Syntax.{Pair, value_text, pair_text, print_pair, is_legal_pair, is_legal_never, print_lines}
 use Rattle.netlist.specs.Syntax.{print_never}
 use Rattle.theory_grammar.proofs.Places.{print_never-split}
-use Rattle.words_layout.specs.Masks.{mask_bits}
 use Rattle.text_lines.specs.Lines.{length_with_lf, line_opens}
 use Rattle.text_lines.specs.Trees.{is_line}
 use Rattle.text_lines.proofs.JoinedLines.{line-append, one_line}
@@ -91,12 +90,3 @@ module _ {at : ℕ} {ps : List Pair} {text : List ℕ} (is : NeverAt at ps text)
 -- no line has more pairs than a table
 pub pairs-few : {ps : List Pair} {s : List ℕ} → NeverAt 0 ps s → length s ≤ max_text → length ps ≤ max_pairs
 pairs-few is short = omega (arith, behind-word is)
-
--- the values of inputs are few enough for a mask
-pub taken-few : (n : ℕ) (xs : List ℕ) → n ≤ max_inputs → length (take n xs) ≤ mask_bits
-taken-few n xs few = let h = take_short n xs in omega arith
-  where
-    take_short : (n : ℕ) (xs : List ℕ) → length (take n xs) ≤ n
-    take_short zero xs = omega arith
-    take_short (suc n) [] = omega arith
-    take_short (suc n) (x ∷ xs) = let h = take_short n xs in omega arith

@@ -1,6 +1,6 @@
 -- Lines with one letter: the turns of the loop that passes them. Assumes nothing.
 --   lettered-byte: the letter as the code reads it
---   RunLeft, run-start, run-next, run-done: the lines that are left
+--   RunLeft, run-next, run-done: the lines that are left
 --   Running: what holds before each turn
 use Prim.Native.Nat.{ℕ, ◌+◌, ◌≤◌, ◌<◌}
 use mathlib.Core.Path.{◌≡◌, refl, sym, ◌∙◌}
@@ -78,9 +78,6 @@ pub record Running (letter from : ℕ) (text : List ℕ) (end count : ℕ) : Typ
   pub left : (ls : List (List ℕ)) → RunAt letter from ls text → RunLeft letter from text ls end count
 
 module _ {letter from : ℕ} {text : List ℕ} {ls : List (List ℕ)} where
-  pub run-start : RunAt letter from ls text → RunLeft letter from text ls from 0
-  run-start r = record { left = ls; is = r; bytes = refl; lines = omega arith }
-
   module _ {end count : ℕ} where
     pub run-next : RunLeft letter from text ls end count → lettered letter (drop end text) ≡ true → {next : ℕ}
         → next ≡ end + length_with_lf (drop end text)

@@ -39,6 +39,7 @@ pub fn never_lines(text: &[u8]) -> NeverLines
 {
     let before = run_of(text, 0, b'i');
     let nevers = run_of(text, before.end, b'n');
+    // Of two runs, so that no `From` makes it.
     NeverLines {
         inputs: before.count,
         at: before.end,

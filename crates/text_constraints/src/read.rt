@@ -42,6 +42,7 @@ fn read_line(
     let mut setting = [0u8; MAX_INPUTS];
     fill_values(s, PAIRS_AT, given, known, &mut setting);
     let masks = masks_of(&setting[..n]);
+    // Of three results, so that no `From` makes it.
     LineTold {
         repeat,
         outside,

@@ -8,7 +8,7 @@ use Rattle.std.specs.declared.option.Option.TheVariants.{None, Some}
 use mathlib.Core.List.{List, [], ◌∷◌, ◌++◌, map}
 use Prim.Native.Nat.{ℕ, ◌+◌, ◌-◌, ◌*◌, ◌≤◌}
 use native.Mathlib.Omega.{arith}
-use lib.ListN.{length, length-append}
+use lib.ListN.{length, take, length-append}
 use Rattle.prelude.specs.Lists.{all, placed, joined}
 use Rattle.prelude.proofs.Slices.{sets-placed}
 use Rattle.netlist.specs.Limits.{max_gates, max_outputs}
@@ -26,14 +26,15 @@ use Rattle.netlist.specs.declared.Refusal.TheVariants.{UndeclaredName}
 use Rattle.std.specs.declared.result.Result.TheVariants.{Ok, Err}
 use Rattle.text_expressions.specs.Walk.{left_of, declared_names, unknown_after, gates_words}
 use Rattle.text_expressions.specs.Lines.{LineForm, gate_form, output_form, output_of, lines_words, lines_cost}
-use Rattle.text_expressions.specs.Lines.{LinesDone}
+use Rattle.text_expressions.specs.Lines.{LinesDone, LinesRead}
 use Rattle.text_expressions.specs.Resolution.{TreeAt, first_unknown, TreeDone}
 use Rattle.text_expressions.proofs.ListFacts.{sum_ones}
 use Rattle.text_expressions.proofs.Closings.{words_append, unknown-append}
 use Rattle.text_expressions.proofs.LineSteps.{Lawful}
 use Rattle.text_expressions.proofs.LineForms.{gate-lawful, output-lawful}
 use Rattle.text_expressions.proofs.UsedPlaces.{inside, place-back, used-inside}
-use Rattle.text_expressions.proofs.WholeText.{outputs_text, gates_text, input-count, limits}
+use Rattle.text_expressions.proofs.WholeText.{outputs_text, gates_text, rest_from, rest, nodes, input-count, limits}
+use Rattle.text_expressions.proofs.WholeText.{gates-done, outputs-done}
 
 -- ---- words
 
@@ -67,12 +68,19 @@ output-words n bs (o ∷ os) first = ap (λ (r : List ℕ). output_words n (outp
     (output-words n bs os (first + 1))
 
 module _ {t : Tree} {text : List ℕ} {end : ℕ} {c : Counts} {names words : List ℕ} (w : TreeAt t text end c names words)
-    (gates gates' outputs outputs' : List ℕ) (walked last : Walked)
-    (d : LinesDone gate_form c.inputs (bindings t) t.gates (gate_lines_at t) (gates_text w) (outputs_text w) 0 None
+    {gates gates' outputs outputs' : List ℕ} {walked last : Walked}
+    (gates-read : LinesRead gate_form c.named (rest_from w) c.inputs (take (nodes w) names) (take (nodes w) words) None
     gates gates' walked)
-    (e : LinesDone output_form c.inputs (bindings t) t.outputs (output_lines_at t) (outputs_text w) [] 0
-    walked.unknown outputs
-    outputs' last) where
+    (outputs-read : LinesRead output_form c.outputs (rest w walked.left) c.inputs (take (nodes w) names)
+    (take (nodes w) words) walked.unknown outputs outputs' last) where
+  d : LinesDone gate_form c.inputs (bindings t) t.gates (gate_lines_at t) (gates_text w) (outputs_text w) 0 None gates
+      gates' walked
+  d = gates-done w gates gates' walked gates-read
+
+  e : LinesDone output_form c.inputs (bindings t) t.outputs (output_lines_at t) (outputs_text w) [] 0 walked.unknown
+      outputs outputs' last
+  e = outputs-done w walked.left walked.unknown outputs outputs' last d.left outputs-read
+
   gates-written : 5 * max_gates ≤ length gates
       → gates' ≡ placed (joined (map (gate_words (length t.inputs)) (block_of t).gates)) gates
   unfolding block_of gates_words lines_cost gate_form

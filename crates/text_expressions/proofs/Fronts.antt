@@ -1,8 +1,11 @@
 -- What the functions answer, way by way. Assumes nothing.
-use mathlib.Core.Path.{◌≡◌, refl}
+use mathlib.Core.Path.{◌≡◌, refl, ap, ◌∙◌}
+use native.Mathlib.Omega.{arith}
+use Rattle.prelude.specs.Lists.{IfBelow}
+use Rattle.text_names.proofs.Packing.{front-is}
 use mathlib.Core.List.{List}
-use Prim.Native.Nat.{ℕ, ◌-◌, ◌≤◌, ◌<◌}
-use lib.ListN.{length, get_or}
+use Prim.Native.Nat.{ℕ, ◌-◌}
+use lib.ListN.{length, get_or, take}
 use Rattle.std.specs.declared.option.Option.{Option}
 use Rattle.std.specs.declared.option.Option.TheVariants.{None, Some}
 use Rattle.std.specs.Option.{option_or}
@@ -34,15 +37,19 @@ module _ (s names words : List ℕ) (unknown : Option ℕ) where
   unfolding leaf_here
   leaf-name a b = rw (ne_eqb (get_or s 0 0) 48 a, ne_eqb (get_or s 0 0) 49 b)
 
-  module _ {l i p : ℕ} (a : l ≡ length (name_front 8 s)) (b : p ≡ packed (name_front 8 s))
-      (d : i ≡ index_of names (length names) p) where
-    pub name-found : i < length names
+  module _ {l p : ℕ} (a : l ≡ length (name_front 8 s)) (b : p ≡ packed (take l s)) where
+    here : p ≡ packed (name_front 8 s)
+    here = b ∙ ap packed (ap (λ k. take k s) a ∙ front-is 8 s)
+
+    pub name-found : {i : ℕ} → IfBelow (index_of names (length names) p) (length names) (Some i)
         → ◌≡◌ {A = Leaf} (record { left = length s - l; word = get_or words i 0; unknown = unknown })
         (name_here s names words unknown)
     unfolding name_here name_length index_here
-    name-found h = rw (a, ← b, ← d, lt-ltb i (length names) h, or-none unknown)
+    name-found (h, d) = rw (a, ← here, d, lt-ltb (index_of names (length names) p) (length names) h, or-none unknown)
 
-    pub name-unknown : {u : Option ℕ} → length names ≤ i → u ≡ option_or unknown (Some (length s))
+    pub name-unknown : {u : Option ℕ} → IfBelow (index_of names (length names) p) (length names) None
+        → u ≡ option_or unknown (Some (length s))
         → ◌≡◌ {A = Leaf} (record { left = length s - l; word = 65534; unknown = u }) (name_here s names words unknown)
     unfolding name_here name_length index_here
-    name-unknown h e = rw (e, a, ← b, ← d, le-ltb i (length names) h)
+    name-unknown h e =
+        rw (e, a, ← here, le-ltb (index_of names (length names) p) (length names) (omega (arith, h)))

@@ -4,13 +4,7 @@ use Rattle.std.specs.Prelude.{ℕ, ◌-◌, cond, List, length, get_or, eqb, ltb
 use Rattle.std.specs.Option.{option_or}
 use Rattle.text_names.specs.Packed.{packed, name_front}
 use Rattle.text_names.specs.Search.{index_of}
-use Rattle.text_names.specs.Index.{Indexed}
-use Rattle.text_expressions.specs.declared.symbols.Symbols.{Symbols}
 use Rattle.text_expressions.specs.declared.leaves.Leaf.{Leaf}
-
--- the index holds the table's names, of which none repeats another
-abbrev pub IndexHolds : Symbols → Type 0
-IndexHolds y = Indexed y.names.now (length y.names.now) y.index.now
 
 -- the bytes of the name at the front
 unfoldable pub name_length : List ℕ → ℕ

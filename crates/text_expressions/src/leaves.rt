@@ -1,11 +1,11 @@
 // What an operand that is no expression stands for, at the front of a text: a name, looked up by the index, or a
 // constant.
 ghost use Rattle.std.specs.Prelude.{◌≡◌, length};
-ghost use Rattle.text_expressions.specs.Leaves.{IndexHolds, name_here, leaf_here};
+ghost use Rattle.text_expressions.specs.Leaves.{name_here, leaf_here};
 
 use crate::symbols::Symbols;
 use text_names::index::find_indexed;
-use text_names::pack::{name_length, pack_first};
+use text_names::pack::{name_length, pack_name};
 use words_layout::bytes::byte_at;
 use words_layout::nodes::{CONSTANT_0, CONSTANT_1};
 
@@ -25,29 +25,26 @@ const ONE: u16 = CONSTANT_1 as u16;
 
 // A name, looked up in the table through its index; one that is not there counts as constant 0.
 pub fn name_here(s: &[u8], symbols: &Symbols, unknown: Option<usize>) -> Leaf
-    requires indexed { IndexHolds symbols.now }
     ensures { result ≡ name_here s.now symbols.now.names.now symbols.now.words.now unknown }
 {
     let length = name_length(s);
     let left = s.len() - length;
-    let i = find_indexed(symbols.names, symbols.index, pack_first(s, length));
-    if i < symbols.names.len() {
-        return Leaf {
+    match find_indexed(symbols.names, symbols.index, pack_name(&s[..length])) {
+        Some(i) => Leaf {
             left,
             word: symbols.words[i],
             unknown,
-        };
-    }
-    Leaf {
-        left,
-        word: ZERO,
-        unknown: unknown.or(Some(s.len())),
+        },
+        None => Leaf {
+            left,
+            word: ZERO,
+            unknown: unknown.or(Some(s.len())),
+        },
     }
 }
 
 // What an operand stands for that is no expression: a name, `0` or `1`.
 pub fn leaf_here(s: &[u8], symbols: &Symbols, unknown: Option<usize>) -> Leaf
-    requires indexed { IndexHolds symbols.now }
     ensures { result ≡ leaf_here s.now symbols.now.names.now symbols.now.words.now unknown }
 {
     let c = byte_at(s, 0);

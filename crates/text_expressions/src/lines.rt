@@ -3,7 +3,6 @@ ghost use Rattle.std.specs.Prelude.{None, ◌≡◌, [], ◌∷◌, ◌++◌, �
 ghost use Rattle.std.proofs.lemmas.List.Edits.{sets};
 ghost use Rattle.netlist.specs.StoredBlock.{output_size};
 ghost use Rattle.netlist.specs.Limits.{max_gates, max_outputs};
-ghost use Rattle.text_expressions.specs.Leaves.{IndexHolds};
 ghost use Rattle.text_expressions.specs.Lines.{gate_form, output_form, LineHere, LineRead, LinesHere, LinesRead};
 ghost use Rattle.text_names.specs.Ports.{port_words};
 
@@ -27,12 +26,12 @@ fn gate_line(
 ) -> Walked
     requires line_here { LineHere gate_form max_gates s.now n symbols.now.names.now symbols.now.words.now first
         gates.old }
-    requires indexed { IndexHolds symbols.now }
     ensures { LineRead gate_form s.now n symbols.now.names.now symbols.now.words.now first unknown
         gates.old gates.new result }
 {
     let at = 8 + name_length(&s[6..]);
     let one = expression(&s[at..], n, first, unknown, symbols, gates);
+    // The bracket and the LF behind the expression are read here, so that no `From` makes it.
     Walked {
         left: one.left - 2,
         number: one.gates,
@@ -61,7 +60,6 @@ fn output_line(
 ) -> Walked
     requires by_index { (n : ℕ) × LineHere output_form max_outputs s.now n symbols.now.names.now symbols.now.words.now
         first outputs.old }
-    requires indexed { IndexHolds symbols.now }
     ensures { (n : ℕ)
         → LineRead output_form s.now n symbols.now.names.now symbols.now.words.now first unknown
         outputs.old outputs.new result }
@@ -69,6 +67,7 @@ fn output_line(
     let at = 6 + name_length(&s[5..]);
     let shown = name_here(&s[at..], symbols, unknown);
     put_output(outputs, first, pack(&s[5..]), shown.word);
+    // The bracket and the LF behind the name are read here, so that no `From` makes it.
     Walked {
         left: shown.left - 2,
         number: first + 1,
@@ -86,7 +85,6 @@ pub fn gate_lines(
 ) -> Walked
     requires lines_here { LinesHere gate_form max_gates lines text.now n symbols.now.names.now symbols.now.words.now
         gates.old }
-    requires indexed { IndexHolds symbols.now }
     ensures { LinesRead gate_form lines text.now n symbols.now.names.now symbols.now.words.now None
         gates.old gates.new result }
 {
@@ -112,7 +110,6 @@ pub fn output_lines(
 ) -> Walked
     requires by_index { (n : ℕ) × LinesHere output_form max_outputs lines text.now n symbols.now.names.now
         symbols.now.words.now outputs.old }
-    requires indexed { IndexHolds symbols.now }
     ensures { (n : ℕ)
         → LinesRead output_form lines text.now n symbols.now.names.now symbols.now.words.now seen
         outputs.old outputs.new result }

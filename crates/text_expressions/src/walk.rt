@@ -4,7 +4,6 @@
 ghost use Rattle.std.specs.Prelude.{◌≡◌, ◌∷◌, ◌+◌, ◌*◌, ◌≤◌, length};
 ghost use Rattle.std.proofs.lemmas.List.Edits.{sets};
 ghost use Rattle.netlist.specs.StoredBlock.{gate_size};
-ghost use Rattle.text_expressions.specs.Leaves.{IndexHolds};
 ghost use Rattle.text_expressions.specs.Walk.{TermHere, TermRead};
 
 use crate::leaves::leaf_here;
@@ -52,7 +51,6 @@ pub fn operand(
     gates: &mut [u16; GATE_SIZE * MAX_GATES],
 ) -> Found
     requires term_here { TermHere s.now n symbols.now.names.now symbols.now.words.now first gates.old }
-    requires indexed { IndexHolds symbols.now }
     ensures { TermRead s.now n symbols.now.names.now symbols.now.words.now first unknown
         gates.old gates.new result }
 {
@@ -60,6 +58,7 @@ pub fn operand(
         return expression(&s[1..], n, first, unknown, symbols, gates);
     }
     let leaf = leaf_here(s, symbols, unknown);
+    // A leaf closes no gate, so that the number of those before it stands beside what it tells.
     Found {
         left: leaf.left,
         word: leaf.word,
@@ -79,7 +78,6 @@ pub fn expression(
     gates: &mut [u16; GATE_SIZE * MAX_GATES],
 ) -> Found
     requires term_here { TermHere (40 ∷ s.now) n symbols.now.names.now symbols.now.words.now first gates.old }
-    requires indexed { IndexHolds symbols.now }
     ensures { TermRead (40 ∷ s.now) n symbols.now.names.now symbols.now.words.now first unknown
         gates.old gates.new result }
 {

@@ -74,9 +74,6 @@ pub behind-le : (a b : ℕ) (s : List ℕ) → times_behind a b s ≤ length s
 behind-le a b [] = omega arith
 behind-le a b (x ∷ xs) = let h = behind-le a b xs in let o = one-le (eqb x a && is_first b xs) in omega arith
 
-pub counted-le : (a b : ℕ) (s : List ℕ) {r : ℕ} → r ≡ times_behind a b s → r ≤ length s
-counted-le a b s e = omega (arith, behind-le a b s)
-
 -- ---- a printed tree
 
 behind-append : (a b : ℕ) (xs ys : List ℕ) → times a xs ≡ 0 → times_behind a b (xs ++ ys) ≡ times_behind a b ys

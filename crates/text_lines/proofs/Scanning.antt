@@ -40,9 +40,6 @@ pub record CountedTo (total : List ℕ → ℕ) (s : List ℕ) (i n : ℕ) : Typ
   pub few : n ≤ i
   pub left : n + total (drop i s) ≡ total s
 
-pub counted_none : {total : List ℕ → ℕ} {s : List ℕ} → CountedTo total s 0 0
-counted_none = record { within = omega arith; few = omega arith; left = omega arith }
-
 -- ---- a part without an LF
 
 -- one byte more
@@ -130,7 +127,3 @@ opens-within (x ∷ xs) = go (eqb x 10) refl (opens-within xs)
         → times 40 (take (suc (cond b 0 (length_with_lf xs))) (x ∷ xs)) ≡ cond b 0 (cond (eqb x 40) 1 0 + line_opens xs)
     go true e h = rw (eqb-true x 10 e)
     go false e h = rw h
-
-pub times-le : (b : ℕ) (s : List ℕ) → times b s ≤ length s
-times-le b [] = omega arith
-times-le b (x ∷ xs) = let h = times-le b xs in let o = one-le (eqb x b) in omega arith

@@ -2,6 +2,7 @@
 --   walk-to                             the search for an entry that stops a walk
 --   ends-one, ends-near, ends-inside    a name's walk ends at one place, not far behind the last hash, in the index
 --   index-hit, index-miss               what the entry at the walk's end says of the name
+--   entry-tells, entry-told             and the number that it gives
 --   repeats-hit, repeats-miss           and of the next name of the table
 --   held_more, index-more               one more name, stored at its walk's end
 --   index-none, held_new                an empty index
@@ -9,7 +10,10 @@
 -- Assumes nothing.
 use Prim.Native.Nat.{ℕ, zero, suc, ◌+◌, ◌-◌, ◌≤◌, ◌<◌, max}
 use mathlib.Core.Path.{◌≡◌, refl, sym, ◌∙◌}
-use mathlib.Core.Logic.{⊎_elim}
+use mathlib.Core.Logic.{⊎_elim, ∥∥₁_elim}
+use Rattle.std.proofs.Math.Nat.{ℕ_set}
+use Rattle.std.proofs.Math.Bridge.{le_prop}
+use Rattle.std.proofs.lemmas.Grind.{not_there}
 use mathlib.Core.Bool.{Bool, true, false}
 use mathlib.Core.List.{List}
 use native.Mathlib.Nat.{le_antisymm, mod-lt}
@@ -22,6 +26,9 @@ use borrow.Author.Tests.{eqb-true, eq-eqb, lt-ltb, le-ltb}
 use Rattle.prelude.proofs.Tests.{not-both, not-true-false, lt-or-le, eq-or-ne}
 use Rattle.std.specs.declared.option.Option.{Option}
 use Rattle.std.specs.declared.option.Option.TheVariants.{None, Some}
+use Rattle.std.proofs.lemmas.Option.{none-some}
+use Rattle.std.specs.Option.{SomeIff}
+use Rattle.prelude.specs.Lists.{IfBelow}
 use Rattle.prelude.proofs.Least.{least-is}
 use Rattle.prelude.proofs.Places.{FoundFrom}
 use Rattle.text_names.specs.Search.{is_at, index_of, repeats_at}
@@ -121,6 +128,26 @@ module _ (names index : List ℕ) (count name at : ℕ) (h : Held names count in
       sym
       (least-is (is_at names name) count count (omega arith)
       (λ j l. not-true-false (is_at names name j) (λ t. let g = there j l t in omega arith)) (λ l. absurd (omega arith)))
+
+  -- the number behind the entry at the walk's end, where it is not 0
+  pub entry-tells : (r : Option ℕ) → SomeIff r (1 ≤ get_or index at 0) (get_or index at 0 - 1)
+      → IfBelow (index_of names count name) count r
+  entry-tells None none = let g = index-miss (omega (arith, none)) in λ l. omega arith
+  entry-tells (Some i) is =
+      let e = is.0 in
+      let b : get_or index at 0 ≤ count = h.entries at in
+      let g : i ≡ index_of names count name = index-hit i (omega (arith, is.1)) in
+      (omega arith, g)
+
+-- the same where it is known only that the index holds the names, and not by which proof
+pub entry-told : (names index : List ℕ) (count name at : ℕ) → ∥ Held names count index ∥₁ → WalkEnds names index name at
+    → (r : Option ℕ) → SomeIff r (1 ≤ get_or index at 0) (get_or index at 0 - 1) → IfBelow (index_of names count name) count r
+entry-told names index count name at h f None none =
+    λ l. not_there h (λ x. entry-tells names index count name at x f None none l)
+entry-told names index count name at h f (Some i) is = (
+  ∥∥₁_elim h le_prop (λ x. (entry-tells names index count name at x f (Some i) is).0),
+  ∥∥₁_elim h (ℕ_set _ _) (λ x. (entry-tells names index count name at x f (Some i) is).1),
+)
 
 -- ---- the next name
 
@@ -274,11 +301,16 @@ module _ {names index₀ : List ℕ} {i : ℕ} {index : List ℕ} (h : Entering 
           indexed = λ x. told.indexed (h.indexed x) e;
         }
 
-    pub entering-repeat : r ≡ true → Indexed names 0 index₀ → AllEntered names after i
+    pub entering-repeat : r ≡ true → Indexed names 0 index₀ → AllEntered names after (Some i)
     entering-repeat e x =
-        record { answer = sought-here h.sought l (told.answer (h.indexed x)) e; indexed = λ m. absurd (omega arith) }
+        record {
+          answer = sought-here h.sought l (told.answer (h.indexed x)) e;
+          indexed = λ m. absurd (none-some i (sym m));
+        }
 
-  pub entering-all : i ≡ length names → Indexed names 0 index₀ → AllEntered names index (length names)
-  entering-all e x =
-      let s : Sought (repeats_at names) (length names) (length names) = rw e at h.sought in
-      record { answer = sought-all s (omega arith); indexed = λ _. rw e at (h.indexed x) }
+  module _ (e : i ≡ length names) where
+    pub sought-last : Sought (repeats_at names) (length names) (length names)
+    sought-last = rw e at h.sought
+
+    pub entering-all : Indexed names 0 index₀ → AllEntered names index None
+    entering-all x = record { answer = sought-all sought-last; indexed = λ _. rw e at (h.indexed x) }

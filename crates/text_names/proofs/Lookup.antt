@@ -1,11 +1,12 @@
 -- Searching a table of numbers of names finds what searching the names themselves does: membership, the first repeat
 -- and what a name stands for. Assumes nothing.
-use Prim.Native.Nat.{ℕ, zero, suc, ◌<◌}
+use Prim.Native.Nat.{ℕ, zero, suc, ◌≤◌, ◌<◌}
 use mathlib.Core.Path.{◌≡◌, refl, sym, ap, ◌∙◌}
 use mathlib.Core.Bool.{Bool, true, false, cond, ◌||◌, false≢true}
 use mathlib.Core.List.{List, [], ◌∷◌, map}
 use native.Mathlib.Omega.{arith}
-use lib.ListN.{length, get_or}
+use lib.ListN.{length, get_or, take}
+use lib.Seq.{get_or-take, length-take-le}
 use lib.Dec.{eqb, ltb, leb-suc-suc}
 use borrow.Author.Tests.{eqb-true, eq-eqb, lt-ltb}
 use Rattle.prelude.specs.Lists.{all, same, member_list, least_from, least}
@@ -51,6 +52,11 @@ index_same xs ys count x h =
     least-is (is_at xs x) count (least (is_at ys x) count) (least-le (is_at ys x) count)
     (λ i l. let le = least-le (is_at ys x) count in rw (h i (omega arith)) (least-below (is_at ys x) count i l))
     (λ l. rw (h (least (is_at ys x) count) l) (least_at (is_at ys x) count l))
+
+pub index-cut : (xs : List ℕ) (i x : ℕ) → i ≤ length xs
+    → index_of (take i xs) (length (take i xs)) x ≡ index_of xs i x
+index-cut xs i x l =
+    rw (length-take-le i xs l) (index_same (take i xs) xs i x (λ j h. get_or-take i xs j 0 h))
 
 pub index-cons : (y : ℕ) (ys : List ℕ) (count x : ℕ)
     → index_of (y ∷ ys) (suc count) x ≡ cond (eqb y x) 0 (suc (index_of ys count x))

@@ -3,8 +3,9 @@
 -- its hash and goes on by one to the first entry that is 0 or that name's own. Assumes nothing.
 use Rattle.std.specs.Prelude.{ℕ, zero, suc, ◌+◌, ◌%◌, ◌≤◌, ◌<◌, ◌≡◌, Bool, true, false, List, length, get_or}
 use Rattle.std.specs.declared.option.Option.{Option}
+use Rattle.std.specs.declared.option.Option.TheVariants.{None}
 use Rattle.std.specs.Option.{MatchOption}
-use Rattle.prelude.specs.Lists.{least}
+use Rattle.prelude.specs.Lists.{least, IfBelow}
 use Rattle.text_names.specs.Search.{is_at, repeats_at}
 
 -- a prime, above the number of different names that a text has room for in a never line
@@ -73,6 +74,6 @@ pub record NameEntered (names : List ℕ) (i : ℕ) (index after : List ℕ) (r 
   pub indexed : Indexed names i index → r ≡ false → Indexed names (i + 1) after
 
 -- the first name that repeats one before it is told by r, or all names are in the index
-pub record AllEntered (names after : List ℕ) (r : ℕ) : Type 0 where
-  pub answer : r ≡ least (repeats_at names) (length names)
-  pub indexed : length names ≤ r → Indexed names (length names) after
+pub record AllEntered (names after : List ℕ) (r : Option ℕ) : Type 0 where
+  pub answer : IfBelow (least (repeats_at names) (length names)) (length names) r
+  pub indexed : r ≡ None → Indexed names (length names) after

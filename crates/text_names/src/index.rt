@@ -1,7 +1,8 @@
 // The symbol table's index: a hash table by open addressing with linear probing (Knuth, The Art of Computer Programming
 // 3, 6.4), so that a name is found without going through all of them.
 ghost use Rattle.std.specs.Prelude.{◌≡◌, ℕ, ◌≤◌, length, get_or};
-ghost use Rattle.text_names.specs.Search.{index_of, repeats_at, Sought};
+ghost use Rattle.prelude.specs.Lists.{IfBelow};
+ghost use Rattle.text_names.specs.Search.{index_of, repeats_at, SoughtTo};
 ghost use Rattle.text_names.specs.Index.{hash_of, stops_at, WalkTo, Held, Indexed, EnterReady, NameEntered, AllEntered};
 
 use words_layout::limits::{MAX_GATES, MAX_INPUTS};
@@ -41,23 +42,17 @@ fn walk(names: &[u64], index: &[u16], name: u64) -> Option<usize>
     (hash(name)..index.len()).find(|&at| stops_at(names, index[at] as usize, name))
 }
 
-// The number of the table's name that is equal to this one, or how many names there are.
-pub fn find_indexed(names: &[u64], index: &[u16], name: u64) -> usize
-    requires { Indexed names.now (length names.now) index.now }
-    ensures { result ≡ index_of names.now (length names.now) name }
+// The number of the table's name that is equal to this one.
+pub fn find_indexed(names: &[u64], index: &[u16], name: u64) -> Option<usize>
+    requires { ∥ Indexed names.now (length names.now) index.now ∥₁ }
+    ensures { IfBelow (index_of names.now (length names.now) name) (length names.now) result }
 {
-    let Some(at) = walk(names, index, name) else {
-        return names.len();
-    };
-    let found = index[at] as usize;
-    if found == 0 {
-        return names.len();
-    }
-    found - 1
+    let at = walk(names, index, name)?;
+    (index[at] as usize).checked_sub(1)
 }
 
-// Enters name i behind those before it, where its walk ends in the index; tells whether it does not, or is one of them
-// already.
+// Enters name i behind those before it, where its walk ends in the index; tells whether it could not: it is one of them
+// already, or the index is full.
 fn enter(names: &[u64], i: usize, index: &mut [u16]) -> bool
     requires { EnterReady names.now i index.old }
     ensures { NameEntered names.now i index.old index.new result }
@@ -73,24 +68,23 @@ fn enter(names: &[u64], i: usize, index: &mut [u16]) -> bool
 }
 
 // Enters the names into an empty index up to the first that is one of those before it or has no room, and tells its
-// number, or how many names there are.
-pub fn enter_while_room(names: &[u64], index: &mut [u16]) -> usize
+// number.
+pub fn enter_while_room(names: &[u64], index: &mut [u16]) -> Option<usize>
     requires { Held names.now 0 index.old }
-    ensures sought { Sought (repeats_at names.now) (length names.now) result }
+    ensures sought { SoughtTo (repeats_at names.now) (length names.now) result }
     ensures entered { Indexed names.now 0 index.old → AllEntered names.now index.new result }
 {
-    let n = names.len();
-    for i in 0..n {
+    for i in 0..names.len() {
         if enter(names, i, index) {
-            return i;
+            return Some(i);
         }
     }
-    n
+    None
 }
 
 // Enters the names into an empty index with room for all, up to the first that is one of those before it, and tells its
-// number, or how many names there are.
-pub fn enter_all(names: &[u64], index: &mut [u16]) -> usize
+// number.
+pub fn enter_all(names: &[u64], index: &mut [u16]) -> Option<usize>
     requires { Indexed names.now 0 index.old }
     ensures { AllEntered names.now index.new result }
 {

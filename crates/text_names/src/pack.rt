@@ -17,15 +17,15 @@ pub fn name_length(s: &[u8]) -> usize
         .count()
 }
 
-// The name of n bytes at the front of `s`, as a number.
-pub fn pack_first(s: &[u8], n: usize) -> u64
-    requires { n ≡ length (name_front max_name s.now) }
-    ensures { result ≡ packed (name_front max_name s.now) }
+// The number of the name with these bytes.
+pub fn pack_name(name: &[u8]) -> u64
+    requires { length name.now ≤ max_name }
+    ensures { result ≡ packed name.now }
 {
     let mut r: u64 = 0;
     // A for: the closure of a fold would not know that the number so far has room for one byte more.
-    for i in (0..n).rev() {
-        r = s[i] as u64 + 256 * r;
+    for i in (0..name.len()).rev() {
+        r = name[i] as u64 + 256 * r;
     }
     r
 }
@@ -34,7 +34,7 @@ pub fn pack_first(s: &[u8], n: usize) -> u64
 pub fn pack(s: &[u8]) -> u64
     ensures { result ≡ packed (name_front max_name s.now) }
 {
-    pack_first(s, name_length(s))
+    pack_name(&s[..name_length(s)])
 }
 
 // The bytes from a place of the text on: none behind its end.
@@ -53,27 +53,22 @@ pub fn pack_at(text: &[u8], at: usize) -> u64
 }
 
 // Fills a table with what `entry` gives at each of these places.
-pub fn fill_at_places<T: Copy, F: Fn(usize) -> T>(
-    places: &[usize],
-    count: usize,
-    entry: F,
-    table: &mut [T],
-)
-    requires room { (count ≤ length places.now) × (count ≤ length table.old) }
+pub fn fill_at_places<T: Copy, F: Fn(usize) -> T>(places: &[usize], entry: F, table: &mut [T])
+    requires room { length places.now ≤ length table.old }
     requires callable { F.IsAlwaysCallable entry }
     ensures { (f : ℕ → T) → ((place : ℕ) (v : T) → F.post entry place v → v ≡ f place)
-        → table.new ≡ placed (tab (λ i. f (get_or places.now i 0)) count) table.old }
+        → table.new ≡ placed (tab (λ i. f (get_or places.now i 0)) (length places.now)) table.old }
 {
-    for i in 0..count {
+    for i in 0..places.len() {
         table[i] = entry(places[i]);
     }
 }
 
 // The number of the name at each of these places.
-pub fn fill_names(text: &[u8], places: &[usize], lines: usize, names: &mut [u64])
-    requires { (lines ≤ length places.now) × (lines ≤ length names.old) }
-    ensures { names.new ≡ placed (tab (packed_through text.now places.now) lines)
+pub fn fill_names(text: &[u8], places: &[usize], names: &mut [u64])
+    requires { length places.now ≤ length names.old }
+    ensures { names.new ≡ placed (tab (packed_through text.now places.now) (length places.now))
         names.old }
 {
-    fill_at_places(places, lines, |place| pack_at(text, place), names);
+    fill_at_places(places, |place| pack_at(text, place), names);
 }

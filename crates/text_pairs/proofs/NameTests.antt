@@ -12,13 +12,13 @@ use lib.ListN.{length, get_or, take, drop, length-map, drop_of_length-le}
 use lib.Seq.{get_or-take, drop-cons, take_all}
 use lib.Dec.{leb, ltb}
 use borrow.Author.Tests.{lt-ltb, le-ltb, le-leb, lt-leb}
-use Rattle.prelude.specs.Lists.{all, member_list, least}
+use Rattle.prelude.specs.Lists.{all, member_list, least, IfBelow}
+use Rattle.std.specs.declared.option.Option.TheVariants.{None, Some}
 use Rattle.prelude.proofs.Tests.{lt-or-le, and_left, and_right, and_intro}
 use Rattle.prelude.proofs.Quantifiers.{all-at}
-use Rattle.prelude.proofs.Least.{least-le, least-below, least_at}
+use Rattle.prelude.proofs.Least.{least-below, least_at}
 use Rattle.theory_encoding.proofs.ListFacts.{get_d_map}
 use Rattle.netlist.specs.declared.Refusal.TheVariants.{DuplicateDeclaration, UndeclaredName}
-use Rattle.words_refusals.specs.Tests.{Test}
 use Rattle.std.specs.declared.result.Result.TheVariants.{Ok, Err}
 use Rattle.netlist.specs.Netlist.{Name}
 use Rattle.netlist.specs.Names.{is_name_byte, is_name_start, is_node_name}
@@ -112,33 +112,28 @@ module _ (ps : List Pair) (legal : all is_legal_pair ps ≡ true) (at : ℕ) whe
 
     -- ---- 4
 
-    module _ {i : ℕ} (found : i ≡ least (repeats_at (take (length ps) names)) (length (take (length ps) names))) where
-      at_first : i ≡ least (repeats_at (map (λ (d : Mention). packed d.name) ds)) (length ds)
-      at_first = found ∙ rw (keys-held, length-map ds (λ (d : Mention). packed d.name))
+    module _ (counted : length names ≡ length ps) where
+      first : least (repeats_at names) (length names) ≡ least (repeats_at (map (λ (d : Mention). packed d.name) ds)) (length ds)
+      first =
+          let same : names ≡ map (λ (d : Mention). packed d.name) ds =
+          sym (take_all (length ps) names (le_of_eq counted)) ∙ keys-held in
+          rw (same, length-map ds (λ (d : Mention). packed d.name))
 
-      repeat-failed : i < length ps
+      -- the test fails at the first repeat
+      pub repeat-failed : {i : ℕ} → IfBelow (least (repeats_at names) (length names)) (length names) (Some i)
           → Err (DuplicateDeclaration (get_or places i 0)) ≡ test_at (first_repeat [] ds) DuplicateDeclaration
       unfolding test_at
-      repeat-failed l =
-          let r = repeat-found ds given-bytes (rw (← at_first, given-length) l) in
-          rw (place-held i l, r, ← at_first)
+      repeat-failed {i} (l, is) =
+          let at_first = is ∙ first in
+          let k : i < length ps = omega arith in
+          let r = repeat-found ds given-bytes (rw (← at_first, given-length) k) in
+          rw (place-held i k, r, ← at_first)
 
-      repeat-passed : length ps ≤ i → Ok tt ≡ test_at (first_repeat [] ds) DuplicateDeclaration
+      -- and passes where there is none
+      pub repeat-passed : IfBelow (least (repeats_at names) (length names)) (length names) None
+          → Ok tt ≡ test_at (first_repeat [] ds) DuplicateDeclaration
       unfolding test_at
-      repeat-passed l = rw (repeat-none ds given-bytes (rw (← at_first, given-length) l))
-
-    -- the test that is failed at the first repeat
-    pub repeat-told : {i : ℕ} {r : Test} → length names ≡ length ps → i ≡ least (repeats_at names) (length names)
-        → (i < length names → r ≡ Err (DuplicateDeclaration (get_or places i 0))) → (length names ≤ i → r ≡ Ok tt)
-        → r ≡ test_at (first_repeat [] ds) DuplicateDeclaration
-    repeat-told {i} {r} e found f p = go (lt-or-le i (length names))
-      where
-        there : i ≡ least (repeats_at (take (length ps) names)) (length (take (length ps) names))
-        there = rw (take_all (length ps) names (le_of_eq e)) found
-
-        go : (i < length names) ⊎ (length names ≤ i) → r ≡ test_at (first_repeat [] ds) DuplicateDeclaration
-        go (inl l) = f l ∙ repeat-failed there (rw e at l)
-        go (inr l) = p l ∙ repeat-passed there (rw e at l)
+      repeat-passed none = rw (repeat-none ds given-bytes (rw (← first, given-length) (omega (arith, none))))
 
     -- ---- 5
 
@@ -184,38 +179,32 @@ module _ (ps : List Pair) (legal : all is_legal_pair ps ≡ true) (at : ℕ) whe
           outside-walk i (omega arith) (λ j g. h j (omega arith))
           ∙ inside known ds i (rw given-length k) (rw (given-name i k) m)
 
-      module _ {i : ℕ} (found : i ≡ least (is_outside names inputs n) (length ps)) where
-        passed_over : (j : ℕ) → j < i → is_outside names inputs n j ≡ false
-        passed_over j g = least-below (is_outside names inputs n) (length ps) j (rw (← found) g)
+      module _ (counted : length names ≡ length ps) where
+        abbrev outer : ℕ
+        outer = least (is_outside names inputs n) (length names)
 
-        outside-failed : i < length ps
+        passed_over : (j : ℕ) → j < outer → is_outside names inputs n j ≡ false
+        passed_over = least-below (is_outside names inputs n) (length names)
+
+        -- the test fails at the first name outside
+        pub outside-failed : {i : ℕ} → IfBelow outer (length names) (Some i)
             → Err (UndeclaredName (get_or places i 0)) ≡ test_at (first_outside known ds) UndeclaredName
         unfolding test_at
-        outside-failed l =
+        outside-failed {i} (l, is) =
+            let k : i < length ps = omega arith in
             let t : is_outside names inputs n i ≡ true =
-            rw (← found) at (least_at (is_outside names inputs n) (length ps) (rw (← found) l)) in
-            let m : member_list (name_of i) known ≡ false = not-true-false _ (sym (outside-is i l) ∙ t) in
+            rw (← is) at (least_at (is_outside names inputs n) (length names) l) in
+            let m : member_list (name_of i) known ≡ false = not-true-false _ (sym (outside-is i k) ∙ t) in
             let e =
-            outside-walk i (omega arith) passed_over ∙ outside known ds i (rw given-length l) (rw (given-name i l) m) in
-            rw (place-held i l, e)
+            outside-walk i (omega arith) (rw (← is) at passed_over)
+            ∙ outside known ds i (rw given-length k) (rw (given-name i k) m) in
+            rw (place-held i k, e)
 
-        outside-passed : length ps ≤ i → Ok tt ≡ test_at (first_outside known ds) UndeclaredName
+        -- and passes where there is none
+        pub outside-passed : IfBelow outer (length names) None → Ok tt ≡ test_at (first_outside known ds) UndeclaredName
         unfolding test_at first_outside
-        outside-passed l =
-            let le : i ≤ length ps = rw found (least-le (is_outside names inputs n) (length ps)) in
-            let short : length ds ≤ i = rw given-length l in
-            let z : drop i ds ≡ [] = drop_of_length-le ds short in
-            rw (outside-walk i le passed_over, z)
-
-      -- the test that is failed at the first name outside
-      pub outside-told : {i count : ℕ} {r : Test} → count ≡ length ps → i ≡ least (is_outside names inputs n) count
-          → (i < count → r ≡ Err (UndeclaredName (get_or places i 0))) → (count ≤ i → r ≡ Ok tt)
-          → r ≡ test_at (first_outside known ds) UndeclaredName
-      outside-told {i} {count} {r} e found f p = go (lt-or-le i count)
-        where
-          there : i ≡ least (is_outside names inputs n) (length ps)
-          there = rw e at found
-
-          go : (i < count) ⊎ (count ≤ i) → r ≡ test_at (first_outside known ds) UndeclaredName
-          go (inl l) = f l ∙ outside-failed there (rw e at l)
-          go (inr l) = p l ∙ outside-passed there (rw e at l)
+        outside-passed none =
+            let all-in : (j : ℕ) → j < length ps → is_outside names inputs n j ≡ false =
+            λ j l. passed_over j (omega (arith, none)) in
+            let z : drop (length ps) ds ≡ [] = drop_of_length-le ds (rw given-length (omega arith)) in
+            rw (outside-walk (length ps) (omega arith) all-in, z)

@@ -14,7 +14,7 @@ ghost use Rattle.text_pairs.specs.Tables.{PairsAt, pair_mentions, NamesAre, Inpu
 
 use crate::given::first_outside;
 use crate::tables::{code_at, name_size};
-use crate::told::{failed_at, fill_at_names, fill_given};
+use crate::told::{fill_at_names, fill_given};
 use netlist::Refusal;
 use text_names::pack::pack_at;
 use text_names::search::{MAX_PAIRS, first_repeat};
@@ -56,12 +56,10 @@ pub fn find_repeat(s: &[u8], at: usize, base: usize, names: &[u64]) -> Result<()
         → NamesAre ps names.now
         → result ≡ test_at (first_repeat [] (pair_mentions ps (base + at))) DuplicateDeclaration }
 {
-    let i = first_repeat(names);
-    failed_at(
-        i,
-        names.len(),
-        |i| Refusal::DuplicateDeclaration(place_in_text(s, at, base, i)),
-    )
+    match first_repeat(names) {
+        Some(i) => Err(Refusal::DuplicateDeclaration(place_in_text(s, at, base, i))),
+        None => Ok(()),
+    }
 }
 
 // Refusal 5: the place of the first name that is none of the inputs, where the line starts at place `base` of its text.
@@ -78,12 +76,10 @@ pub fn find_outside(
         → InputsAre known (length inputs.now) inputs.now
         → result ≡ test_at (first_outside known (pair_mentions ps (base + at))) UndeclaredName }
 {
-    let i = first_outside(names, inputs);
-    failed_at(
-        i,
-        names.len(),
-        |i| Refusal::UndeclaredName(place_in_text(s, at, base, i)),
-    )
+    match first_outside(names, inputs) {
+        Some(i) => Err(Refusal::UndeclaredName(place_in_text(s, at, base, i))),
+        None => Ok(()),
+    }
 }
 
 // The value that the pairs give each input.

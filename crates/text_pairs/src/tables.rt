@@ -62,7 +62,7 @@ pub fn fill_pairs(
 {
     let count = pair_count(text, at);
     fill_at_names(text, at, count, |place| place, places);
-    fill_names(text, places, count, names);
-    fill_at_places(places, count, |place| code_at(text, place), codes);
+    fill_names(text, &places[..count], names);
+    fill_at_places(&places[..count], |place| code_at(text, place), codes);
     count
 }

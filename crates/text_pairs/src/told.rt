@@ -1,24 +1,12 @@
-// What the numbers of pairs' names tell, whatever says where each pair stands and what it gives.
+// Tables filled from pairs, whatever says where each pair stands and what it gives.
 ghost use Rattle.std.specs.Prelude.{◌≡◌, List, ℕ, ◌≤◌, ◌<◌, length};
 ghost use Rattle.prelude.specs.Lists.{tab, placed};
 ghost use Rattle.netlist.specs.Limits.{max_text};
-ghost use Rattle.netlist.specs.declared.Refusal.{Refusal};
-ghost use Rattle.std.specs.declared.result.Result.TheVariants.{Ok, Err};
 ghost use Rattle.text_pairs.specs.PairBytes.{pair_place, input_code};
 ghost use Rattle.text_pairs.specs.Tables.{Gives};
 
 use crate::tables::name_size;
-use netlist::Refusal;
 use text_names::search::find;
-
-// Fails at number `i` of `count`, by the refusal that is told of it; passes where there is none, and `i` is `count`.
-pub fn failed_at<F: Fn(usize) -> Refusal>(i: usize, count: usize, refusal: F) -> Result<(), Refusal>
-    requires { i < count → F.pre refusal i }
-    ensures failed { i < count → (r : Refusal) × F.post refusal i r × (result ≡ Err r) }
-    ensures passed { count ≤ i → result ≡ Ok tt }
-{
-    if i < count { Err(refusal(i)) } else { Ok(()) }
-}
 
 // Fills a table with what `entry` gives at the place of each pair's name; the first pair's space is at `at`.
 pub fn fill_at_names<T: Copy, F: Fn(usize) -> T>(
@@ -51,7 +39,9 @@ pub fn fill_given<F: Fn(usize) -> u8>(names: &[u64], inputs: &[u64], code: F, se
         setting.old }
 {
     for j in 0..inputs.len() {
-        let i = find(names, names.len(), inputs[j]);
-        setting[j] = if i < names.len() { code(i) } else { 2 };
+        setting[j] = match find(names, inputs[j]) {
+            Some(i) => code(i),
+            None => 2,
+        };
     }
 }

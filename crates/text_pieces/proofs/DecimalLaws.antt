@@ -10,7 +10,8 @@ use lib.ListN.{length, length-append}
 use borrow.Author.Tests.{lt-ltb, le-ltb}
 use Rattle.prelude.proofs.Tests.{lt-or-le}
 use Rattle.netlist.specs.Writing.{digits, decimal}
-use Rattle.text_pieces.specs.Pieces.{Short, digit_at}
+use Rattle.text_pieces.specs.Pieces.{Appended, Short, digit_at}
+use Rattle.text_pieces.proofs.Appending.{short-rest}
 
 -- how many digits are allowed plays no part
 digits-enough : (most more v : ℕ) → v < most → v < more → digits most v ≡ digits more v
@@ -101,3 +102,16 @@ decimal-four v l =
     (⊎_elim (λ (b : v < 1000). rw (digit-none v 1000 b) (three v a b))
     (λ (b : 1000 ≤ v). rw (digit-some v 1000 b) (four v b l)) (lt-or-le v 1000)))
     (lt-or-le v 100)
+
+-- room for all of them, for those behind the thousands, and for those behind the hundreds
+module _ (v : ℕ) {at : ℕ} (few : v < 10000) (short : Short (decimal v) at) where
+  pub four-short : Short (digit_at v 1000 ++ (digit_at v 100 ++ (digit_at v 10 ++ ((48 + v % 10) ∷ [])))) at
+  four-short = rw (decimal-four v few) at short
+
+  module _ {text text₁ : List ℕ} {end₁ : ℕ} (first : Appended (digit_at v 1000) text at text₁ end₁) where
+    pub three-short : Short (digit_at v 100 ++ (digit_at v 10 ++ ((48 + v % 10) ∷ []))) end₁
+    three-short = short-rest _ four-short first
+
+    pub two-short : {text₂ : List ℕ} {end₂ : ℕ} → Appended (digit_at v 100) text₁ end₁ text₂ end₂
+        → Short (digit_at v 10 ++ ((48 + v % 10) ∷ [])) end₂
+    two-short second = short-rest _ three-short second

@@ -1,5 +1,9 @@
 // Bytes, names, numbers and operands, each appended to a text at `at`. Each function answers the new end. What does not
 // fit into the text is left out, and counted all the same. `refusal_line` puts a refusal's line together of them.
+//
+// A struct of the text and its end, with these functions as methods, was tried on the first two and their caller. It
+// proves and is no plainer: each contract has to say that the text lent is still the same one, and what is promised of
+// closures (`each`) would be of every writer of that text.
 #![tactic(auto)]
 
 ghost use Rattle.std.specs.Prelude.{◌≡◌, [], ◌∷◌, ◌≤◌};

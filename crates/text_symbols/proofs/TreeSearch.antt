@@ -10,7 +10,8 @@ use lib.ListN.{length, get_or, take, drop, length-map, length-append}
 use lib.Seq.{take_at, drop_at, take-add, get_or-take, get_or-drop, length-take-le}
 use lib.Dec.{ltb}
 use borrow.Author.Tests.{ltb-true}
-use Rattle.prelude.specs.Lists.{all, member_list, least}
+use Rattle.std.specs.declared.option.Option.TheVariants.{None, Some}
+use Rattle.prelude.specs.Lists.{all, member_list, least, IfBelow}
 use Rattle.prelude.proofs.Tests.{and_left, and_right, and_intro}
 use Rattle.prelude.proofs.Quantifiers.{all_append}
 use Rattle.netlist.specs.Netlist.{Name}
@@ -215,46 +216,57 @@ module _ (t : Tree) (legal : is_legal_tree t ≡ true) (c : Counts) (counted : c
         node-count,
       )
 
-  -- the first repeat among the first names, and among the rest
+  -- the first repeat among some names
   abbrev first_of : List ℕ → ℕ
   first_of keys = least (repeats_at keys) (length keys)
 
-  among : (ds : List Mention) (keys : List ℕ) (i : ℕ) → keys ≡ map (λ (d : Mention). packed d.name) ds
-      → i ≡ first_of keys
-      → i ≡ least (repeats_at (map (λ (d : Mention). packed d.name) ds)) (length ds)
-  among ds keys i e f = f ∙ rw (e, length-map ds (λ (d : Mention). packed d.name))
+  among : (ds : List Mention) (keys : List ℕ) → keys ≡ map (λ (d : Mention). packed d.name) ds
+      → first_of keys ≡ least (repeats_at (map (λ (d : Mention). packed d.name) ds)) (length ds)
+  among ds keys e = rw (e, length-map ds (λ (d : Mention). packed d.name))
 
-  module _ (i : ℕ) (found : i ≡ first_of (take nodes names)) where
-    at-node : i ≡ least (repeats_at (map (λ (d : Mention). packed d.name) (declared_nodes t)))
-        (length (declared_nodes t))
-    at-node = among (declared_nodes t) (take nodes names) i node-keys found
+  abbrev node_numbers : List ℕ
+  node_numbers = take nodes names
 
-    pub node-repeats : i < nodes
-        → Err (DuplicateDeclaration (get_or places i 0)) ≡ test_at (declared_twice t) DuplicateDeclaration
+  abbrev port_numbers : List ℕ
+  port_numbers = take (nodes + ports - nodes) (drop nodes names)
+
+  pub nodes-numbered : length node_numbers ≡ length (declared_nodes t)
+  nodes-numbered = length-take-le nodes names (omega arith) ∙ node-count
+
+  ports-numbered : length port_numbers ≡ length (declared_ports t)
+  ports-numbered = ap length port-keys ∙ length-map (declared_ports t) (λ (d : Mention). packed d.name)
+
+  pub node-repeats : {i : ℕ} → IfBelow (first_of node_numbers) (length node_numbers) (Some i)
+      → Err (DuplicateDeclaration (get_or places i 0)) ≡ test_at (declared_twice t) DuplicateDeclaration
+  unfolding declared_twice or_else test_at
+  node-repeats {i} (l, is) =
+      let at-node = is ∙ among (declared_nodes t) node_numbers node-keys in
+      let r = repeat-found (declared_nodes t) (node-bytes t legal) (rw (← at-node) (omega (arith, nodes-numbered))) in
+      rw (node-places i (omega (arith, nodes-numbered, node-count)), r, ← at-node)
+
+  module _ (none-first : IfBelow (first_of node_numbers) (length node_numbers) None) where
+    no_node : first_repeat [] (declared_nodes t) ≡ none
+    no_node =
+        repeat-none (declared_nodes t) (node-bytes t legal)
+        (rw (← among (declared_nodes t) node_numbers node-keys) (omega (arith, none-first, nodes-numbered)))
+
+    pub port-repeats : {j : ℕ} → IfBelow (first_of port_numbers) (length port_numbers) (Some j)
+        → Err (DuplicateDeclaration (get_or places (nodes + j) 0)) ≡ test_at (declared_twice t) DuplicateDeclaration
     unfolding declared_twice or_else test_at
-    node-repeats l =
-        let r = repeat-found (declared_nodes t) (node-bytes t legal) (rw (← at-node, ← node-count) l) in
-        rw (node-places i l, r, ← at-node)
+    port-repeats {j} (l, is) =
+        let at-port = is ∙ among (declared_ports t) port_numbers port-keys in
+        let r = repeat-found (declared_ports t) (port-bytes t legal) (rw (← at-port) (omega (arith, ports-numbered))) in
+        rw (port-places j (omega (arith, ports-numbered, port-count)), no_node, r, ← at-port)
 
-    module _ (over : nodes ≤ i) (j : ℕ) (found-port : j
-        ≡ first_of (take (nodes + ports - nodes) (drop nodes names))) where
-      no_node : first_repeat [] (declared_nodes t) ≡ none
-      no_node = repeat-none (declared_nodes t) (node-bytes t legal) (rw (← at-node, ← node-count) over)
-
-      at-port : j ≡ least (repeats_at (map (λ (d : Mention). packed d.name) (declared_ports t)))
-          (length (declared_ports t))
-      at-port = among (declared_ports t) (take (nodes + ports - nodes) (drop nodes names)) j port-keys found-port
-
-      pub port-repeats : j < ports
-          → Err (DuplicateDeclaration (get_or places (nodes + j) 0)) ≡ test_at (declared_twice t) DuplicateDeclaration
-      unfolding declared_twice or_else test_at
-      port-repeats l =
-          let r = repeat-found (declared_ports t) (port-bytes t legal) (rw (← at-port, ← port-count) l) in
-          rw (port-places j l, no_node, r, ← at-port)
-
-      pub none-repeats : ports ≤ j → Ok tt ≡ test_at (declared_twice t) DuplicateDeclaration
-      unfolding declared_twice or_else test_at
-      none-repeats l = rw (no_node, repeat-none (declared_ports t) (port-bytes t legal) (rw (← at-port, ← port-count) l))
+    pub none-repeats : IfBelow (first_of port_numbers) (length port_numbers) None
+        → Ok tt ≡ test_at (declared_twice t) DuplicateDeclaration
+    unfolding declared_twice or_else test_at
+    none-repeats none-second =
+        rw (
+          no_node,
+          repeat-none (declared_ports t) (port-bytes t legal)
+              (rw (← among (declared_ports t) port_numbers port-keys) (omega (arith, none-second, ports-numbered))),
+        )
 
 -- ---- a name and its node
 

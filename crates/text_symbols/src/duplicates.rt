@@ -20,15 +20,11 @@ pub fn duplicate(
 {
     let nodes = c.inputs + c.named;
     let ports = c.outputs;
-    let i = enter_all(&names[..nodes], index);
-    if i < nodes {
-        let place = places[i];
-        return Err(Refusal::DuplicateDeclaration(place));
+    if let Some(i) = enter_all(&names[..nodes], index) {
+        return Err(Refusal::DuplicateDeclaration(places[i]));
     }
-    let j = repeat_of_few(&names[nodes..nodes + ports]);
-    if j < ports {
-        let place = places[nodes + j];
-        return Err(Refusal::DuplicateDeclaration(place));
+    match repeat_of_few(&names[nodes..nodes + ports]) {
+        Some(j) => Err(Refusal::DuplicateDeclaration(places[nodes + j])),
+        None => Ok(()),
     }
-    Ok(())
 }

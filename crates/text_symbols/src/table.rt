@@ -79,5 +79,5 @@ pub fn declare(
     let behind = c.named + c.outputs;
     fill_lines(text, 0, n, 0, n, places, words);
     fill_lines(text, end, n, n, behind, places, words);
-    fill_names(text, places, n + behind, names);
+    fill_names(text, &places[..n + behind], names);
 }

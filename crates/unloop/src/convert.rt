@@ -1,4 +1,5 @@
-// What the program writes: Read, Render and Write one after the other, or the line of the refusal (SPECIFICATION 8).
+// What the program writes: Read, Render and Write one after the other, or the line of the refusal (SPECIFICATION 8). The
+// slices lent are asked to be long enough; arrays of one length would ask more of whoever lends them.
 ghost use Rattle.std.specs.Prelude.{◌≤◌, length};
 ghost use Rattle.netlist.specs.Limits.{max_block, max_written};
 ghost use Rattle.netlist.specs.Operations.{render_words, write_words};

@@ -2,7 +2,6 @@
 --   part_none, part-more, part-all, part-long   one position more
 --   put-none, put_next, put-more         one gate's pair more
 --   same-pairs                           words whose pairs are the same
---   difference-tells                     a lane of two pairs' difference
 --   differs_none, differs_more           one gate more
 --   lacks-none, lacks-told               the lanes that may come
 -- Assumes nothing.
@@ -10,11 +9,11 @@ use mathlib.Core.Path.{◌≡◌, refl, sym, ap, ◌∙◌}
 use mathlib.Core.Logic.{⊎_elim}
 use mathlib.Core.Bool.{Bool, true, false, not, ◌&&◌, ◌||◌, false≢true}
 use mathlib.Core.List.{List, [], ◌∷◌, ◌++◌}
-use Prim.Native.Nat.{ℕ, zero, suc, ◌+◌, ◌-◌, ◌*◌, ◌/◌, ◌%◌, ◌^◌, ◌≤◌, ◌<◌, max}
+use Prim.Native.Nat.{ℕ, zero, suc, ◌+◌, ◌-◌, ◌*◌, ◌/◌, ◌%◌, ◌≤◌, ◌<◌}
 use native.Mathlib.Nat.{zero-add}
 use native.Mathlib.Omega.{arith}
 use borrow.Author.Tests.{eqb-true, eq-eqb}
-use lib.Bits.{bit_and, bit_or, bit_xor, differ, or_lt, xor_lt}
+use lib.Bits.{bit_and, bit_or}
 use lib.Dec.{eqb}
 use lib.ListN.{length, get_or}
 use lib.Seq.{ext_get_or}
@@ -26,21 +25,21 @@ use Rattle.prelude.proofs.Lists.{member-left, member_right, member-cases, member
 use Rattle.netlist.specs.Limits.{max_gates}
 use Rattle.netlist.specs.Values.{code}
 use Rattle.netlist.specs.Netlist.{Block}
-use Rattle.netlist.specs.Assignments.{bit}
 use Rattle.netlist.specs.Rounds.{is_excluded}
 use Rattle.graph_gates.specs.Places.{first_gate}
 use Rattle.lanes_dual_rail.specs.declared.Pair.{Pair}
-use Rattle.lanes_dual_rail.specs.Pairs.{marked_lanes, lane, Proper}
+use Rattle.lanes_dual_rail.specs.Pairs.{lane}
 use Rattle.lanes_dual_rail.specs.Batches.{lanes_of}
 use Rattle.lanes_dual_rail.specs.LaneWords.{lane_size, pair_at, put_pair}
-use Rattle.lanes_dual_rail.proofs.BitLaws.{bit-or, bit-xor}
 use Rattle.lanes_dual_rail.proofs.LaneWordLaws.{put-length, put_same, put_other}
-use Rattle.lanes_dual_rail.specs.Words.{has_lane, Tells}
+use Rattle.lanes_dual_rail.specs.Words.{Tells}
 use Rattle.lanes_batch.specs.Batch.{place_of}
 use Rattle.lanes_batch.specs.Layered.{part}
 use Rattle.lanes_settings.specs.Nevers.{may_come}
 use Rattle.lanes_dual_rail.proofs.WordLaws.{tells-and, tells-or, tells_none, tells_as, tells-no-lane, tells-some}
-use Rattle.unroll_depth.specs.Pairs.{Put, difference_of, agree_at, differ_at, Differs, Lacks}
+use Rattle.lanes_dual_rail.specs.Pairs.{difference_of}
+use Rattle.lanes_dual_rail.proofs.Differing.{difference-tells}
+use Rattle.unroll_depth.specs.Pairs.{Put, agree_at, differ_at, Differs, Lacks}
 
 -- ---- positions of a group's gates
 
@@ -111,56 +110,6 @@ same-pairs w after long same = ext_get_or 0 after w long (λ k l. go k (k / 2) (
     go k p (suc (suc v)) e h = absurd (omega arith)
 
 -- ---- pairs compared
-
--- the three ways that two bits of a lane can stand
-data Bits : ℕ → ℕ → Type 0 where
-  unset : Bits 0 0
-  zero_set : Bits 1 0
-  one_set : Bits 0 1
-
-bits : (z o : ℕ) → z + o ≤ 1 → Bits z o
-bits zero zero h = unset
-bits zero (suc zero) h = one_set
-bits zero (suc (suc o)) h = absurd (omega arith)
-bits (suc zero) zero h = zero_set
-bits (suc zero) (suc o) h = absurd (omega arith)
-bits (suc (suc z)) o h = absurd (omega arith)
-
-lane-differs : {z o z' o' : ℕ} → Bits z o → Bits z' o'
-    → eqb (max (differ z z') (differ o o')) 1 ≡ not (eqb (code (marked_lanes z o)) (code (marked_lanes z' o')))
-unfolding marked_lanes code
-lane-differs unset unset = refl
-lane-differs unset zero_set = refl
-lane-differs unset one_set = refl
-lane-differs zero_set unset = refl
-lane-differs zero_set zero_set = refl
-lane-differs zero_set one_set = refl
-lane-differs one_set unset = refl
-lane-differs one_set zero_set = refl
-lane-differs one_set one_set = refl
-
-module _ {lanes : ℕ} {p q : Pair} (h : Proper lanes p) (k : Proper lanes q) where
-  difference-within : difference_of p q < 2 ^ lanes
-  unfolding difference_of
-  difference-within =
-      or_lt lanes (bit_xor p.zeros q.zeros) (bit_xor p.ones q.ones)
-      (xor_lt lanes p.zeros q.zeros h.zeros_within k.zeros_within)
-      (xor_lt lanes p.ones q.ones h.ones_within k.ones_within)
-
-  difference-lane : (s : ℕ) → has_lane (difference_of p q) s ≡ not (eqb (code (lane s p)) (code (lane s q)))
-  unfolding difference_of has_lane lane
-  difference-lane s =
-      rw (
-        bit-or (bit_xor p.zeros q.zeros) (bit_xor p.ones q.ones) s,
-        bit-xor p.zeros q.zeros s,
-        bit-xor p.ones q.ones s,
-      )
-      (lane-differs (bits (bit p.zeros s) (bit p.ones s) (h.apart s))
-      (bits (bit q.zeros s) (bit q.ones s) (k.apart s)))
-
-  -- where they hold another value
-  pub difference-tells : Tells lanes 0 (λ s. not (eqb (code (lane s p)) (code (lane s q)))) (difference_of p q)
-  difference-tells = record { within = difference-within; each = λ s l. rw (zero-add s) (difference-lane s) }
 
 module _ (w other : List ℕ) where
   pub differs_none : Differs [] w other 0

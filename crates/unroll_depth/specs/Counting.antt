@@ -16,7 +16,6 @@ use Rattle.graph_gates.specs.Graph.{Decoded}
 use Rattle.theory_unrolling.specs.Copies.{group_at}
 use Rattle.lanes_dual_rail.specs.Batches.{lanes_of}
 use Rattle.lanes_dual_rail.specs.LaneWords.{lane_size}
-use Rattle.lanes_batch.specs.Layered.{Planned}
 use Rattle.lanes_settings.specs.Lanes.{Judged}
 use Rattle.unroll_depth.specs.Passes.{Least, Listing}
 use Rattle.unroll_depth.specs.declared.Found.{Found}
@@ -104,12 +103,11 @@ pub record WalkedBatch (b : Block) (count next : ℕ) (entry passes : List ℕ) 
 pub record BatchReady (ws graph members starts : List ℕ) (batch : Batch) (passes w : List ℕ) : Type 0 where
   pub held : BatchHeld ws graph batch.base w
   pub listing : Listing (decode ws) batch.groups members starts
-  pub counting : Counting (decode ws) batch.groups batch.base 0 batch.base passes batch.total
-  pub lowest : LowestBelow (decode ws) batch.base batch.lowest
+  pub counting : Counting (decode ws) batch.groups batch.base 0 batch.base passes batch.found.total
+  pub lowest : LowestBelow (decode ws) batch.base batch.found.lowest
 
 -- the walk over batches can start, from one pass for each group on
-pub record WalkReady (ws graph order ends : List ℕ) (count : ℕ) (members starts passes : List ℕ) : Type 0 where
-  pub plan : Planned ws graph order ends
+pub record WalkReady (ws : List ℕ) (count : ℕ) (members starts passes : List ℕ) : Type 0 where
   pub listing : Listing (decode ws) count members starts
   pub counting : Counting (decode ws) count 0 0 0 passes (get_or ws 1 0)
 

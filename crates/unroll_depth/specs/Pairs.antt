@@ -5,13 +5,11 @@
 --   agree_at, differ_at, Differs, Lacks   two states compared at the group's gates
 -- Assumes nothing.
 use Rattle.std.specs.Prelude.{ℕ, ◌+◌, ◌<◌, ◌≡◌, Bool, true, false, not, List, eqb, length}
-use Rattle.std.specs.Int.Bits.{bit_or, bit_xor}
 use Rattle.prelude.specs.Lists.{all, member}
 use Rattle.netlist.specs.Values.{code}
 use Rattle.netlist.specs.Netlist.{Block}
 use Rattle.netlist.specs.Rounds.{is_excluded}
 use Rattle.graph_gates.specs.Places.{first_gate}
-use Rattle.lanes_dual_rail.specs.declared.Pair.{Pair}
 use Rattle.lanes_dual_rail.specs.Pairs.{lane, Proper}
 use Rattle.lanes_dual_rail.specs.Batches.{lanes_of}
 use Rattle.lanes_dual_rail.specs.LaneWords.{pair_at}
@@ -32,10 +30,6 @@ pub record Put (group source w after : List ℕ) : Type 0 where
   pub long : length after ≡ length w
   pub inside : (j : ℕ) → member j group ≡ true → pair_at after (first_gate + j) ≡ pair_at source (first_gate + j)
   pub outside : (p : ℕ) → Apart group p → pair_at after p ≡ pair_at w p
-
--- the lanes at which two pairs hold another value
-unfoldable pub difference_of : Pair → Pair → ℕ
-difference_of p q = bit_or (bit_xor p.zeros q.zeros) (bit_xor p.ones q.ones)
 
 -- the pairs of the gates listed are proper
 abbrev pub ProperAt : ℕ → List ℕ → List ℕ → Type 0

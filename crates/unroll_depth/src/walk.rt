@@ -8,8 +8,6 @@ ghost use Rattle.netlist.specs.Rounds.{setting_count, lowest_unsettled};
 ghost use Rattle.netlist.specs.Groups.{groups};
 ghost use Rattle.lanes_dual_rail.specs.Batches.{lanes_of};
 ghost use Rattle.lanes_dual_rail.specs.LaneWords.{lane_size};
-ghost use Rattle.lanes_batch.specs.Plan.{IsPlan};
-ghost use Rattle.lanes_settings.specs.Lanes.{Judged};
 ghost use Rattle.unroll_depth.specs.Passes.{Listing};
 ghost use Rattle.unroll_depth.specs.Counting.{StartsFew, Full, GroupAt, GroupDone, BatchReady, LowestBelow};
 ghost use Rattle.unroll_depth.specs.Counting.{WalkReady};
@@ -19,13 +17,13 @@ use crate::Found;
 use crate::group::count_group;
 use crate::passes::{Counted, Turn};
 use graph_gates::GRAPH_WORDS;
-use lanes_batch::plan::Plan;
+use lanes_batch::plan::PlannedBlock;
 use lanes_dual_rail::LANE_WORDS;
 use lanes_dual_rail::words::{lane_count, lowest_lane};
 use lanes_settings::decided::judge_batch;
 use lanes_settings::lowest::lowest_unsettled;
 use lanes_settings::setting_count;
-use lanes_settings::settled::unsound_lanes;
+use lanes_settings::settled::JudgedBatch;
 use words_layout::fill::fill_words;
 use words_layout::limits::MAX_GATES;
 use words_layout::offsets::{gates_of, inputs_of};
@@ -43,8 +41,7 @@ struct At {
 struct Batch {
     groups: usize,
     base: usize,
-    total: usize,
-    lowest: usize,
+    found: Found,
 }
 
 // Counts the passes of one group for the settings of the batch; gives the copies of all groups. A group that has as
@@ -70,6 +67,7 @@ fn count_at(
     if end <= from + made {
         return at.total;
     }
+    // Both are of `at` and of what the arrays say of its group, so that no `From` makes them.
     let turn = Turn {
         from,
         end,
@@ -84,22 +82,22 @@ fn count_at(
     counted.total
 }
 
-// The lowest setting found so far that may come and is not settled, or 2^n: `lowest` is that of the batches before the
-// one at `base`, whose settled values `lanes` holds.
-fn lowest_with(words: &[u16], base: usize, lowest: usize, lanes: &[u64; LANE_WORDS]) -> usize
-    requires judged { Judged words.now (get_or words.now 0 0) base lanes.now × LowestBelow (decode words.now) base lowest }
-    requires words_bound { base + lanes_of (get_or words.now 0 0) ≤ setting_count (decode words.now) }
-    ensures { LowestBelow (decode words.now) (base + lanes_of (get_or words.now 0 0)) result }
+// The lowest setting found so far that may come and is not settled, or 2^n: `lowest` is that of the batches before this
+// one.
+fn lowest_with(batch: &JudgedBatch, lowest: usize) -> usize
+    requires lowest { LowestBelow (decode batch.now.words.now) batch.now.base lowest }
+    requires words_bound { batch.now.base + lanes_of (get_or batch.now.words.now 0 0)
+        ≤ setting_count (decode batch.now.words.now) }
+    ensures { LowestBelow (decode batch.now.words.now)
+        (batch.now.base + lanes_of (get_or batch.now.words.now 0 0)) result }
 {
-    let n = inputs_of(words);
-    if lowest < setting_count(n) {
+    if lowest < setting_count(inputs_of(batch.words)) {
         return lowest;
     }
-    let unsound = unsound_lanes(words, n, base, lanes);
-    if unsound == 0 {
-        return lowest;
+    match lowest_lane(batch.unsound_lanes()) {
+        Some(lane) => batch.base + lane,
+        None => lowest,
     }
-    base + lowest_lane(unsound)
 }
 
 // Counts the passes of every group for the settings of a batch, whose settled values `lanes` holds, and looks for its
@@ -121,8 +119,9 @@ fn count_batch(
     ensures lanes_len { (length lanes.new ≡ lane_size) × (length kept.new ≡ lane_size) }
 {
     let base = batch.base;
-    let lowest = lowest_with(words, base, batch.lowest, lanes);
-    let mut total = batch.total;
+    let judged = JudgedBatch { words, base, lanes };
+    let lowest = lowest_with(&judged, batch.found.lowest);
+    let mut total = batch.found.total;
     // A range would need a second way out in the body.
     let mut group = 0;
     while group < batch.groups && total <= MAX_GATES {
@@ -144,16 +143,16 @@ fn are_full(count: usize, starts: &[u16; MAX_GATES + 1], passes: &[u16; MAX_GATE
 // Goes through every batch in turn, from one pass for each group on. The walk ends where there are too many copies, and
 // where an unsettled setting is known and no group can need more passes.
 fn walk_loops(
-    words: &[u16],
-    plan: &Plan,
+    block: PlannedBlock,
     count: usize,
     members: &[u16; MAX_GATES],
     starts: &[u16; MAX_GATES + 1],
     passes: &mut [u16; MAX_GATES],
 ) -> Found
-    requires { WalkReady words.now plan.now.graph plan.now.order plan.now.ends count members.now starts.now passes.old }
-    ensures { WalkedAll (decode words.now) count passes.old passes.new result }
+    requires { WalkReady block.words.now count members.now starts.now passes.old }
+    ensures { WalkedAll (decode block.entry.words.now) count passes.old passes.new result }
 {
+    let words = block.words;
     let mut lanes = [0u64; LANE_WORDS];
     let mut kept = [0u64; LANE_WORDS];
     let n = inputs_of(words);
@@ -169,16 +168,15 @@ fn walk_loops(
         if found.lowest < settings && are_full(count, starts, passes) {
             return found;
         }
-        judge_batch(words, plan, base, &mut lanes);
+        judge_batch(block, base, &mut lanes);
         let batch = Batch {
             groups: count,
             base,
-            total: found.total,
-            lowest: found.lowest,
+            found,
         };
         found = count_batch(
             words,
-            &plan.graph,
+            &block.plan.graph,
             members,
             starts,
             batch,
@@ -192,14 +190,14 @@ fn walk_loops(
 }
 
 // The walk of a block in which no group can need more passes than one: it only looks for a setting that is not settled.
-fn walk_settings(words: &[u16], plan: &Plan) -> Found
-    requires { IsPlan words.now plan.now }
-    ensures { (result.total ≡ get_or words.now 1 0) × (result.lowest ≡ lowest_unsettled (decode words.now)) }
+fn walk_settings(block: PlannedBlock) -> Found
+    ensures { (result.total ≡ get_or block.entry.words.now 1 0)
+        × (result.lowest ≡ lowest_unsettled (decode block.entry.words.now)) }
 {
     let mut lanes = [0u64; LANE_WORDS];
-    let lowest = lowest_unsettled(words, plan, &mut lanes);
+    let lowest = lowest_unsettled(block, &mut lanes);
     Found {
-        total: gates_of(words),
+        total: gates_of(block.words),
         lowest,
     }
 }
@@ -207,20 +205,18 @@ fn walk_settings(words: &[u16], plan: &Plan) -> Found
 // Writes each group's passes; gives the copies of all groups, or a number above the limit where they are too many, and
 // where they are not, the lowest setting that may come and is not settled.
 pub fn walk_batches(
-    words: &[u16],
-    plan: &Plan,
+    block: PlannedBlock,
     count: usize,
     members: &[u16; MAX_GATES],
     starts: &[u16; MAX_GATES + 1],
     passes: &mut [u16; MAX_GATES],
 ) -> Found
-    requires planned { IsPlan words.now plan.now }
-    requires listing { Listing (decode words.now) count members.now starts.now }
-    ensures { Walked (decode words.now) passes.old passes.new result }
+    requires { Listing (decode block.words.now) count members.now starts.now }
+    ensures { Walked (decode block.entry.words.now) passes.old passes.new result }
 {
     fill_words(passes, count, 1);
     if are_full(count, starts, passes) {
-        return walk_settings(words, plan);
+        return walk_settings(block);
     }
-    walk_loops(words, plan, count, members, starts, passes)
+    walk_loops(block, count, members, starts, passes)
 }

@@ -55,10 +55,8 @@ shown_at ws nodes newest o =
     entry_words ws nodes (output_entry (nodes.start + gate_size * nodes.gates + output_size * o)) newest
 
 -- what copying `count` entries of five words asks of the slices
-pub record EntryRoom (ws : List ℕ) (nodes : Nodes) (from : ℕ) (newest out : List ℕ) (to count : ℕ) : Type 0 where
-  pub few : nodes.inputs + nodes.gates ≤ node_room
+pub record EntryRoom (ws : List ℕ) (from : ℕ) (out : List ℕ) (to count : ℕ) : Type 0 where
   pub words : from + output_size * count ≤ length ws
-  pub table : nodes.gates ≤ length newest
   pub room : to + output_size * count ≤ length out
 
 -- what writing the copies of `total` gates asks of the slices

@@ -6,10 +6,11 @@ ghost use Rattle.prelude.specs.Lists.{tab, joined, placed};
 ghost use Rattle.netlist.specs.Limits.{max_inputs, max_nevers, max_gates, max_outputs};
 ghost use Rattle.netlist.specs.StoredBlock.{gate_size, decode, encode};
 ghost use Rattle.netlist.specs.Rendering.{rendering};
-ghost use Rattle.unroll_emission.specs.Words.{table_after, copy_words, copy_at, shown_at, EntryRoom, GateRoom, Order};
+ghost use Rattle.unroll_emission.specs.Words.{table_after, copy_words, copy_at, EntryRoom, GateRoom, Order};
 ghost use Rattle.unroll_emission.specs.Words.{CopyReady};
+ghost use Rattle.unroll_emission.specs.Mapping.{shown_by};
 
-use crate::entry::{Entry, copy_entry, copy_words, write_gate};
+use crate::entry::{Entry, Mapping, copy_words};
 use words_layout::fill::fill_words;
 use words_layout::nodes::{CONSTANT_0, Nodes, nodes_of};
 use words_layout::offsets::{GATE_SIZE, INPUTS_AT, NAME_SIZE, OUTPUT_SIZE, nevers_of, outputs_of};
@@ -32,7 +33,12 @@ fn copy_gate(words: &[u16], nodes: Nodes, j: usize, t: usize, newest: &mut [u16]
         (copy_words words.now nodes j newest.old) }
     ensures newest_after { newest.new ≡ set newest.old j (nodes.inputs + t) }
 {
-    write_gate(words, nodes, j, t, newest, out);
+    let mapping = Mapping {
+        words,
+        nodes,
+        table: newest,
+    };
+    mapping.write_gate(j, t, out);
     newest[j] = (nodes.inputs + t) as u16;
 }
 
@@ -56,30 +62,20 @@ fn copy_gates(
 }
 
 // Writes the `k` outputs, each showing the last copy of the gate that it showed.
-pub fn copy_outputs(
-    words: &[u16],
-    nodes: Nodes,
-    k: usize,
-    newest: &[u16],
-    out: &mut [u16],
-    to: usize,
-)
-    requires { EntryRoom words.now nodes (nodes.start + gate_size * nodes.gates) newest.now out.old to k }
-    ensures { out.new
-        ≡ sets out.old to (joined (tab (shown_at words.now nodes newest.now) k)) }
+pub fn copy_outputs(mapping: &Mapping, k: usize, out: &mut [u16], to: usize)
+    requires { EntryRoom mapping.now.words.now (mapping.now.nodes.start + gate_size * mapping.now.nodes.gates)
+        out.old to k }
+    ensures { out.new ≡ sets out.old to (joined (tab (shown_by mapping.now) k)) }
 {
-    let from = nodes.start + GATE_SIZE * nodes.gates;
+    let from = mapping.nodes.start + GATE_SIZE * mapping.nodes.gates;
     for o in 0..k {
         let at = from + OUTPUT_SIZE * o;
-        copy_entry(
-            words,
-            nodes,
+        mapping.copy_entry(
             Entry {
                 from: at,
                 first: NAME_SIZE,
                 last: OUTPUT_SIZE,
             },
-            newest,
             out,
             to + OUTPUT_SIZE * o,
         );
@@ -105,12 +101,10 @@ pub fn write_rendering(
     // No gate has a copy: constant 0 stands for each.
     fill_words(newest, nodes.gates, CONSTANT_0 as u16);
     copy_gates(words, nodes, order, total, newest, out);
-    copy_outputs(
+    let mapping = Mapping {
         words,
         nodes,
-        k,
-        newest,
-        out,
-        nodes.start + GATE_SIZE * total,
-    );
+        table: newest,
+    };
+    copy_outputs(&mapping, k, out, nodes.start + GATE_SIZE * total);
 }

@@ -1,2 +1,3 @@
 -- What the contracts of this crate add to the definitions of `netlist`.
 pub mod Listing
+pub mod GroupPasses

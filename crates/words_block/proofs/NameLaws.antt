@@ -10,7 +10,6 @@ use lib.ListN.{length, get_or, drop}
 use lib.Seq.{drop-cons}
 use lib.Dec.{eqb}
 use borrow.Author.Tests.{ne_eqb}
-use Rattle.prelude.specs.Lists.{all}
 use Rattle.netlist.specs.StoredBlock.{bytes_at}
 use Rattle.netlist.specs.Names.{is_name_byte}
 use Rattle.theory_encoding.specs.Rules.{padded}
@@ -41,9 +40,6 @@ bytes-end ws at i a b = let e : i ≡ 8 = omega arith in rw e
 
 -- what element i says of the list from i on
 module _ (bs : List ℕ) (i : ℕ) (inside : i < length bs) where
-  zeros-from : zeros_from bs i ≡ eqb 0 (get_or bs i 0) && zeros_from bs (i + 1)
-  zeros-from = rw (add-one, drop-cons bs i 0)
-
   padded-from : padded (drop i bs) ≡ cond (eqb (get_or bs i 0) 0) (zeros_from bs (i + 1))
       (is_name_byte (get_or bs i 0) && padded (drop (i + 1) bs))
   unfolding padded
@@ -67,22 +63,6 @@ inside-bytes ws at i h = rw (bytes-length ws at) h
 
 -- byte i, which was read as r, decides the test or leaves it to the bytes behind it
 module _ {ws : List ℕ} {at first i r : ℕ} (inside : i < 8) (read : r ≡ get_or (bytes_at ws at) i 0) where
-  pub zeros-more : Rest (all (eqb 0)) ws at first i → r ≡ 0 → Rest (all (eqb 0)) ws at first (i + 1)
-  zeros-more h e =
-      record {
-        within = omega arith;
-        same = h.same
-            ∙ rw (zeros-from (bytes_at ws at) i (inside-bytes ws at i inside), ← read, e);
-      }
-
-  pub zeros-fail : Rest (all (eqb 0)) ws at first i → (r ≡ 0 → ⊥) → false ≡ all (eqb 0) (drop first (bytes_at ws at))
-  zeros-fail h e =
-      sym (h.same ∙ rw (
-        zeros-from (bytes_at ws at) i (inside-bytes ws at i inside),
-        ← read,
-        ne_eqb 0 r (λ q. e (sym q)),
-      ))
-
   pub padded-zero : Rest padded ws at first i → r ≡ 0
       → zeros_from (bytes_at ws at) (i + 1) ≡ padded (drop first (bytes_at ws at))
   padded-zero h e = sym (h.same ∙ rw (padded-from (bytes_at ws at) i (inside-bytes ws at i inside), ← read, e))

@@ -3,16 +3,18 @@
 // outputs. Every operation that takes a block calls `check_words` first. No function reads past the end of the words.
 #![tactic(auto)]
 
-ghost use Rattle.std.specs.Prelude.{◌≡◌, false, not, ◌≤◌, ◌+◌, ◌*◌, length};
+ghost use Rattle.std.specs.Prelude.{◌≡◌, not, IfOk, ◌≤◌, ◌+◌, ◌*◌, length};
 ghost use Rattle.theory_encoding.specs.Rules.{intact};
 ghost use Rattle.netlist.specs.declared.Refusal.TheVariants.{MalformedBlock, NotStraight};
-ghost use Rattle.words_refusals.specs.Tests.{test_of};
+ghost use Rattle.words_refusals.specs.Tests.{test_of, test_in};
 ghost use Rattle.netlist.specs.Limits.{max_inputs, max_nevers, max_gates, max_outputs};
 ghost use Rattle.netlist.specs.StoredBlock.{output_size, outputs_at, is_malformed, decode};
 ghost use Rattle.netlist.specs.Rendering.{is_straight};
 ghost use Rattle.words_block.specs.Steps.{front_rule, parts_rule};
 
+use names::Names;
 use netlist::Refusal;
+use words_layout::block::Block;
 use words_layout::offsets;
 use words_refusals::refuse_if;
 
@@ -28,7 +30,12 @@ fn front_fits(words: &[u16], n: usize, l: usize) -> bool
     requires l_le_max_nevers { l ≤ max_nevers }
     ensures { result ≡ front_rule words.now n l }
 {
-    if !crate::names::fit(words, offsets::INPUTS_AT, offsets::NAME_SIZE, n) {
+    let names = Names {
+        words,
+        at: offsets::INPUTS_AT,
+        size: offsets::NAME_SIZE,
+    };
+    if !names.fit(n) {
         return false;
     }
     nevers::fit(words, n, offsets::nevers_at(n), l)
@@ -50,7 +57,12 @@ fn parts_fit(words: &[u16], n: usize, l: usize, m: usize, k: usize) -> bool
     if !crate::gates::fit(words, n + m, offsets::gates_behind(n, l), m) {
         return false;
     }
-    if !crate::names::fit(words, outputs_at, offsets::OUTPUT_SIZE, k) {
+    let ports = Names {
+        words,
+        at: outputs_at,
+        size: offsets::OUTPUT_SIZE,
+    };
+    if !ports.fit(k) {
         return false;
     }
     outputs::fit(words, n + m, outputs_at, k)
@@ -70,23 +82,26 @@ fn is_intact(words: &[u16]) -> bool
     parts_fit(words, n, l, m, k)
 }
 
-// Refusal 6, of a slice of any length and content: is it a stored block?
-pub fn check_words(words: &[u16]) -> Result<(), Refusal>
-    ensures { result ≡ test_of (is_malformed words.now) MalformedBlock }
+// Refusal 6, of a slice of any length and content: is it a stored block? Hands on the block.
+pub fn check_words(words: &[u16]) -> Result<Block<'_>, Refusal>
+    ensures tested { test_in result ≡ test_of (is_malformed words.now) MalformedBlock }
+    ensures block { IfOk result (λ block. block.words.now ≡ words.now) }
 {
-    refuse_if(!is_intact(words), Refusal::MalformedBlock)
+    if !is_intact(words) {
+        return Err(Refusal::MalformedBlock);
+    }
+    Ok(Block { words })
 }
 
-// Refusal 10, of a block that is not malformed: do all gates read only inputs, constants and lower gates?
-pub fn check_straight(words: &[u16]) -> Result<(), Refusal>
-    requires { is_malformed words.now ≡ false }
-    ensures { result ≡ test_of (not (is_straight (decode words.now))) NotStraight }
+// Refusal 10: do all gates of a block read only inputs, constants and lower gates?
+pub fn check_straight(block: &Block) -> Result<(), Refusal>
+    ensures { result ≡ test_of (not (is_straight (decode block.now.words.now))) NotStraight }
 {
-    let n = offsets::inputs_of(words);
-    let m = offsets::gates_of(words);
-    let at = offsets::gates_at(words);
+    let n = offsets::inputs_of(block.words);
+    let m = offsets::gates_of(block.words);
+    let at = offsets::gates_at(block.words);
     refuse_if(
-        !crate::gates::read_lower(words, n, at, m),
+        !crate::gates::read_lower(block.words, n, at, m),
         Refusal::NotStraight,
     )
 }

@@ -1,11 +1,11 @@
 // The rules of a block's names, of inputs and of ports (SPECIFICATION 2.2, 2.4): each is legal and padded by zeros, and
 // none stands twice.
-ghost use Rattle.std.specs.Prelude.{◌≡◌, ◌&&◌, ◌≤◌, ◌<◌, ◌+◌, ◌*◌, get_or};
+ghost use Rattle.std.specs.Prelude.{◌≡◌, ◌≤◌, ◌<◌, ◌+◌, ◌*◌, get_or};
 ghost use Rattle.netlist.specs.Limits.{max_name, max_gates};
 ghost use Rattle.netlist.specs.StoredBlock.{bytes_at};
 ghost use Rattle.words_layout.specs.Bounds.{max_word, place_room};
-ghost use Rattle.theory_encoding.specs.Rules.{padded, name_rule, names_rule};
-ghost use Rattle.words_block.specs.NameSteps.{zeros_from, other_name, others_before, new_name};
+ghost use Rattle.theory_encoding.specs.Rules.{padded, name_rule};
+ghost use Rattle.words_block.specs.NameSteps.{zeros_from};
 
 use words_layout::bytes::{is_letter, is_name_byte};
 use words_layout::limits::MAX_NAME;
@@ -66,43 +66,56 @@ fn is_legal(words: &[u16], at: usize) -> bool
     is_letter(byte_at(words, at, 0)) && is_padded(words, at)
 }
 
-// Of names that stand `size` words apart from `at` on: do numbers i and j differ?
-fn differ(words: &[u16], at: usize, size: usize, j: usize, i: usize) -> bool
-    requires at_le_place_room { at ≤ place_room }
-    requires size_bound { size ≤ 5 }
-    requires j_le_max_gates { j ≤ max_gates }
-    requires i_le_max_gates { i ≤ max_gates }
-    ensures { result ≡ other_name words.now at size j i }
-{
-    !is_same(words, at + size * i, words, at + size * j)
+// Names in a row: the first stands at `at`, and each `size` words behind the one before it.
+#[derive(Clone, Copy)]
+pub struct Names<'a> {
+    pub words: &'a [u16],
+    pub at: usize,
+    pub size: usize,
+    pub ghost near: { at ≤ place_room },
+    pub ghost small: { size ≤ 5 },
 }
 
-// Does name j differ from all before it?
-fn is_new(words: &[u16], at: usize, size: usize, j: usize) -> bool
-    requires at_le_place_room { at ≤ place_room }
-    requires size_bound { size ≤ 5 }
-    requires j_le_max_gates { j ≤ max_gates }
-    ensures { result ≡ others_before words.now at size j }
-{
-    (0..j).all(|i| differ(words, at, size, j, i))
-}
+impl<'a> Names<'a> {
+    ghost use Rattle.words_block.specs.Names.{is_other, are_others, is_new_name, keeps_rule};
 
-// Is name j legal, and not one of those before it?
-fn is_legal_and_new(words: &[u16], at: usize, size: usize, j: usize) -> bool
-    requires at_le_place_room { at ≤ place_room }
-    requires size_bound { size ≤ 5 }
-    requires j_le_max_gates { j ≤ max_gates }
-    ensures { result ≡ new_name words.now at size j }
-{
-    is_legal(words, at + size * j) && is_new(words, at, size, j)
-}
+    // Where name i stands.
+    fn place(&self, i: usize) -> usize
+        requires { i ≤ max_gates }
+        ensures { (result ≡ self.now.at + self.now.size * i) × (result ≤ max_word) }
+    {
+        self.at + self.size * i
+    }
 
-// Are `count` names from `at` on, `size` words apart, all legal and no two the same?
-pub fn fit(words: &[u16], at: usize, size: usize, count: usize) -> bool
-    requires at_le_place_room { at ≤ place_room }
-    requires size_bound { size ≤ 5 }
-    requires count_le_max_gates { count ≤ max_gates }
-    ensures { result ≡ names_rule words.now at size count }
-{
-    (0..count).all(|j| is_legal_and_new(words, at, size, j))
+    // Do names i and j differ?
+    fn differ(&self, j: usize, i: usize) -> bool
+        requires { (j ≤ max_gates) × (i ≤ max_gates) }
+        ensures { result ≡ is_other self.now j i }
+    {
+        !is_same(self.words, self.place(i), self.words, self.place(j))
+    }
+
+    // Does name j differ from all before it?
+    fn is_new(&self, j: usize) -> bool
+        requires { j ≤ max_gates }
+        ensures { result ≡ are_others self.now j }
+    {
+        (0..j).all(|i| self.differ(j, i))
+    }
+
+    // Is name j legal, and not one of those before it?
+    fn is_legal_and_new(&self, j: usize) -> bool
+        requires { j ≤ max_gates }
+        ensures { result ≡ is_new_name self.now j }
+    {
+        is_legal(self.words, self.place(j)) && self.is_new(j)
+    }
+
+    // Are the first `count` names all legal and no two the same?
+    pub fn fit(&self, count: usize) -> bool
+        requires { count ≤ max_gates }
+        ensures { result ≡ keeps_rule self.now count }
+    {
+        (0..count).all(|j| self.is_legal_and_new(j))
+    }
 }

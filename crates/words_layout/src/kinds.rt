@@ -88,6 +88,7 @@ pub fn signature_of(kind: usize) -> Signature
     }
     let row = row_of(kind);
     let keyword = row.keyword;
+    // A row has two values more; no other place makes a signature of one.
     Signature {
         fewest: row.fewest,
         most: row.most,

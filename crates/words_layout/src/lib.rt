@@ -3,6 +3,7 @@
 // 1.5, 2, 3.2 and 4.1).
 #![tactic(auto)]
 
+pub mod block;
 pub mod bytes;
 pub mod fill;
 pub mod kinds;

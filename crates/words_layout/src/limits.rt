@@ -1,5 +1,10 @@
 // The limits (SPECIFICATION 1.5); the definitions have them in netlist/specs/Limits.antt. Every array and comparison
 // reads them here.
+//
+// A count, an index or a place is a plain number, and the function that takes one asks in its contract that it lies below
+// its limit, or below a bound of specs/Bounds.antt, as the library's own methods ask of an index. A type for each limit
+// would be no plainer: each sum, shift, index and loop would take the number out of it again, and its bound would be
+// proved where it is made, as it is at each call now.
 use crate::offsets::{GATE_SIZE, INPUTS_AT, NAME_SIZE, NEVER_SIZE, OUTPUT_SIZE};
 
 // The bytes of a text.

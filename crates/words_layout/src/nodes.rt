@@ -1,7 +1,7 @@
 // A block's nodes, operand words that name them or constants (SPECIFICATION 2.3), and the mark of an empty entry in a
 // table of gates.
-ghost use Rattle.std.specs.Prelude.{◌≡◌, ◌≤◌};
-ghost use Rattle.words_layout.specs.Bounds.{max_word};
+ghost use Rattle.std.specs.Prelude.{◌≡◌};
+ghost use Rattle.prelude.specs.Lists.{IfBelow};
 ghost use Rattle.words_layout.specs.Nodes.{gate_named, nodes_of};
 
 use crate::offsets::{gates_at, gates_of, inputs_of};
@@ -21,19 +21,14 @@ pub const CONSTANT_1: usize = 65535;
 // The mark of no gate in a table of gate numbers: above every gate's number.
 pub const NONE: usize = 65535;
 
-// The gate that a word names in a block of n inputs and m gates, or m where it names none.
-pub fn gate_named(word: usize, n: usize, m: usize) -> usize
-    requires n_le_max_word { n ≤ max_word }
-    requires m_le_max_word { m ≤ max_word }
-    ensures { result ≡ gate_named n m word }
+// The gate that a word names in a block of n inputs and m gates.
+pub fn gate_named(word: usize, n: usize, m: usize) -> Option<usize>
+    ensures { IfBelow (gate_named n m word) m result }
 {
     if word < n {
-        return m;
+        return None;
     }
-    if word < n + m {
-        return word - n;
-    }
-    m
+    if word - n < m { Some(word - n) } else { None }
 }
 
 // The nodes of a block.

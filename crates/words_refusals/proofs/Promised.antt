@@ -26,7 +26,7 @@ use Rattle.std.specs.declared.result.Result.{Result}
 use Rattle.std.specs.declared.result.Result.TheVariants.{Ok, Err}
 use Rattle.netlist.specs.Answers.{refusal_number, refusal_detail, number_of, count_of, detail_of, Outcome, done, refused}
 use Rattle.netlist.specs.Answers.{Answer, refuse_if}
-use Rattle.words_refusals.specs.Tests.{Test, test_of, test_at}
+use Rattle.words_refusals.specs.Tests.{Test, test_in, test_of, test_at}
 use Rattle.netlist.specs.Answers.{refuse_at, in_room, answer_of, left_in, Told, Promise}
 
 -- ---- answers and promises
@@ -103,6 +103,13 @@ pub passed_none : (p : Option ℕ) (why : ℕ → Refusal) {t : Test} → t ≡ 
 unfolding test_at
 passed_none (some place) why e f = let z : ◌≡◌ {A = ℕ} 0 1 = cc in absurd (omega arith)
 passed_none none why e f = refl
+
+-- a test that hands on a value, by its answer
+pub test-ok : {T : Type 0} {a : Result T Refusal} {value : T} → a ≡ Ok value → test_in a ≡ Ok tt
+test-ok e = ap test_in e
+
+pub test-err : {T : Type 0} {a : Result T Refusal} {r : Refusal} → a ≡ Err r → test_in a ≡ Err r
+test-err e = ap test_in e
 
 -- a test that failed has not passed
 pub not-err : {r : Refusal} → ◌≡◌ {A = Test} (Err r) (Ok tt) → ⊥

@@ -10,6 +10,11 @@ use Rattle.netlist.specs.declared.Refusal.{Refusal}
 abbrev pub Test : Type 0
 Test = Result (Unit {0}) Refusal
 
+-- whether a test that hands on a value passed, without the value
+abbrev pub test_in : {T : Type 0} → Result T Refusal → Test
+test_in (Ok value) = Ok tt
+test_in (Err r) = Err r
+
 -- the test of a condition: it refuses where the condition holds
 unfoldable pub test_of : Bool → Refusal → Test
 test_of true r = Err r

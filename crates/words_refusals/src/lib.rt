@@ -79,6 +79,7 @@ pub fn reply_of(answer: Answer) -> Reply
     ensures { Shows answer result }
 {
     match answer {
+        // Number 0 stands beside the two that `done` has; no other place makes a reply of it.
         Ok(done) => Reply {
             number: 0,
             count: done.count,

@@ -29,12 +29,13 @@ offset_bounds-records-i c = omega (arith, place_in (goal.at.offset_bounds-record
 pub slice_copy_out-asked : goal.slice_copy_out-asked
 slice_copy_out-asked c = place_in (goal.at.slice_copy_out-asked c).After-place_at-i
 
+pub invariant_of-whole : goal.invariant_of-whole
+invariant_of-whole c = record {
+  well_formed = turn-whole c.args.block.now c.args.records.now _ c.reply_to_sheet-reply.ensures _ c.loop-t-test.true;
+}
+
 pub advance-batch-requires : goal.advance-batch-requires
-advance-batch-requires c = (
-  turn-whole c.args.block.now c.args.records.now _ c.reply_to_sheet-reply.ensures _ c.loop-t-test.true,
-  c.loop-t-test.true,
-  c.loop-t.invariant.batch_at.room,
-)
+advance-batch-requires c = (c.loop-t-test.true, c.loop-t.invariant.batch_at.room)
 
 pub answer-requires-clause-answerable : goal.answer-requires-clause-answerable
 answer-requires-clause-answerable c =

@@ -9,16 +9,17 @@ use Rattle.graph_gates.proofs.decode_gates.Goals as goal
 
 pub put_node-requires : goal.put_node-requires
 put_node-requires c =
-    (rw c.nodes_of-nodes.ensures (words_of c.args.words.now c.requires.0), c.loop-j-test.true)
+    (rw c.nodes_of-nodes.ensures (words_of c.args.block.now.words.now c.args.block.now.well_formed), c.loop-j-test.true)
 
 pub loop-j-preserved : goal.loop-j-preserved
 loop-j-preserved c =
     let most : c.nodes_of-nodes.result.gates ≤ max_gates =
-    rw c.nodes_of-nodes.ensures (words_of c.args.words.now c.requires.0).few_gates in
+    rw c.nodes_of-nodes.ensures (words_of c.args.block.now.words.now c.args.block.now.well_formed).few_gates in
     putting-more c.loop-j.invariant (omega arith) c.put_node.ensures
 
 pub returns : goal.returns
 unfolding nodes_of
 returns c =
     let all : c.loop-j.j ≡ c.nodes_of-nodes.result.gates = omega arith in
-    graph-decoded c.args.words.now c.requires.0 (rw (all, c.nodes_of-nodes.ensures) at c.loop-j.invariant)
+    graph-decoded c.args.block.now.words.now c.args.block.now.well_formed (rw (all, c.nodes_of-nodes.ensures) at
+    c.loop-j.invariant)

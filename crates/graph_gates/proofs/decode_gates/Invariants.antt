@@ -3,4 +3,4 @@ use Rattle.graph_gates.specs.Decoding.{Putting}
 use Rattle.graph_gates.proofs.decode_gates.Given as goal
 
 abbrev pub invariant-loop-j : goal.invariant-loop-j
-invariant-loop-j l = Putting l.words l.nodes l.j l.graph
+invariant-loop-j l = Putting l.block.words.now l.nodes l.j l.graph

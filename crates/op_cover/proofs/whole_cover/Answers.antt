@@ -6,34 +6,28 @@ use Rattle.theory_encoding.proofs.Decoded.{decode-input_count}
 use Rattle.theory_encoding.proofs.Readers.{whole_parts}
 use Rattle.op_cover.proofs.Flags.{table-room}
 use Rattle.op_cover.proofs.Outcomes.{cover-short, cover-done}
-use Rattle.op_cover.proofs.whole_cover.Goals.{After-inputs_of-n}
+use Rattle.op_cover.proofs.whole_cover.Goals.{After-inputs_of-inputs}
 use Rattle.op_cover.proofs.whole_cover.Goals as goal
 
 -- n is the block's number of inputs
-inputs_are : (c : After-inputs_of-n)
-    → c.inputs_of-n.result ≡ input_count (decode c.args.words.now)
-inputs_are c = c.inputs_of-n.ensures ∙ sym (decode-input_count c.args.words.now)
+inputs_are : (c : After-inputs_of-inputs)
+    → c.inputs_of-inputs.result ≡ input_count (decode c.args.block.now.words.now)
+inputs_are c = c.inputs_of-inputs.ensures ∙ sym (decode-input_count c.args.block.now.words.now)
 
-pub cover_entries-count-requires : goal.cover_entries-count-requires
-cover_entries-count-requires c =
-    let i = c in
-    let s = i in (
-      rw i.inputs_of-n.ensures (whole_parts s.args.words.now s.requires.words_value).few_inputs,
-      table-room i.tabulate.ensures (inputs_are (goal.at.cover_entries-count-requires c).After-inputs_of-n),
-    )
+pub invariant_of-cover_entries : goal.invariant_of-cover_entries
+invariant_of-cover_entries c = record {
+  few = rw c.inputs_of-inputs.ensures (whole_parts c.args.block.now.words.now c.args.block.now.well_formed).few_inputs;
+  room = table-room c.tabulate.ensures (inputs_are (goal.at.invariant_of-cover_entries c).After-inputs_of-inputs);
+}
 
 pub returns-in_err-test_room : goal.returns-in_err-test_room
 returns-in_err-test_room c =
-    let t = c in
-    let e = t in
-    let i = e in
-    cover-short _ i.requires.words_value i.tabulate.ensures (inputs_are (goal.at.returns-in_err-test_room c).After-inputs_of-n) e.cover_entries-count.ensures
-    e.cover_entries-count.auto.out t.test_room.ensures c.in_err-test_room.was c.from_residual.ensures.1
+    let inputs = inputs_are (goal.at.returns-in_err-test_room c).After-inputs_of-inputs in
+    cover-short _ c.args.block.now.well_formed c.tabulate.ensures inputs c.cover_entries-count.ensures
+    c.cover_entries-count.auto.out c.test_room.ensures c.in_err-test_room.was c.from_residual.ensures.1
 
 pub returns : goal.returns
 returns c =
-    let t = c in
-    let e = t in
-    let i = e in
-    cover-done _ i.requires.words_value i.tabulate.ensures (inputs_are (goal.at.returns c).After-inputs_of-n) e.cover_entries-count.ensures
-    e.cover_entries-count.auto.out t.test_room.ensures c.in_ok-test_room.was
+    let inputs = inputs_are (goal.at.returns c).After-inputs_of-inputs in
+    cover-done _ c.args.block.now.well_formed c.tabulate.ensures inputs c.cover_entries-count.ensures
+    c.cover_entries-count.auto.out c.test_room.ensures c.in_ok-test_room.was

@@ -1,6 +1,5 @@
 -- `op_read::read` meets its contract: 1, 2, and then the rest.
 use mathlib.Core.Path.{◌≡◌}
-use borrow.Author.Rules.{rules}
 use borrow.Author.Tests.{ltb-false}
 use lib.ListN.{length}
 use Rattle.netlist.specs.declared.Refusal.TheVariants.{TextTooLong, SyntaxError}

@@ -1,7 +1,6 @@
 -- `op_read::read_legal` meets its contract: 3 from the counts, what the never lines tell, and then the steps.
 use native.Mathlib.Omega.{arith}
-use Rattle.op_read.proofs.Stages.{end-inside, rest-short, over, nevers-ready, tables-ready}
-use borrow.Author.Rules.{rules}
+use Rattle.op_read.proofs.Stages.{end-inside, over, nevers-ready, tables-ready}
 use Rattle.op_read.proofs.read_legal.Goals as goal
 
 pub slice_bounds-tally-count : goal.slice_bounds-tally-count
@@ -9,9 +8,6 @@ slice_bounds-tally-count c = end-inside c.requires c.never_lines-lines.ensures
 
 pub slice_bounds-tally-start : goal.slice_bounds-tally-start
 slice_bounds-tally-start c = end-inside c.requires c.never_lines-lines.ensures
-
-pub tally-c-requires : goal.tally-c-requires
-tally-c-requires c = rest-short c.requires c.never_lines-lines.ensures
 
 pub returns-in_err-limits : goal.returns-in_err-limits
 returns-in_err-limits c =

@@ -5,4 +5,4 @@ use Rattle.op_verdict.proofs.Outcomes.{answer-whole}
 use Rattle.op_verdict.proofs.whole_verdict.Goals as goal
 
 pub returns : goal.returns
-returns c = tell (c.search_settings.ensures ∙ answer-whole c.args.words.now c.requires)
+returns c = tell (c.search_settings.ensures ∙ answer-whole c.args.block.now.words.now c.args.block.now.well_formed)

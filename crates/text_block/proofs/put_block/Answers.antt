@@ -1,8 +1,9 @@
 -- `text_block::put_block` meets its contract: the five parts, one after the other.
+use Prim.Native.Nat.{◌*◌}
 use borrow.Author.Rules.{rules}
 use Rattle.netlist.specs.StoredBlock.{nevers_at, gates_at, outputs_at}
 use Rattle.text_block.specs.Words.{word_count}
-use Rattle.text_block.proofs.BlockParts.{block_written}
+use Rattle.text_block.proofs.BlockParts.{block_written, names-tab, words-tab}
 use Rattle.text_block.proofs.put_block.Goals as goal
 
 pub put_counts-requires : goal.put_counts-requires
@@ -27,18 +28,10 @@ put_words-requires-3 c = search rules
 
 pub returns : goal.returns
 returns c =
-    let at-put-words3 = c in
-    let at-outputs = at-put-words3 in
-    let at-put-words2 = c in
-    let at-gates = at-put-words2 in
-    let at-put-words = c in
-    let at-nevers = at-put-words in
-    let at-put-names = c in
-    let at-put-counts = c in
-    let start = at-put-counts in
-    let a = start.args in
+    let a = c.args in
+    let r = c.requires in
     block_written a.c a.names.now a.masks.now a.gates.now a.outputs.now a.block.now _ _ _ _ _
-    at-put-counts.put_counts.ensures at-put-names.put_names.ensures
-    (rw at-nevers.nevers_at.ensures at at-put-words.put_words.ensures)
-    (rw at-gates.gates_behind.ensures at at-put-words2.put_words-2.ensures)
-    (rw at-outputs.outputs_behind.ensures at at-put-words3.put_words-3.ensures)
+    c.put_counts.ensures (rw (names-tab a.names.now a.c.inputs r.named) at c.put_names.ensures)
+    (rw (c.nevers_at.ensures, words-tab a.masks.now (2 * a.c.nevers) r.mask_room) at c.put_words.ensures)
+    (rw (c.gates_behind.ensures, words-tab a.gates.now (5 * a.c.gates) r.gate_room) at c.put_words-2.ensures)
+    (rw (c.outputs_behind.ensures, words-tab a.outputs.now (5 * a.c.outputs) r.output_room) at c.put_words-3.ensures)

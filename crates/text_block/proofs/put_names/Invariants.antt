@@ -9,4 +9,4 @@ use Rattle.text_block.proofs.put_names.Given as goal
 
 abbrev pub invariant-loop-i : goal.invariant-loop-i
 invariant-loop-i l =
-    (l.i ≤ l.n) × (l.block ≡ sets l.initial.block 4 (joined (tab (name_of l.names) l.i))) × (length l.block ≡ length l.initial.block)
+    (l.i ≤ length l.names) × (l.block ≡ sets l.initial.block 4 (joined (tab (name_of l.names) l.i))) × (length l.block ≡ length l.initial.block)

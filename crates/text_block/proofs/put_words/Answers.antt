@@ -6,4 +6,4 @@ use Rattle.text_block.proofs.put_words.Goals as goal
 pub returns : goal.returns
 returns c =
     let a = c.args in
-    words-put a.block.now a.words.now _ a.at a.count _ c.requires.1 c.requires.0 (omega arith) c.copy_from_slice.ensures.after
+    words-put a.block.now a.words.now _ a.at _ c.requires (omega arith) c.copy_from_slice.ensures.after

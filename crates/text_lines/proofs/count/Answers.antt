@@ -3,7 +3,7 @@ use Prim.Native.Nat.{◌≤◌}
 use native.Mathlib.Omega.{arith}
 use lib.ListN.{get_or}
 use lib.Dec.{eqb}
-use Rattle.text_lines.proofs.Scanning.{counted_none, times_more, times-end, one-le}
+use Rattle.text_lines.proofs.Scanning.{times_more, times-end, one-le}
 use Rattle.text_lines.proofs.count.Goals.{After-one_if}
 use Rattle.text_lines.proofs.count.Goals as goal
 
@@ -24,20 +24,8 @@ loop-x-preserved c =
           c.one_if.ensures;
     }
 
-pub overflow_cast-result : goal.overflow_cast-result
-overflow_cast-result c = let l = c.loop-x in omega (arith, l.invariant.few, l.invariant.within)
-
 pub returns : goal.returns
 returns c =
     let l = c.loop-x in
     let a = c.args in
     times-end a.s.now l.x-index l.n (omega arith) a.b l.invariant.left
-
-pub loop-x-init : goal.loop-x-init
-loop-x-init c = counted_none
-
-pub overflow_cast-n : goal.overflow_cast-n
-overflow_cast-n c = omega (arith, adds (goal.at.overflow_cast-n c).After-one_if)
-
-pub overflow_add-n : goal.overflow_add-n
-overflow_add-n c = omega (arith, adds (goal.at.overflow_add-n c).After-one_if, c.loop-x.invariant.few)

@@ -5,9 +5,6 @@ use lib.ListN.{length}
 use Rattle.text_lines.proofs.Scanning.{length_more, length_last, length-end}
 use Rattle.text_lines.proofs.line_length.Goals as goal
 
-pub loop-i-init : goal.loop-i-init
-loop-i-init c = c.skip_parts-i.ensures
-
 pub returns-then-s-i-eq10 : goal.returns-then-s-i-eq10
 returns-then-s-i-eq10 c =
     let at-loop = c in

@@ -3,17 +3,8 @@ use native.Mathlib.Omega.{arith}
 use Rattle.text_lines.proofs.Scanning.{length-skip}
 use Rattle.text_lines.proofs.skip_parts.Goals as goal
 
-pub loop-i-init : goal.loop-i-init
-loop-i-init c = (omega arith, omega arith)
-
-pub returns-then-has_lf : goal.returns-then-has_lf
-returns-then-has_lf c = c.loop-i.invariant
-
 pub loop-i-preserved : goal.loop-i-preserved
 loop-i-preserved c =
     let l = c in
     let none = c.has_lf.ensures c.if-has_lf.false in
     (omega arith, length-skip l.args.s.now l.loop-i.i 16 (omega arith) none l.loop-i.invariant.1)
-
-pub returns : goal.returns
-returns c = c.loop-i.invariant

@@ -5,18 +5,6 @@ use lib.ListN.{get_or}
 use Rattle.text_pieces.proofs.OperandLaws.{operand-input, operand-zero, operand-one, operand-gate}
 use Rattle.text_pieces.proofs.put_operand.Goals as goal
 
-pub overflow_mul-word : goal.overflow_mul-word
-overflow_mul-word c =
-    let start = c in
-    let after-shared-slice-known = c in
-    omega (arith, after-shared-slice-known.shared_slice_known-1.given start.args.from)
-
-pub overflow_add-word : goal.overflow_add-word
-overflow_add-word c =
-    let start = c in
-    let after-shared-slice-known = c in
-    omega (arith, after-shared-slice-known.shared_slice_known-1.given start.args.from)
-
 pub put_name-requires : goal.put_name-requires
 put_name-requires c =
     let at-shared-slice-known = c in

@@ -1,6 +1,5 @@
 -- `words_block::check_straight` meets its contract: a block is straight exactly when each gate keeps its rule with only
 -- the inputs and the lower gates as nodes (`straight-is`).
-use borrow.Author.Rules.{rules}
 use native.Mathlib.Omega.{arith}
 use Rattle.netlist.specs.StoredBlock.{nevers_at, gates_at, outputs_at}
 use Rattle.theory_encoding.proofs.Readers.{whole_parts}
@@ -11,7 +10,7 @@ pub read_lower-requires : goal.read_lower-requires
 unfolding outputs_at gates_at nevers_at
 read_lower-requires c =
     let s = c in
-    let w = whole_parts s.args.words.now s.requires in
+    let w = whole_parts s.args.block.now.words.now s.args.block.now.well_formed in
     rw (c.inputs_of-n.ensures, c.gates_of-m.ensures, c.gates_at-at.ensures)
     record {
       n_le_max_inputs = (w.few_inputs, omega (arith, w.few_inputs, w.few_nevers), w.few_gates);
@@ -23,7 +22,7 @@ returns c =
     let after-inputs-of = c in
     let s = c in
     rw (
-      ← straight-is s.args.words.now s.requires,
+      ← straight-is s.args.block.now.words.now s.args.block.now.well_formed,
       ← c.gates_at-at.ensures,
       ← after-inputs-of.inputs_of-n.ensures,
       ← c.gates_of-m.ensures,

@@ -1,13 +1,8 @@
 -- `words_block::front_fits` meets its contract: the rule of the names, and once it holds that of the never lines.
 use mathlib.Core.Path.{sym, ◌∙◌}
-use borrow.Author.Rules.{rules}
 use native.Mathlib.Omega.{arith}
-use borrow.Author.Tests.{not-true, not-false}
 use Rattle.netlist.specs.StoredBlock.{nevers_at}
 use Rattle.words_block.proofs.front_fits.Goals as goal
-
-pub returns-then-not-fit : goal.returns-then-not-fit
-returns-then-not-fit c = rw (sym c.fit.ensures ∙ c.if-not-fit.true)
 
 pub fit-requires-2-clause-n_le_max_inputs : goal.fit-requires-2-clause-n_le_max_inputs
 unfolding nevers_at

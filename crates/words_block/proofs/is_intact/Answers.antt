@@ -1,8 +1,6 @@
 -- `words_block::is_intact` meets its contract: the header's rule, and once it holds the rules of the parts.
 use mathlib.Core.Path.{sym, ◌∙◌}
 use lib.ListN.{get_or}
-use borrow.Author.Rules.{rules}
-use borrow.Author.Tests.{not-true, not-false}
 use Rattle.theory_encoding.specs.Rules.{intact}
 use Rattle.words_block.proofs.HeaderLaws.{Limits, header-limits, header-length}
 use Rattle.words_block.proofs.is_intact.Goals as goal

@@ -1,13 +1,8 @@
 -- `words_block::parts_fit` meets its contract: each way out is the first rule that fails, or the last.
 use mathlib.Core.Path.{sym, ◌∙◌}
-use borrow.Author.Rules.{rules}
 use native.Mathlib.Omega.{arith}
-use borrow.Author.Tests.{not-true, not-false}
 use Rattle.netlist.specs.StoredBlock.{nevers_at, gates_at, outputs_at}
 use Rattle.words_block.proofs.parts_fit.Goals as goal
-
-pub returns-then-not-front_fits : goal.returns-then-not-front_fits
-returns-then-not-front_fits c = rw (sym c.front_fits.ensures ∙ c.if-not-front_fits.true)
 
 pub fit-requires-clause-at_le_place_room : goal.fit-requires-clause-at_le_place_room
 unfolding nevers_at gates_at outputs_at
@@ -30,26 +25,13 @@ returns-then-not-fit c =
       sym c.fit.ensures ∙ c.if-not-fit.true,
     )
 
-pub fit-requires-2-clause-at_le_place_room : goal.fit-requires-2-clause-at_le_place_room
+pub invariant_of-ports : goal.invariant_of-ports
 unfolding nevers_at gates_at outputs_at
-fit-requires-2-clause-at_le_place_room c =
-    let after-outputs-behind = c in
-    let start = c in
-    omega (arith, after-outputs-behind.outputs_behind-outputs_at.ensures, start.requires)
+invariant_of-ports c =
+    record { near = omega (arith, c.outputs_behind-outputs_at.ensures, c.requires); small = omega arith }
 
-pub fit-requires-2-clause-size_bound : goal.fit-requires-2-clause-size_bound
-unfolding nevers_at gates_at outputs_at
-fit-requires-2-clause-size_bound c =
-    let after-outputs-behind = c in
-    let start = c in
-    omega (arith, after-outputs-behind.outputs_behind-outputs_at.ensures, start.requires)
-
-pub fit-requires-2-clause-count_le_max_gates : goal.fit-requires-2-clause-count_le_max_gates
-unfolding nevers_at gates_at outputs_at
-fit-requires-2-clause-count_le_max_gates c =
-    let after-outputs-behind = c in
-    let start = c in
-    omega (arith, after-outputs-behind.outputs_behind-outputs_at.ensures, start.requires)
+pub fit-requires-2 : goal.fit-requires-2
+fit-requires-2 c = omega (arith, c.requires.k_le_max_outputs)
 
 pub returns-then-not-fit-2 : goal.returns-then-not-fit-2
 returns-then-not-fit-2 c =

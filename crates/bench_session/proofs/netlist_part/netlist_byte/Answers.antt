@@ -5,7 +5,8 @@ use Rattle.netlist.specs.Line.{lf}
 use lib.Dec.{eqb}
 use native.Mathlib.Omega.{arith}
 use mathlib.Core.Logic.{inl, inr}
-use Rattle.bench_session.proofs.netlist_part.netlist_byte.Goals.{else-fresh-via-then-fresh+else-byte-eq10, else-fresh-via-else-fresh}
+use Rattle.bench_session.proofs.netlist_part.netlist_byte.Goals.{else-fresh-via-then-fresh+else-byte-eq10}
+use Rattle.bench_session.proofs.netlist_part.netlist_byte.Goals.{else-fresh-via-else-fresh}
 use Rattle.bench_session.proofs.netlist_part.netlist_byte.Goals as goal
 
 pub returns-then-byte-eq10 : goal.returns-then-byte-eq10

@@ -6,22 +6,21 @@ use lib.Seq.{length-take-le}
 use Rattle.bench_session.proofs.NetlistSteps.{read-refused, read-legal, read_done}
 use Rattle.bench_session.proofs.netlist_part.open.Goals as goal
 
-pub slice_bounds-prepare-end : goal.slice_bounds-prepare-end
-slice_bounds-prepare-end c = (read-legal (take c.args.held c.args.text.now) c.args.words.now _ c.requires.1 _
+pub slice_bounds-block-end : goal.slice_bounds-block-end
+slice_bounds-block-end c = (read-legal (take c.args.held c.args.text.now) c.args.words.now _ c.requires.1 _
     c.read.ensures c.in-Ok.done c.in-Ok.is).0
 
-pub slice_bounds-prepare-end-in-Ok : goal.slice_bounds-prepare-end-in-Ok
-slice_bounds-prepare-end-in-Ok c = sym (length-take-le _ _ (read-legal (take c.args.held c.args.text.now) c.args.words.now _ c.requires.1 _
-    c.read.ensures c.in-Ok.done c.in-Ok.is).0)
+pub slice_bounds-block-end-in-Ok : goal.slice_bounds-block-end-in-Ok
+slice_bounds-block-end-in-Ok c =
+    let legal = read-legal (take c.args.held c.args.text.now) c.args.words.now _ c.requires.1 _ c.read.ensures
+    c.in-Ok.done c.in-Ok.is in
+    sym (length-take-le _ _ legal.0)
 
-pub prepare-requires : goal.prepare-requires
-prepare-requires c =
-    let bare = c.requires.3 in (
-      (read-legal (take c.args.held c.args.text.now) c.args.words.now _ c.requires.1 _
-          c.read.ensures c.in-Ok.done c.in-Ok.is).1,
-      bare.long,
-      bare.empty,
-    )
+pub invariant_of-block : goal.invariant_of-block
+invariant_of-block c =
+    let legal =
+    read-legal (take c.args.held c.args.text.now) c.args.words.now _ c.requires.1 _ c.read.ensures c.in-Ok.done c.in-Ok.is in
+    record { well_formed = legal.1 }
 
 pub returns-in-Err : goal.returns-in-Err
 returns-in-Err c =

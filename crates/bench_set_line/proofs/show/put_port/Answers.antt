@@ -23,10 +23,6 @@ byte-is c =
     rw (← c.inputs_of.ensures)
     (c.value_byte.ensures ∙ ap (λ (v : ℕ). value_text (value_of v)) c.shown_value-value.ensures)
 
-pub overflow_mul-port : goal.overflow_mul-port
-overflow_mul-port c =
-    omega (arith, c.requires.port_of.below, ports-near c.args.words.now c.requires.port_of.whole c.requires.port_of.start)
-
 pub overflow_add-port : goal.overflow_add-port
 overflow_add-port c =
     omega (arith, c.requires.port_of.below, ports-near c.args.words.now c.requires.port_of.whole c.requires.port_of.start)

@@ -11,25 +11,30 @@ use Rattle.bench_set_line.proofs.show.put_show.Goals as goal
 
 -- the three parts, from the header that was read
 parts : (c : After-outputs_of-k) → let a = c.args in
-    show_text a.words.now a.values.now
+    show_text a.block.now.words.now a.values.now
     ≡ ascii "(show"
-    ++ (pieces (port_piece a.words.now c.outputs_at-from.result a.values.now) c.outputs_of-k.result ++ ascii ")\n")
-parts c = show-of c.args.words.now c.args.values.now c.outputs_of-k.ensures c.outputs_at-from.ensures
+    ++ (pieces (port_piece a.block.now.words.now c.outputs_at-from.result a.values.now) c.outputs_of-k.result ++ ascii ")\n")
+parts c = show-of c.args.block.now.words.now c.args.values.now c.outputs_of-k.ensures c.outputs_at-from.ensures
 
 whole : (c : After-outputs_of-k) → let a = c.args in
     Short
     (ascii "(show"
-    ++ (pieces (port_piece a.words.now c.outputs_at-from.result a.values.now) c.outputs_of-k.result ++ ascii ")\n")) 0
+    ++ (pieces (port_piece a.block.now.words.now c.outputs_at-from.result a.values.now) c.outputs_of-k.result ++ ascii ")\n")) 0
 whole c =
-    rw (show-of c.args.words.now c.args.values.now c.outputs_of-k.ensures c.outputs_at-from.ensures)
-    at (show-short c.args.words.now c.args.values.now c.requires)
+    rw (show-of c.args.block.now.words.now c.args.values.now c.outputs_of-k.ensures c.outputs_at-from.ensures)
+    at (show-short c.args.block.now.words.now c.args.values.now c.args.block.now.well_formed)
 
 pub put_ports-filled-requires : goal.put_ports-filled-requires
 put_ports-filled-requires c =
     let rest = short-rest {xs = ascii "(show"} _ (whole (goal.at.put_ports-filled-requires c).After-outputs_of-k)
     c.put_all-opened.ensures in
     record {
-      ports_of = record { whole = c.requires; start = c.outputs_at-from.ensures; many = c.outputs_of-k.ensures };
+      ports_of = record {
+        whole = c.args.block.now.well_formed;
+        start = c.outputs_at-from.ensures;
+        many =
+            c.outputs_of-k.ensures;
+      };
       short = short-first _ rest;
     }
 

@@ -5,7 +5,7 @@ use Rattle.graph_gates.proofs.fanout.link_slots.Goals as goal
 
 pub link-requires : goal.link-requires
 link-requires c =
-    let g = c.requires.0 in
+    let g = c.args.graph.legal in
     record {
       below = omega (arith, g.few);
       inside = omega (arith, slot-inside g c.loop-e.e c.loop-e-test.true, g.few);
@@ -14,6 +14,6 @@ link-requires c =
 
 pub loop-e-preserved : goal.loop-e-preserved
 loop-e-preserved c =
-    let g = c.requires.0 in
+    let g = c.args.graph.legal in
     linking-next c.loop-e.e c.loop-e.invariant (omega (arith, g.few))
     (omega (arith, slot-inside g c.loop-e.e c.loop-e-test.true, g.few)) c.link.ensures

@@ -3,4 +3,4 @@ use Rattle.graph_gates.specs.Fanout.{Linking}
 use Rattle.graph_gates.proofs.fanout.link_slots.Given as goal
 
 abbrev pub invariant-loop-e : goal.invariant-loop-e
-invariant-loop-e l = Linking l.graph l.fanout l.e
+invariant-loop-e l = Linking l.graph.words.now l.fanout l.e

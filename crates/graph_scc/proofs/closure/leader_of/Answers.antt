@@ -8,7 +8,7 @@ returns c =
       ahead_room = c.reach_from.ensures.room;
       behind_room = c.reach_from-2.ensures.room;
       below =
-          found-below c.requires.0 c.requires.1 c.reach_from.ensures c.reach_from-2.ensures c.lowest_of_both.ensures;
+          found-below c.args.graph.legal c.requires c.reach_from.ensures c.reach_from-2.ensures c.lowest_of_both.ensures;
       answer =
-          leader-found c.requires.0 c.requires.1 c.reach_from.ensures c.reach_from-2.ensures c.lowest_of_both.ensures;
+          leader-found c.args.graph.legal c.requires c.reach_from.ensures c.reach_from-2.ensures c.lowest_of_both.ensures;
     }

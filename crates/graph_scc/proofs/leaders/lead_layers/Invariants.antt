@@ -6,4 +6,4 @@ use Rattle.graph_scc.proofs.leaders.lead_layers.Given as goal
 abbrev pub invariant-loop-k : goal.invariant-loop-k
 invariant-loop-k l =
     let s = l.layering in
-    LeadingOn (network s.gates s.graph.now) s.gates (layer_key s.ends.now s.positions.now) l.k l.firsts l.leaders
+    LeadingOn (network s.graph.gates s.graph.words.now) s.graph.gates (layer_key s.ends.now s.positions.now) l.k l.firsts l.leaders

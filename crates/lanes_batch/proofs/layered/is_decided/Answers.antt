@@ -1,5 +1,6 @@
 -- `lanes_batch::layered::is_decided` meets its contract: every gate of the part passes the test.
-use Rattle.std.proofs.Common.{◌≡◌, refl, ℕ, ◌+◌, ◌-◌, ◌<◌, ◌≤◌, ◌∙◌, List, Bool, true, sym, arith, rules, length, get_or, take, drop, length-drop}
+use Rattle.std.proofs.Common.{◌≡◌, refl, ℕ, ◌+◌, ◌-◌, ◌<◌, ◌≤◌, ◌∙◌, List, Bool, true, sym, arith, rules}
+use Rattle.std.proofs.Common.{length, get_or, take, drop, length-drop}
 use Rattle.std.proofs.lemmas.List.{get_or-take, get_or-drop, get_or_read_under}
 use Rattle.std.proofs.lemmas.Iterator.{YieldsList-from_slice}
 use Rattle.std.proofs.lemmas.Iterator.Adapters.{serves_from_places}

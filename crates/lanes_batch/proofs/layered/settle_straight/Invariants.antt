@@ -3,4 +3,4 @@ use Rattle.lanes_batch.specs.Layered.{StraightUnder}
 use Rattle.lanes_batch.proofs.layered.settle_straight.Given as goal
 
 abbrev pub invariant-loop-j : goal.invariant-loop-j
-invariant-loop-j l = StraightUnder l.m l.graph l.initial.lanes l.j l.lanes
+invariant-loop-j l = StraightUnder l.graph.gates l.graph.words.now l.initial.lanes l.j l.lanes

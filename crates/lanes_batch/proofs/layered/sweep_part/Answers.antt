@@ -17,11 +17,11 @@ within c =
     let p = place_inside a.back (a.end - a.from) c.loop-i.i c.loop-i-test.true in
     (omega arith, omega (arith, p, c.place_along.ensures))
 
-pub step-changed-requires : goal.step-changed-requires
-step-changed-requires c =
-    let w = within (goal.at.step-changed-requires c).After-place_along in
+pub invariant_of-gate : goal.invariant_of-gate
+invariant_of-gate c =
+    let w = within (goal.at.invariant_of-gate c).After-place_along in
     let at = c.args.from + c.place_along.result in
-    (c.requires.node at w.0 w.1, c.requires.few at w.0 w.1)
+    record { below = c.requires.few at w.0 w.1; legal = c.requires.node at w.0 w.1 }
 
 pub loop-i-preserved : goal.loop-i-preserved
 loop-i-preserved c =

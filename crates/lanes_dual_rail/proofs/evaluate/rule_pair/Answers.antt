@@ -1,7 +1,6 @@
 -- `lanes_dual_rail::evaluate::rule_pair` meets its contract, by the forced value.
 use borrow.Author.Tests.{ne_eqb}
 use Rattle.lanes_dual_rail.specs.LaneWords.{rule_pair}
-use borrow.Author.Rules.{rules}
 use Rattle.lanes_dual_rail.proofs.evaluate.rule_pair.Goals as goal
 
 pub returns-then-forced-eq0 : goal.returns-then-forced-eq0

@@ -4,14 +4,14 @@ use Rattle.theory_encoding.proofs.Readers.{whole_parts}
 use Rattle.lanes_batch.proofs.Layering.{settled-decoded, straight-decoded}
 use Rattle.lanes_settings.proofs.decided.judge_straight.Goals as goal
 
+pub invariant_of-decoded : goal.invariant_of-decoded
+invariant_of-decoded c = record { legal = rw c.gates_of.ensures c.requires.0.decoded.legal }
+
 pub decide_straight-requires : goal.decide_straight-requires
 decide_straight-requires c =
     let p = c.requires.0 in
     let few = (whole_parts c.args.words.now p.whole).few_inputs in record {
-      graph = (
-        rw c.gates_of-m.ensures p.decoded.legal,
-        rw c.gates_of-m.ensures (straight-decoded p.decoded p.straight),
-      );
+      straight = rw c.gates_of.ensures (straight-decoded p.decoded p.straight);
       n_le_max_inputs = (rw c.inputs_of-n.ensures few, c.requires.1);
     }
 
@@ -21,7 +21,7 @@ returns c =
     record {
       whole = p.whole;
       settled =
-          settled-decoded p.decoded (rw (c.gates_of-m.ensures, c.inputs_of-n.ensures) at c.decide_straight.ensures);
+          settled-decoded p.decoded (rw (c.gates_of.ensures, c.inputs_of-n.ensures) at c.decide_straight.ensures);
       inputs = refl;
       few_inputs = (whole_parts c.args.words.now p.whole).few_inputs;
       aligned = c.requires.1;

@@ -1,6 +1,6 @@
 -- `lanes_settings::lowest::unsettled_batch` meets its contract: every batch passed is settled where it may come, and
 -- the one at which the loops are left is not.
-use mathlib.Core.Path.{◌≡◌, ap, ◌∙◌}
+use mathlib.Core.Path.{◌≡◌, refl, ap, ◌∙◌}
 use mathlib.Core.Bool.{true}
 use Prim.Native.Nat.{ℕ, ◌+◌, ◌^◌, ◌≤◌, ◌<◌}
 use native.Mathlib.Omega.{arith}
@@ -15,14 +15,14 @@ use Rattle.lanes_settings.proofs.Batching.{found-unsound, batch-more}
 use Rattle.lanes_settings.proofs.lowest.unsettled_batch.Goals.{After-judge_batch, At-batches, In-batches, Start}
 use Rattle.lanes_settings.proofs.lowest.unsettled_batch.Goals as goal
 
-few : (s : Start) → get_or s.args.words.now 0 0 ≤ 12
-few s = (whole_parts s.args.words.now s.requires.whole).few_inputs
+few : (s : Start) → get_or s.args.block.words.now 0 0 ≤ 12
+few s = (whole_parts s.args.block.words.now s.args.block.planned.whole).few_inputs
 
 many : (l : At-batches)
-    → l.lane_count-batch.result ≡ lanes_of (get_or l.args.words.now 0 0)
+    → l.lane_count-batch.result ≡ lanes_of (get_or l.args.block.words.now 0 0)
 many l = l.lane_count-batch.ensures ∙ ap lanes_of l.inputs_of-n.ensures
 
-next : (d : After-judge_batch) → Place (get_or d.args.words.now 0 0) (d.batches.base + d.lane_count-batch.result)
+next : (d : After-judge_batch) → Place (get_or d.args.block.words.now 0 0) (d.batches.base + d.lane_count-batch.result)
 next d =
     place-next (d.lane_count-batch.ensures ∙ ap lanes_of d.inputs_of-n.ensures)
     (d.setting_count-count.ensures ∙ ap (λ (k : ℕ). 2 ^ k) d.inputs_of-n.ensures) d.batches.invariant.place
@@ -30,11 +30,11 @@ next d =
 
 pub batches-init : goal.batches-init
 batches-init c =
-    record { place = place-first (get_or c.args.words.now 0 0); sound = λ k l. absurd (omega arith) }
+    record { place = place-first (get_or c.args.block.words.now 0 0); sound = λ k l. absurd (omega arith) }
 
 pub undefined_lanes-requires : goal.undefined_lanes-requires
 undefined_lanes-requires c =
-    output-there c.args.words.now c.requires.whole c.inputs_of-n.ensures c.outputs_at-at.ensures c.loop-o.o
+    output-there c.args.block.words.now c.args.block.planned.whole c.inputs_of-n.ensures c.outputs_at-at.ensures c.loop-o.o
     (omega (arith, c.outputs_of-outputs.ensures, c.loop-o-test.true))
 
 pub batches-smaller : goal.batches-smaller
@@ -42,10 +42,10 @@ batches-smaller c = omega (arith, c.lane_count-batch.ensures, lanes_of-some c.in
 
 pub batches-preserved : goal.batches-preserved
 batches-preserved c =
-    let words = c.args.words.now in
+    let words = c.args.block.words.now in
     let all : (s : ℕ) → s < lanes_of (get_or words 0 0) → is_sound_at (decode words) (c.batches.base + s) ≡ true =
-    passed-sound c.judge_batch.ensures c.outputs_at-at.ensures c.inputs_of-n.ensures c.coming_lanes-coming.ensures
-    (λ o l. c.loop-o.invariant o (omega (arith, c.outputs_of-outputs.ensures))) in
+    passed-sound c.judge_batch.ensures c.outputs_at-at.ensures c.coming_lanes-coming.ensures
+    (λ o l. rw (← c.inputs_of-n.ensures) (c.loop-o.invariant o (omega (arith, c.outputs_of-outputs.ensures)))) in
     record {
       place = next (goal.at.batches-preserved c).After-judge_batch;
       sound =
@@ -63,9 +63,9 @@ returns-then-coming-undefined_lanes-ne0 c =
       whole = passed.place.whole;
       judged = λ i. j;
       some = λ i.
-          found-unsound j c.outputs_at-at.ensures c.inputs_of-n.ensures c.coming_lanes-coming.ensures c.loop-o.o
+          found-unsound j c.outputs_at-at.ensures c.coming_lanes-coming.ensures c.loop-o.o
           (omega (arith, c.outputs_of-outputs.ensures, c.loop-o-test.true))
-          (λ z. c.if-coming-undefined_lanes-ne0.true (rw c.undefined_lanes.ensures z));
+          (λ z. c.if-coming-undefined_lanes-ne0.true (rw (c.undefined_lanes.ensures, c.inputs_of-n.ensures) z));
       long = j.settled.filled.long;
     }
 

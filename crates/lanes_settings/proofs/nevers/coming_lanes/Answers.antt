@@ -3,4 +3,4 @@ use Rattle.lanes_settings.proofs.NeverLaws.{coming-tells}
 use Rattle.lanes_settings.proofs.nevers.coming_lanes.Goals as goal
 
 pub returns : goal.returns
-returns c = rw c.used_lanes.ensures (coming-tells _ c.excluded_lanes.ensures)
+returns c = rw (c.used_lanes.ensures, c.inputs_of.ensures) (coming-tells _ c.excluded_lanes.ensures)

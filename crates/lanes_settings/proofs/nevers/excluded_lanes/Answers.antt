@@ -1,5 +1,5 @@
 -- `lanes_settings::nevers::excluded_lanes` meets its contract: after i turns the word tells the first i lines.
-use mathlib.Core.Path.{◌≡◌}
+use mathlib.Core.Path.{◌≡◌, refl}
 use Prim.Native.Nat.{◌≤◌}
 use native.Mathlib.Omega.{arith}
 use lib.ListN.{get_or}
@@ -15,23 +15,22 @@ unfolding nevers_at
 small a =
     let s = a in (
       omega (arith, a.shared_slice_known-1.given 3, a.nevers_of-lines.ensures),
-      omega (arith, a.nevers_at-first.ensures, s.requires.few_inputs),
+      omega (arith, a.nevers_at-first.ensures, a.inputs_of.ensures, s.requires.few_inputs),
     )
 
 pub line_lanes-excluded-requires : goal.line_lanes-excluded-requires
 line_lanes-excluded-requires c =
     let s = c in
-    (s.requires.few_inputs, s.requires.aligned, omega (arith, small (goal.at.line_lanes-excluded-requires c).After-nevers_at-first))
+    (s.requires, omega (arith, small (goal.at.line_lanes-excluded-requires c).After-nevers_at-first))
 
 pub loop-i-preserved : goal.loop-i-preserved
 unfolding line_at
 loop-i-preserved c =
     let s = c in
     let h = c in
-    let stands = rw s.requires.inputs at h.nevers_at-first.ensures in (
+    let stands = rw c.inputs_of.ensures at h.nevers_at-first.ensures in (
       omega arith,
-      lines_more s.args.words.now h.loop-i.i s.requires.inputs h.loop-i.invariant.1
-          (rw stands at c.line_lanes-excluded.ensures),
+      lines_more s.args.words.now h.loop-i.i refl h.loop-i.invariant.1 (rw stands at c.line_lanes-excluded.ensures),
     )
 
 pub returns : goal.returns

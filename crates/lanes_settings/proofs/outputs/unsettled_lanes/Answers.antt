@@ -1,16 +1,12 @@
--- `lanes_settings::outputs::unsettled_lanes` meets its contract: after o turns it is the word of the first o outputs.
+-- `lanes_settings::outputs::unsettled_lanes` meets its contract: the word of the first outputs is made one by one.
 use mathlib.Core.Path.{refl}
-use native.Mathlib.Numerals.{add-one}
-use native.Mathlib.Omega.{arith}
+use borrow.Author.Rules.{rules}
+use lib.ListN.{get_or}
 use Rattle.lanes_settings.specs.Lanes.{unsettled_word}
 use Rattle.lanes_settings.proofs.outputs.unsettled_lanes.Goals as goal
 
-pub loop-o-init : goal.loop-o-init
+pub returns : goal.returns
 unfolding unsettled_word
-loop-o-init c = (omega arith, refl)
-
-pub loop-o-preserved : goal.loop-o-preserved
-unfolding unsettled_word
-loop-o-preserved c =
-    let l = c.loop-o in
-    (omega arith, rw (add-one l.o, l.invariant.1, c.undefined_lanes-unsettled.ensures))
+returns c =
+    let a = c.args in
+    c.any_lanes.ensures (unsettled_word a.words.now a.at a.n a.lanes.now) refl (λ o r h. search rules)

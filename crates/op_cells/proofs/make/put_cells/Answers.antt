@@ -7,62 +7,49 @@ use Rattle.netlist.specs.StoredBlock.{gate_size, operand_words, outputs_at}
 use Rattle.netlist.specs.Cells.{cell_size}
 use Rattle.theory_encoding.proofs.Readers.{whole_parts}
 use Rattle.op_settle.proofs.Codes.{legal-head}
-use Rattle.op_cells.proofs.Made.{made_none, made_more, made_all}
+use Rattle.op_cells.proofs.Made.{made_more, made_all}
 use Rattle.op_cells.proofs.make.put_cells.Goals.{In-loop-p}
 use Rattle.op_cells.proofs.make.put_cells.Goals as goal
 
 -- a cell more has room, and its gate's words are there
-inside : (c : In-loop-p) → let l = c in
-    (l.loop-p.p + cell_size ≤ c.args.count)
-    × (l.gates_at-start.result + l.loop-p.p + operand_words < length c.args.words.now)
+inside : (c : In-loop-p) → (c.loop-p.p + cell_size ≤ c.args.count)
+    × (c.gates_at-start.result + c.loop-p.p + operand_words < length c.args.block.now.words.now)
 unfolding outputs_at
 inside c =
-    let s = c in
-    let l = c in
-    let w = whole_parts s.args.words.now s.requires.words_value in
-    let more : l.loop-p.p + cell_size ≤ s.args.count =
-    omega (arith, c.loop-p-test.true, l.loop-p.invariant.whole, s.requires.count_value.0) in
-    (more, omega (arith, w.sized, l.gates_at-start.ensures, more, s.requires.count_value.0))
+    let w = whole_parts c.args.block.now.words.now c.args.block.now.well_formed in
+    let more : c.loop-p.p + cell_size ≤ c.args.count =
+    omega (arith, c.loop-p-test.true, c.loop-p.invariant.whole, c.requires.0) in
+    (more, omega (arith, w.sized, c.gates_at-start.ensures, more, c.requires.0))
+
+pub invariant_of-gate : goal.invariant_of-gate
+invariant_of-gate c =
+    let p = c.loop-p.p in
+    let place : gate_size * (p / cell_size) ≡ p = omega (arith, c.loop-p.invariant.whole) in
+    let head = legal-head c.args.block.now.words.now (p / cell_size) c.args.block.now.well_formed
+    (omega (arith, c.loop-p-test.true, c.requires.0)) in record {
+      legal = rw c.gates_at-start.ensures (rw place at head);
+      whole = (inside (goal.at.invariant_of-gate c).In-loop-p).1;
+    }
 
 pub put_cell-requires : goal.put_cell-requires
 put_cell-requires c =
-    let t = c in
-    let s = t in
-    let l = t in
-    let p = l.loop-p.p in
-    let place : gate_size * (p / cell_size) ≡ p = omega (arith, l.loop-p.invariant.whole) in
-    let head = legal-head s.args.words.now (p / cell_size) s.requires.words_value
-    (omega (arith, t.loop-p-test.true, s.requires.count_value.0)) in record {
-      legal_head = rw l.gates_at-start.ensures (rw place at head);
-      operand_words_in_bounds = ((inside (goal.at.put_cell-requires c).In-loop-p).1, rw l.loop-p.invariant.tabled.kept (omega (arith, (inside (goal.at.put_cell-requires c).In-loop-p).0, s.requires.count_value.1)));
-    }
+    let room = inside (goal.at.put_cell-requires c).In-loop-p in
+    rw c.loop-p.invariant.tabled.kept (omega (arith, room.0, c.requires.1))
 
 pub overflow_add-p : goal.overflow_add-p
-overflow_add-p c = let t = c in omega (arith, inside (goal.at.overflow_add-p c).In-loop-p)
-
-pub loop-p-smaller : goal.loop-p-smaller
-loop-p-smaller c = let t = c in omega (arith, t.loop-p-test.true)
+overflow_add-p c = omega (arith, inside (goal.at.overflow_add-p c).In-loop-p)
 
 pub loop-p-preserved : goal.loop-p-preserved
 loop-p-preserved c =
-    let t = c in
-    let s = t in
-    let l = t in
-    let done = c in
-    rw done.put_cell.ensures
-    (made_more s.requires.count_value.0 s.requires.count_value.1 l.gates_at-start.ensures t.loop-p-test.true l.loop-p.invariant)
+    rw c.put_cell.ensures
+    (made_more c.requires.0 c.requires.1 c.gates_at-start.ensures c.loop-p-test.true
+    c.loop-p.invariant)
 
 pub returns : goal.returns
-returns c =
-    let l = c in
-    let s = l in
-    made_all s.requires.count_value.0 (omega (arith, c.loop-p-test.false)) l.loop-p.invariant
+returns c = made_all c.requires.0 (omega (arith, c.loop-p-test.false)) c.loop-p.invariant
 
-pub loop-p-init : goal.loop-p-init
-loop-p-init c = made_none
-
-pub overflow_add-start : goal.overflow_add-start
-overflow_add-start c = omega (arith, inside (goal.at.overflow_add-start c).In-loop-p)
+pub overflow_add-gate : goal.overflow_add-gate
+overflow_add-gate c = omega (arith, inside (goal.at.overflow_add-gate c).In-loop-p)
 
 pub shape_of-cells : goal.shape_of-cells
 shape_of-cells c = c.loop-p.invariant.tabled.kept

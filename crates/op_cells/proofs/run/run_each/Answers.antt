@@ -10,17 +10,16 @@ use Rattle.op_cells.proofs.run.run_each.Goals as goal
 pub loop-j-init : goal.loop-j-init
 loop-j-init c = record { within = omega arith; filling = rw ran-none (filling-none _) }
 
-pub slice_bounds-cell_value-end-in-loop-j : goal.slice_bounds-cell_value-end-in-loop-j
-slice_bounds-cell_value-end-in-loop-j c = sym (length-take-le _ c.loop-j.values (omega arith))
+pub slice_bounds-known-end-in-loop-j : goal.slice_bounds-known-end-in-loop-j
+slice_bounds-known-end-in-loop-j c = sym (length-take-le _ c.loop-j.values (omega arith))
 
-pub cell_value-found-requires : goal.cell_value-found-requires
-cell_value-found-requires c =
-    let s = c in
-    let t = c.loop-j in record {
-      at_lt_count_room = omega arith;
-      reads_bits = record {
-        of_setting = s.requires.bits;
-        of_found = found-bits _ _ _ s.args.values.now t.values t.j t.invariant.filling;
+pub invariant_of-known : goal.invariant_of-known
+invariant_of-known c =
+    let t = c.loop-j in
+    record {
+      bits = record {
+        of_setting = c.requires.bits;
+        of_found = found-bits _ _ _ c.args.values.now t.values t.j t.invariant.filling;
       };
     }
 

@@ -1,12 +1,8 @@
 -- `op_compare::interface::are_same` meets its contract: the names passed are the same.
-use mathlib.Core.Path.{◌≡◌, refl}
-use mathlib.Core.Bool.{Bool, true}
-use Prim.Native.Nat.{ℕ, ◌≤◌, ◌+◌, ◌-◌, ◌*◌}
-use native.Mathlib.Omega.{arith}
-use borrow.Author.Rules.{rules}
+use mathlib.Core.Path.{◌≡◌}
+use mathlib.Core.Bool.{true}
+use Prim.Native.Nat.{◌≤◌}
 use Rattle.prelude.specs.Lists.{all, up_to}
-use Rattle.prelude.proofs.Tested.{passes, fails, passed}
-use Rattle.words_block.proofs.NameLaws.{place-le}
 use Rattle.op_compare.specs.Interface.{same_name_at}
 use Rattle.op_compare.proofs.interface.are_same.Given as goal
 

@@ -14,7 +14,7 @@ pub record Agreeing (ours theirs : List ℕ) (n base : ℕ) : Type 0 where
   pub none : (i : ℕ) → i < base → disagrees (decode ours) (decode theirs) i ≡ false
 
 abbrev pub invariant-loop-base : goal.invariant-loop-base
-invariant-loop-base l = Agreeing l.ours l.theirs l.n l.base
+invariant-loop-base l = Agreeing l.ours.words.now l.theirs l.n l.base
 
 abbrev pub decreases-loop-base : goal.decreases-loop-base
 decreases-loop-base l = l.count - l.base

@@ -1,6 +1,5 @@
 -- `op_compare_cells::choice::cell_word` meets its contract, which is its code.
 use mathlib.Core.Path.{refl}
-use borrow.Author.Rules.{rules}
 use Rattle.op_compare_cells.specs.Choices.{cell_word}
 use Rattle.op_compare_cells.proofs.choice.cell_word.Goals as goal
 

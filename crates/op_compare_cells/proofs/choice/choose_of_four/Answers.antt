@@ -1,6 +1,5 @@
 -- `op_compare_cells::choice::choose_of_four` meets its contract, which is its code.
 use mathlib.Core.Path.{refl}
-use borrow.Author.Rules.{rules}
 use Rattle.op_compare_cells.specs.Choices.{four_word}
 use Rattle.op_compare_cells.proofs.choice.choose_of_four.Goals as goal
 

@@ -1,19 +1,11 @@
 -- `op_compare_cells::evaluate::evaluate_cells` meets its contract: with the inputs' words in place, each cell reads
 -- only places that have theirs.
-use mathlib.Core.Path.{◌≡◌}
-use Prim.Native.Nat.{◌-◌, ◌≤◌}
 use native.Mathlib.Omega.{arith}
-use borrow.Author.Rules.{rules}
-use Rattle.op_compare_cells.specs.Table.{count_in, table_cells}
-use Rattle.op_compare_cells.specs.CellLanes.{Evaluated}
 use Rattle.op_compare_cells.proofs.Evaluating.{places-there, evaluated-more}
 use Rattle.op_compare_cells.proofs.evaluate.evaluate_cells.Goals as goal
 
 pub loop-j-init : goal.loop-j-init
 loop-j-init c = (omega arith, c.put_inputs.ensures.ready _)
-
-pub overflow_cast-count : goal.overflow_cast-count
-overflow_cast-count c = let s = c in omega (arith, s.requires.2.few)
 
 pub cell_word_at-requires : goal.cell_word_at-requires
 cell_word_at-requires c =
@@ -36,9 +28,3 @@ loop-j-preserved c =
           test.loop-j-test.true
           turn.loop-j.invariant.1 inputs.used_lanes-used.ensures c.cell_word_at.ensures,
     )
-
-pub returns : goal.returns
-returns c =
-    let l = c in
-    let all : l.loop-j.j ≡ count_in l.args.table.now = omega arith in
-    rw all at l.loop-j.invariant.1

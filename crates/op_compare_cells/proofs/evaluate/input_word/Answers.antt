@@ -1,5 +1,4 @@
 -- `op_compare_cells::evaluate::input_word` meets its contract: the input's pattern at the lanes in use.
-use borrow.Author.Rules.{rules}
 use borrow.Author.Tests.{lt-ltb, le-ltb}
 use Rattle.op_compare_cells.specs.CellLanes.{input_word}
 use Rattle.op_compare_cells.proofs.evaluate.input_word.Goals as goal

@@ -1,16 +1,9 @@
 -- `op_compare_cells::evaluate::put_inputs` meets its contract: the constants first, then input after input.
 use mathlib.Core.Path.{◌≡◌}
-use Prim.Native.Nat.{◌-◌, ◌≤◌}
 use native.Mathlib.Omega.{arith}
-use borrow.Author.Rules.{rules}
 use Rattle.netlist.specs.Limits.{max_inputs}
-use Rattle.op_compare_cells.specs.CellLanes.{Filled}
-use Rattle.op_compare_cells.proofs.Evaluating.{filled-first, filled_more, inputs_in}
+use Rattle.op_compare_cells.proofs.Evaluating.{filled_more, inputs_in}
 use Rattle.op_compare_cells.proofs.evaluate.put_inputs.Goals as goal
-
-pub loop-i-init : goal.loop-i-init
-loop-i-init c =
-    (omega arith, filled-first c.args.n c.args.base c.args.nodes.now (omega arith) c.used_lanes.ensures)
 
 pub loop-i-preserved : goal.loop-i-preserved
 loop-i-preserved c =

@@ -1,11 +1,7 @@
 -- `op_compare_cells::evaluate::put_inputs` meets its contract: the constants first, then input after input.
-use mathlib.Core.Path.{◌≡◌}
-use Prim.Native.Nat.{◌-◌, ◌≤◌}
-use native.Mathlib.Omega.{arith}
-use borrow.Author.Rules.{rules}
+use Prim.Native.Nat.{◌≤◌}
 use Rattle.netlist.specs.Limits.{max_inputs}
 use Rattle.op_compare_cells.specs.CellLanes.{Filled}
-use Rattle.op_compare_cells.proofs.Evaluating.{filled-first, filled_more, inputs_in}
 use Rattle.op_compare_cells.proofs.evaluate.put_inputs.Given as goal
 
 abbrev pub invariant-loop-i : goal.invariant-loop-i

@@ -1,5 +1,4 @@
 -- `op_compare_cells::list::check_length` meets its contract.
-use borrow.Author.Rules.{rules}
 use Rattle.theory_encoding.proofs.Decoded.{decode-output_count}
 use Rattle.op_compare_cells.proofs.list.check_length.Goals as goal
 

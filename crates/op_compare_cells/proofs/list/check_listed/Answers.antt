@@ -1,6 +1,5 @@
 -- `op_compare_cells::list::check_listed` meets its contract: the nodes are the inputs and the cells.
 use native.Mathlib.Omega.{arith}
-use borrow.Author.Rules.{rules}
 use Rattle.netlist.specs.Cells.{cell_count}
 use Rattle.netlist.specs.CompareCells.{is_listed}
 use Rattle.theory_encoding.proofs.Decoded.{decode-input_count}
@@ -15,8 +14,8 @@ overflow_add-nodes c =
     omega (
       arith,
       c.inputs_of.ensures,
-      (whole_parts s.args.words.now s.requires.0).few_inputs,
-      legal-short _ s.args.cells.now s.requires.1,
+      (whole_parts s.args.block.now.words.now s.args.block.now.well_formed).few_inputs,
+      legal-short _ s.args.cells.now s.requires,
     )
 
 pub returns : goal.returns
@@ -24,5 +23,5 @@ unfolding is_listed cell_count is_below
 returns c =
     let below = c in
     let known = below in
-    rw (decode-input_count known.args.words.now, ← known.inputs_of.ensures, ← below.all_below.ensures)
+    rw (decode-input_count known.args.block.now.words.now, ← known.inputs_of.ensures, ← below.all_below.ensures)
     c.refuse_if.ensures

@@ -1,24 +1,14 @@
 -- `op_compare_cells::table::decode_cells` meets its contract: word after word is made.
 use mathlib.Core.Path.{◌≡◌, refl}
-use Prim.Native.Nat.{◌-◌, ◌≤◌}
 use native.Mathlib.Omega.{arith}
-use borrow.Author.Rules.{rules}
 use lib.ListN.{length}
 use Rattle.netlist.specs.Cells.{cell_count}
-use Rattle.op_compare_cells.specs.Table.{Tabled}
-use Rattle.op_compare_cells.proofs.Decoding.{LegalParts, legal-parts, tabled-none, tabled-more, tabled-count}
+use Rattle.op_compare_cells.proofs.Decoding.{LegalParts, legal-parts, tabled-more, tabled-count}
 use Rattle.op_compare_cells.proofs.table.decode_cells.Goals.{At-loop-p}
 use Rattle.op_compare_cells.proofs.table.decode_cells.Goals as goal
 
 legal : (c : At-loop-p) → let a = c.args in LegalParts a.n a.cells.now
 legal c = legal-parts c.args.n c.args.cells.now c.requires
-
-pub loop-p-init : goal.loop-p-init
-loop-p-init c =
-    (omega arith, tabled-none (legal-parts c.args.n c.args.cells.now c.requires) (omega arith))
-
-pub offset_bounds-table-p : goal.offset_bounds-table-p
-offset_bounds-table-p c = let few = legal (goal.at.offset_bounds-table-p c).At-loop-p in omega arith
 
 pub bounds-table-p : goal.bounds-table-p
 bounds-table-p c = let few = legal (goal.at.bounds-table-p c).At-loop-p in omega arith

@@ -1,12 +1,7 @@
 -- `op_compare_cells::table::decode_cells` meets its contract: word after word is made.
-use mathlib.Core.Path.{◌≡◌, refl}
-use Prim.Native.Nat.{◌-◌, ◌≤◌}
-use native.Mathlib.Omega.{arith}
-use borrow.Author.Rules.{rules}
+use Prim.Native.Nat.{◌≤◌}
 use lib.ListN.{length}
-use Rattle.netlist.specs.Cells.{cell_count}
 use Rattle.op_compare_cells.specs.Table.{Tabled}
-use Rattle.op_compare_cells.proofs.Decoding.{LegalParts, legal-parts, tabled-none, tabled-more, tabled-count}
 use Rattle.op_compare_cells.proofs.table.decode_cells.Given as goal
 
 abbrev pub invariant-loop-p : goal.invariant-loop-p

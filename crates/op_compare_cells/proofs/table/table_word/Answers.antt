@@ -6,7 +6,6 @@ use lib.ListN.{get_or}
 use Rattle.netlist.specs.StoredBlock.{operand_of}
 use Rattle.graph_gates.specs.Places.{place_of}
 use native.Mathlib.Omega.{arith}
-use borrow.Author.Rules.{rules}
 use borrow.Author.Tests.{eq-eqb, ne_eqb}
 use Rattle.op_compare_cells.specs.Table.{table_word}
 use Rattle.op_compare_cells.proofs.Decoding.{legal-parts, place-small}
@@ -24,11 +23,6 @@ small c =
 pub returns-then-p-eq-OPERAND_WORDS : goal.returns-then-p-eq-OPERAND_WORDS
 unfolding table_word
 returns-then-p-eq-OPERAND_WORDS c = rw (eq-eqb _ _ c.if-p-eq-OPERAND_WORDS.true)
-
-pub overflow_cast-word : goal.overflow_cast-word
-overflow_cast-word c =
-    let known = c in
-    omega (arith, known.shared_slice_known-2-1.given known.args.p)
 
 pub place_of-requires : goal.place_of-requires
 place_of-requires c =

@@ -13,8 +13,11 @@ use Rattle.op_cover.proofs.everywhere.are_all_settled.Goals as goal
 
 pub returns : goal.returns
 returns c =
-    let settled = c.args.settled.now in
-    let e = shifted c.requires.0 in
+    let settings = c.args.settings.now in
+    let settled = settings.settled.now in
+    let n = settings.inputs in
+    let e = shifted settings.few in
+    let front = c.iter.ensures.rest ∙ ap (λ (k : ℕ). take k settled) e in
     all_from_yields_List (λ byte. eqb byte 1) _ _ _ c.all.ensures.ran
-    (YieldsList-from_slice (take (2 ^ c.args.n) settled) (c.iter.ensures.rest ∙ ap (λ (k : ℕ). take k settled) e)) (λ x b q k. search (rules, tests))
-    ∙ settled-front settled (2 ^ c.args.n) c.requires.1
+    (YieldsList-from_slice (take (2 ^ n) settled) front) (λ x b q k. search (rules, tests))
+    ∙ settled-front settled (2 ^ n) settings.room

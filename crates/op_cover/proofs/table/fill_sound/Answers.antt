@@ -10,7 +10,7 @@ use Rattle.theory_encoding.proofs.Readers.{whole_parts}
 use Rattle.lanes_dual_rail.specs.Batches.{lanes_of}
 use Rattle.lanes_dual_rail.proofs.InputLaws.{lanes_of-most}
 use Rattle.lanes_settings.proofs.Counting.{few-settings}
-use Rattle.lanes_settings.proofs.Batching.{Place, place-first, place-next, lanes_of-some, tells-from}
+use Rattle.lanes_settings.proofs.Batching.{Place, place-first, place-next, lanes_of-some}
 use Rattle.op_cover.proofs.Flags.{flagged-placed}
 use Rattle.op_cover.proofs.table.fill_sound.Goals.{After-judge_batch}
 use Rattle.op_cover.proofs.table.fill_sound.Goals as goal
@@ -31,39 +31,27 @@ inside count n l = omega (arith, all-settings count n, l)
 
 -- it ends where there are bytes for it
 room : (d : After-judge_batch)
-    → (d.loop-base.base + lanes_of (get_or d.args.words.now 0 0) ≤ length d.args.sound.now)
+    → (d.loop-base.base + lanes_of (get_or d.args.block.words.now 0 0) ≤ length d.args.sound.now)
     × (d.loop-base.base < 4294967296)
 room d =
     let h = inside d.setting_count-count.ensures d.inputs_of-n.ensures d.loop-base-test.true in
-    let most = few-settings (get_or d.args.words.now 0 0) (few _ d.requires.0.whole) in
-    (omega (arith, d.loop-base.invariant.place.whole h, d.requires.1), omega (arith, h, most))
+    let most = few-settings (get_or d.args.block.words.now 0 0) (few _ d.args.block.planned.whole) in
+    (omega (arith, d.loop-base.invariant.place.whole h, d.requires), omega (arith, h, most))
 
-next : (d : After-judge_batch) → Place (get_or d.args.words.now 0 0) (d.loop-base.base + d.lane_count-batch.result)
+next : (d : After-judge_batch) → Place (get_or d.args.block.words.now 0 0) (d.loop-base.base + d.lane_count-batch.result)
 next d =
     place-next (many d.lane_count-batch.ensures d.inputs_of-n.ensures)
     (all-settings d.setting_count-count.ensures d.inputs_of-n.ensures) d.loop-base.invariant.place d.loop-base-test.true
 
 pub loop-base-init : goal.loop-base-init
-loop-base-init c = record { place = place-first (get_or c.args.words.now 0 0); flags = refl; same = refl }
-
-pub judge_batch-requires : goal.judge_batch-requires
-judge_batch-requires c = (
-  c.requires.0,
-  c.loop-base.invariant.place.aligned
-      (inside c.setting_count-count.ensures c.inputs_of-n.ensures c.loop-base-test.true),
-)
+loop-base-init c = record { place = place-first (get_or c.args.block.words.now 0 0); flags = refl; same = refl }
 
 pub write_flags-requires : goal.write_flags-requires
 write_flags-requires c =
     let r = room (goal.at.write_flags-requires c).After-judge_batch in
     let e = many c.lane_count-batch.ensures c.inputs_of-n.ensures in
-    let most = lanes_of-most (get_or c.args.words.now 0 0) in
+    let most = lanes_of-most (get_or c.args.block.words.now 0 0) in
     (omega (arith, e, most), r.1, omega (arith, e, r.0, c.loop-base.invariant.same))
-
-pub overflow_add-base : goal.overflow_add-base
-overflow_add-base c =
-    let after = next (goal.at.overflow_add-base c).After-judge_batch in
-    omega (arith, after.within, few-settings (get_or c.args.words.now 0 0) (few _ c.requires.0.whole))
 
 pub loop-base-smaller : goal.loop-base-smaller
 loop-base-smaller c =
@@ -73,28 +61,14 @@ pub loop-base-preserved : goal.loop-base-preserved
 loop-base-preserved c =
     let d = (goal.at.loop-base-preserved c).After-judge_batch in
     let e = many c.lane_count-batch.ensures c.inputs_of-n.ensures in
-    let tells = tells-from c.inputs_of-n.ensures c.sound_lanes-word.ensures in
     record {
       place = next d;
       flags =
           c.write_flags.ensures
-          ∙ flagged-placed (decode c.args.words.now) c.args.sound.now e tells (room d).0 c.loop-base.invariant.flags;
+          ∙ flagged-placed (decode c.args.block.words.now) c.args.sound.now e c.sound_lanes.ensures (room d).0
+          c.loop-base.invariant.flags;
       same = c.write_flags.auto.flags ∙ c.loop-base.invariant.same;
     }
 
-pub returns : goal.returns
-returns c =
-    let l = c.loop-base in
-    let settings = all-settings c.setting_count-count.ensures c.inputs_of-n.ensures in
-    let all : l.base ≡ 2 ^ get_or c.args.words.now 0 0 =
-    omega (arith, settings, l.invariant.place.within, c.loop-base-test.false) in
-    rw (← all) l.invariant.flags
-
 pub setting_count-count-requires : goal.setting_count-count-requires
-setting_count-count-requires c = rw c.inputs_of-n.ensures (few _ c.requires.0.whole)
-
-pub sound_lanes-word-requires : goal.sound_lanes-word-requires
-sound_lanes-word-requires c = rw c.inputs_of-n.ensures c.judge_batch.ensures
-
-pub shape_of-sound : goal.shape_of-sound
-shape_of-sound c = c.loop-base.invariant.same
+setting_count-count-requires c = rw c.inputs_of-n.ensures (few _ c.args.block.planned.whole)

@@ -17,7 +17,7 @@ pub record Filling (words sound₀ sound : List ℕ) (base : ℕ) : Type 0 where
 
 abbrev pub invariant-loop-base : goal.invariant-loop-base
 invariant-loop-base l =
-    Filling l.words l.initial.sound l.sound l.base
+    Filling l.block.words.now l.initial.sound l.sound l.base
 
 abbrev pub decreases-loop-base : goal.decreases-loop-base
 decreases-loop-base l = l.count - l.base

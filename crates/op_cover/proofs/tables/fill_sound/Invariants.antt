@@ -7,4 +7,6 @@ use Rattle.op_cover.proofs.tables.fill_sound.Given as goal
 
 abbrev pub invariant-loop-setting : goal.invariant-loop-setting
 invariant-loop-setting l =
-    (l.setting ≤ 2 ^ l.n) × (l.count ≡ 2 ^ l.n) × (length l.sound ≡ length l.initial.sound) × Filled l.settled l.sound l.n l.setting l.k
+    let settings = l.settings in
+    (l.setting ≤ 2 ^ settings.inputs) × (l.count ≡ 2 ^ settings.inputs) × (length l.sound ≡ length l.initial.sound)
+    × Filled settings.settled.now l.sound settings.inputs l.setting l.k

@@ -1,7 +1,7 @@
 -- `tables::fill_weights` meets its contract: the weights of the masks passed are right, and a mask's half is one of
 -- them.
 use Prim.Native.Nat.{◌+◌, ◌*◌, ◌/◌, ◌%◌, ◌^◌, ◌<◌}
-use mathlib.Core.Path.{refl, ◌∙◌}
+use mathlib.Core.Path.{refl}
 use native.Mathlib.Omega.{arith}
 use lib.ListN.{length, get_or, length-set}
 use lib.Pow.{pow_pos}
@@ -44,6 +44,7 @@ pub loop-mask-preserved : goal.loop-mask-preserved
 loop-mask-preserved c =
     let loop = c.loop-mask in
     let l = c.loop-mask-test.true in
+    let inside = facts (goal.at.loop-mask-preserved c).In-loop-mask in
     record {
       some = omega arith;
       within = omega (arith, l, loop.invariant.counts);
@@ -51,11 +52,8 @@ loop-mask-preserved c =
       same_length = simp length-set (simp length-set at loop.invariant.same_length);
       right =
           weights-next loop.weights c.args.n loop.mask loop.invariant.right
-          (omega (arith, loop.invariant.some)) (omega (arith, l, loop.invariant.counts)) (facts (goal.at.loop-mask-preserved c).In-loop-mask).0;
+          (omega (arith, loop.invariant.some)) (omega (arith, l, loop.invariant.counts)) inside.0;
     }
-
-pub shape_of-weights : goal.shape_of-weights
-shape_of-weights c = c.loop-mask.invariant.same_length ∙ simp length-set
 
 pub returns : goal.returns
 returns c =
@@ -67,26 +65,8 @@ returns c =
       right = λ m l. loop.invariant.right m (omega (arith, loop.invariant.counts, c.loop-mask-test.false));
     }
 
-pub bounds-weights-0 : goal.bounds-weights-0
-bounds-weights-0 c = omega (arith, pow_pos c.args.n, c.requires.1)
-
-pub offset_bounds-weights-mask : goal.offset_bounds-weights-mask
-offset_bounds-weights-mask c = omega (arith, facts (goal.at.offset_bounds-weights-mask c).In-loop-mask)
-
-pub bounds-weights-mask : goal.bounds-weights-mask
-bounds-weights-mask c = omega (arith, facts (goal.at.bounds-weights-mask c).In-loop-mask)
-
 pub overflow_mul-weights : goal.overflow_mul-weights
 overflow_mul-weights c = omega (arith, facts (goal.at.overflow_mul-weights c).In-loop-mask)
 
-pub overflow_cast-weights : goal.overflow_cast-weights
-overflow_cast-weights c = omega (arith, facts (goal.at.overflow_cast-weights c).In-loop-mask)
-
 pub overflow_add-weights : goal.overflow_add-weights
 overflow_add-weights c = omega (arith, facts (goal.at.overflow_add-weights c).In-loop-mask)
-
-pub offset_bounds-weights-mask-in-loop-mask : goal.offset_bounds-weights-mask-in-loop-mask
-offset_bounds-weights-mask-in-loop-mask c = omega (arith, facts (goal.at.offset_bounds-weights-mask-in-loop-mask c).In-loop-mask)
-
-pub bounds-weights-mask-in-loop-mask : goal.bounds-weights-mask-in-loop-mask
-bounds-weights-mask-in-loop-mask c = omega (arith, facts (goal.at.bounds-weights-mask-in-loop-mask c).In-loop-mask)

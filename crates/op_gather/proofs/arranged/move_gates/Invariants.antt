@@ -8,5 +8,6 @@ use Rattle.op_gather.proofs.arranged.move_gates.Given as goal
 
 abbrev pub invariant-loop-t : goal.invariant-loop-t
 invariant-loop-t l =
-    (l.out ≡ sets l.initial.out l.nodes.start (joined (tab (moved_at l.words l.nodes l.order l.table) l.t)))
+    let m = l.mapping in
+    (l.out ≡ sets l.initial.out m.nodes.start (joined (tab (moved_at m.words.now m.nodes l.order m.table.now) l.t)))
     × (length l.out ≡ length l.initial.out)

@@ -2,7 +2,6 @@
 -- outputs, one after the other, are the encoding of the arranged block.
 use native.Mathlib.Omega.{arith}
 use Rattle.op_gather.proofs.Written.{ordered-as, Sizes, sizes, arranged-written}
-use borrow.Author.Rules.{rules}
 use Rattle.op_gather.proofs.arranged.write_arranged.Goals.{After-nodes_of-nodes}
 use Rattle.op_gather.proofs.arranged.write_arranged.Goals as goal
 
@@ -22,6 +21,14 @@ pub copy_words-requires : goal.copy_words-requires
 copy_words-requires c =
     let p = c in
     omega (arith, known (goal.at.copy_words-requires c).After-nodes_of-nodes, p.requires.room)
+
+pub invariant_of-mapping : goal.invariant_of-mapping
+invariant_of-mapping c =
+    let sizes = known (goal.at.invariant_of-mapping c).After-nodes_of-nodes in
+    record {
+      few = omega (arith, sizes);
+      listed = omega (arith, sizes, c.requires.table_room, c.fill_table.auto.table);
+    }
 
 pub move_gates-requires : goal.move_gates-requires
 move_gates-requires c =

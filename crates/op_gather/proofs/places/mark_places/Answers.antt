@@ -2,6 +2,7 @@
 -- that is not below m or is marked already is not in a list of each once.
 use mathlib.Core.Path.{◌≡◌}
 use native.Mathlib.Omega.{arith}
+use lib.ListN.{length}
 use Rattle.op_gather.proofs.Marks.{places-high, places-again, places-all, marked_next}
 use Rattle.op_gather.proofs.places.mark_places.Goals as goal
 
@@ -22,5 +23,5 @@ loop-t-preserved c =
 
 pub returns : goal.returns
 returns c =
-    let all : c.loop-t.t ≡ c.args.m = omega arith in
+    let all : c.loop-t.t ≡ length c.args.order.now = omega arith in
     places-all _ _ c.loop-t.places c.requires.length_is (rw all at c.loop-t.invariant)

@@ -1,9 +1,8 @@
 -- `op_gather::places::mark_places` meets its contract: the first t numbers are marked, each at its place, and a number
 -- that is not below m or is marked already is not in a list of each once.
-use mathlib.Core.Path.{◌≡◌}
 use lib.ListN.{length}
 use Rattle.op_gather.specs.Places.{PlacesMarked}
 use Rattle.op_gather.proofs.places.mark_places.Given as goal
 
 abbrev pub invariant-loop-t : goal.invariant-loop-t
-invariant-loop-t l = PlacesMarked l.m l.order l.t l.places
+invariant-loop-t l = PlacesMarked (length l.order) l.order l.t l.places

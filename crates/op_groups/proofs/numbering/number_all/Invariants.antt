@@ -10,7 +10,8 @@ use Rattle.op_groups.proofs.numbering.number_all.Given as goal
 abbrev pub invariant-loop-g : goal.invariant-loop-g
 invariant-loop-g l =
     record {
-      within : l.g ≤ length (groups (network l.m l.graph));
-      numbered : NumberedUpTo l.m l.graph l.g l.numbers;
-      waiting : Waiting l.m l.leaders l.numbers l.m (all_open l.graph l.leaders l.numbers) l.counts l.ready.words;
+      within : l.g ≤ length (groups (network l.groups.graph.gates l.groups.graph.words.now));
+      numbered : NumberedUpTo l.groups.graph.gates l.groups.graph.words.now l.g l.numbers;
+      waiting : Waiting l.groups.graph.gates l.groups.leaders.now l.numbers l.groups.graph.gates
+          (all_open l.groups.graph.words.now l.groups.leaders.now l.numbers) l.waiting.counts l.waiting.ready.words;
     }

@@ -5,7 +5,8 @@ use Rattle.op_groups.proofs.numbering.number_group.Given as goal
 
 abbrev pub invariant-loop-k : goal.invariant-loop-k
 invariant-loop-k l =
-    Under l.turn.gates l.turn.leader l.turn.number l.graph l.leaders l.initial.numbers l.numbers l.counts l.ready.words l.k
+    Under l.groups.graph.gates l.leader l.number l.groups.graph.words.now l.groups.leaders.now l.initial.numbers l.numbers
+    l.waiting.counts l.waiting.ready.words l.k
 
 abbrev pub decreases-loop-k : goal.decreases-loop-k
-decreases-loop-k l = l.turn.gates - l.k
+decreases-loop-k l = l.groups.graph.gates - l.k

@@ -4,4 +4,4 @@ use Rattle.op_pass.proofs.Sweeps.{Sweeping}
 use Rattle.op_pass.proofs.sweep.sweep_gates.Given as goal
 
 abbrev pub invariant-loop-j : goal.invariant-loop-j
-invariant-loop-j l = (l.j ≤ l.m) × Sweeping l.m l.graph l.initial.values l.values l.j
+invariant-loop-j l = (l.j ≤ l.graph.gates) × Sweeping l.graph.gates l.graph.words.now l.initial.values l.values l.j

@@ -5,28 +5,15 @@ use Rattle.op_pass.proofs.sweep.sweep_into.Goals as goal
 
 pub put_setting-requires : goal.put_setting-requires
 put_setting-requires c =
-    let start = c in
-    (blank, start.requires.1)
+    (blank, c.requires.0)
 
-pub sweep_gates-requires : goal.sweep_gates-requires
-sweep_gates-requires c =
-    let d = c in
-    let m = c in (
-      d.gate_table-table.ensures,
-      rw m.gates_of-m.ensures d.decode_gates.ensures.legal,
-      m.put_setting.ensures.unsettled,
-    )
+pub invariant_of-decoded : goal.invariant_of-decoded
+invariant_of-decoded c = record { legal = rw c.gates_of-m.ensures c.decode_gates.ensures.legal }
 
 pub returns : goal.returns
 returns c =
-    let start = c in
-    let t = c in
-    let w = t in
-    let m = c in
-    let p = m in
-    let d = p in
-    let a = start.args in record {
-      out_after = swept-bytes a.words.now a.setting.now a.out.now d.decode_gates.ensures
-          p.put_setting.ensures _ m.gates_of-m.ensures w.sweep_gates.ensures t.take_gates.ensures;
-      value = m.gates_of-m.ensures;
+    let a = c.args in record {
+      out_after = swept-bytes a.block.now.words.now a.setting.now a.out.now c.decode_gates.ensures
+          c.put_setting.ensures _ c.gates_of-m.ensures c.sweep_gates.ensures c.take_gates.ensures;
+      value = c.gates_of-m.ensures;
     }

@@ -1,7 +1,6 @@
 -- `op_read::steps::earlier_repeat` meets its contract.
 use Rattle.netlist.specs.declared.Refusal.TheVariants.{DuplicateDeclaration}
 use Rattle.op_read.proofs.TestPlaces.{repeat-tells, other-alone, one-alone, one-first, other-first}
-use borrow.Author.Rules.{rules}
 use Rattle.op_read.proofs.steps.earlier_repeat.Goals as goal
 
 pub returns-in_default : goal.returns-in_default

@@ -2,7 +2,6 @@
 use native.Mathlib.Omega.{arith}
 use Rattle.netlist.specs.StoredBlock.{nevers_at, gates_at, outputs_at}
 use Rattle.op_read.proofs.Stages.{few, put-ready, all_words, no_room, fits, all-written}
-use borrow.Author.Rules.{rules}
 use Rattle.op_read.proofs.steps.finish.Goals as goal
 
 pub outputs_behind-requires : goal.outputs_behind-requires

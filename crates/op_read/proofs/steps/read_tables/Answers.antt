@@ -1,23 +1,15 @@
 -- `op_read::steps::read_tables` meets its contract: the tables, 4 as the lesser of two places, 5 in never lines, and
 -- then the rest.
 use native.Mathlib.Omega.{arith}
-use mathlib.Core.Path.{sym}
 use Prim.Native.Nat.{◌+◌}
 use Rattle.netlist.specs.Limits.{max_inputs, max_gates}
 use Rattle.theory_fixpoint.proofs.ListFacts.{get_d-replicate-default}
 use Rattle.text_names.specs.Index.{hashes}
 use Rattle.op_read.proofs.Stages.{room_for, index-ready, twice, outsider, terms-ready}
-use borrow.Author.Rules.{rules}
 use Rattle.op_read.proofs.steps.read_tables.Goals as goal
 
 pub declare-requires : goal.declare-requires
 declare-requires c = room_for c.requires _ _ _ (omega arith) (omega arith) (omega arith)
-
-pub slice_bounds-duplicate-end : goal.slice_bounds-duplicate-end
-slice_bounds-duplicate-end c = sym c.declare.ensures.name_size
-
-pub slice_bounds-duplicate-end-2 : goal.slice_bounds-duplicate-end-2
-slice_bounds-duplicate-end-2 c = sym c.declare.ensures.place_size
 
 pub duplicate-requires : goal.duplicate-requires
 duplicate-requires c =

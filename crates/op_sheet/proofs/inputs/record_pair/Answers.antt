@@ -12,95 +12,57 @@ use Rattle.netlist.specs.Assignments.{is_one}
 use Rattle.op_sheet.specs.Records.{is_zero, lane_value, record_pair}
 use Rattle.op_sheet.proofs.SideLaws.{packed_none, packed-next, packed_all, zeros-half, zeros-fit}
 use Rattle.op_sheet.proofs.SideLaws.{ones_half, ones-fit, lane-bit}
-use Rattle.op_sheet.proofs.inputs.record_pair.Goals.{After-one_bit, After-zero_bit, In-loop-s}
+use Rattle.op_sheet.proofs.inputs.record_pair.Goals.{After-one_bit, After-zero_bit}
 use Rattle.op_sheet.proofs.inputs.record_pair.Goals as goal
 
-there : (c : In-loop-s) → c.loop-s.s - 1 < c.args.count
-there c =
-    let a = c.args in
-    let e = length-tab (lane_value a.fixed.now a.ones.now a.i) a.count in
-    omega (arith, e, c.loop-s.invariant.below)
-
-small : (c : In-loop-s) → c.loop-s.s - 1 < 64
-small c = omega (
-  arith,
-  (let there_here : (c.loop-s.s - 1 < c.args.count) = let a = c.args in
-      let e = length-tab (lane_value a.fixed.now a.ones.now a.i) a.count in
-      omega (arith, e, c.loop-s.invariant.below) in there_here),
-  c.requires.0,
-)
-
 -- the bits that a turn adds
-zero_is : (c : After-zero_bit)
-    → let t = c in let a = t.args in
+zero_is : (c : After-zero_bit) → let masks = c.args.masks.now in
     c.zero_bit.result
     ≡ cond (is_zero
-    (get_or (tab (lane_value a.fixed.now a.ones.now a.i) a.count) (t.loop-s.s - 1) undefined)) 1 0
+    (get_or (tab (lane_value masks.fixed.now masks.ones.now c.args.i) masks.count) (c.loop-s.s - 1) undefined)) 1 0
 zero_is c =
-    let t = c in
-    let a = t.args in
-    lane-bit is_zero a.fixed.now a.ones.now a.i a.count (t.loop-s.s - 1) ((let there_here : (c.loop-s.s - 1 < c.args.count) = let a = c.args in
-    let e = length-tab (lane_value a.fixed.now a.ones.now a.i) a.count in
-    omega (arith, e, c.loop-s.invariant.below) in there_here)) refl refl
+    let masks = c.args.masks.now in
+    let e = length-tab (lane_value masks.fixed.now masks.ones.now c.args.i) masks.count in
+    let below : c.loop-s.s - 1 < masks.count = omega (arith, e, c.loop-s.invariant.below) in
+    lane-bit is_zero masks.fixed.now masks.ones.now c.args.i masks.count (c.loop-s.s - 1) below refl refl
     c.zero_bit.ensures
 
-one-is : (c : After-one_bit)
-    → let t = c in let a = t.args in
+one-is : (c : After-one_bit) → let masks = c.args.masks.now in
     c.one_bit.result
     ≡ cond (is_one
-    (get_or (tab (lane_value a.fixed.now a.ones.now a.i) a.count) (t.loop-s.s - 1) undefined)) 1 0
+    (get_or (tab (lane_value masks.fixed.now masks.ones.now c.args.i) masks.count) (c.loop-s.s - 1) undefined)) 1 0
 one-is c =
-    let t = c in
-    let a = t.args in
-    lane-bit is_one a.fixed.now a.ones.now a.i a.count (t.loop-s.s - 1) ((let there_here : (c.loop-s.s - 1 < c.args.count) = let a = c.args in
-    let e = length-tab (lane_value a.fixed.now a.ones.now a.i) a.count in
-    omega (arith, e, c.loop-s.invariant.below) in there_here)) refl refl
+    let masks = c.args.masks.now in
+    let e = length-tab (lane_value masks.fixed.now masks.ones.now c.args.i) masks.count in
+    let below : c.loop-s.s - 1 < masks.count = omega (arith, e, c.loop-s.invariant.below) in
+    lane-bit is_one masks.fixed.now masks.ones.now c.args.i masks.count (c.loop-s.s - 1) below refl refl
     c.one_bit.ensures
 
 pub loop-s-init : goal.loop-s-init
 loop-s-init c =
-    let a = c.args in
-    let f = lane_value a.fixed.now a.ones.now a.i in
-    packed_none (tab f a.count) (sym (length-tab f a.count)) (rw (length-tab f a.count) c.requires.0)
+    let masks = c.args.masks.now in
+    let f = lane_value masks.fixed.now masks.ones.now c.args.i in
+    packed_none (tab f masks.count) (sym (length-tab f masks.count)) (rw (length-tab f masks.count) masks.few)
 
 pub overflow_mul-zeros : goal.overflow_mul-zeros
-overflow_mul-zeros c = let t = c in record { fits = zeros-half t.loop-s.invariant (omega arith) }
+overflow_mul-zeros c = record { fits = zeros-half c.loop-s.invariant (omega arith) }
 
 pub overflow_add-zeros : goal.overflow_add-zeros
 overflow_add-zeros c =
-    let t = c in
-    record { fits = zeros-fit t.loop-s.invariant (omega arith) (zero_is (goal.at.overflow_add-zeros c).After-zero_bit) }
+    record { fits = zeros-fit c.loop-s.invariant (omega arith) (zero_is (goal.at.overflow_add-zeros c).After-zero_bit) }
 
 pub overflow_mul-marked : goal.overflow_mul-marked
-overflow_mul-marked c =
-    let t = c in
-    record { fits = ones_half t.loop-s.invariant (omega arith) }
+overflow_mul-marked c = record { fits = ones_half c.loop-s.invariant (omega arith) }
 
 pub overflow_add-marked : goal.overflow_add-marked
 overflow_add-marked c =
-    let t = c in
-    record { fits = ones-fit t.loop-s.invariant (omega arith) (one-is (goal.at.overflow_add-marked c).After-one_bit) }
+    record { fits = ones-fit c.loop-s.invariant (omega arith) (one-is (goal.at.overflow_add-marked c).After-one_bit) }
 
 pub loop-s-preserved : goal.loop-s-preserved
 loop-s-preserved c =
-    let t = c in
-    packed-next t.loop-s.invariant (omega arith) (zero_is (goal.at.loop-s-preserved c).After-zero_bit) (one-is (goal.at.loop-s-preserved c).After-one_bit)
+    let places = goal.at.loop-s-preserved c in
+    packed-next c.loop-s.invariant (omega arith) (zero_is places.After-zero_bit) (one-is places.After-one_bit)
 
 pub returns : goal.returns
 unfolding record_pair
 returns c = packed_all c.loop-s.invariant (omega arith)
-
-pub offset_bounds-fixed-s : goal.offset_bounds-fixed-s
-offset_bounds-fixed-s c = omega (arith, small (goal.at.offset_bounds-fixed-s c).In-loop-s)
-
-pub offset_bounds-ones-s : goal.offset_bounds-ones-s
-offset_bounds-ones-s c = omega (arith, small (goal.at.offset_bounds-ones-s c).In-loop-s)
-
-pub bounds-ones-s : goal.bounds-ones-s
-bounds-ones-s c = small (goal.at.bounds-ones-s c).In-loop-s
-
-pub zero_bit-requires : goal.zero_bit-requires
-zero_bit-requires c = c.requires.1
-
-pub one_bit-requires : goal.one_bit-requires
-one_bit-requires c = let z = c in z.requires.1

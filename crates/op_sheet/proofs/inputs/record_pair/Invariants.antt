@@ -7,4 +7,4 @@ use Rattle.op_sheet.proofs.inputs.record_pair.Given as goal
 
 abbrev pub invariant-loop-s : goal.invariant-loop-s
 invariant-loop-s l =
-    Packed (tab (lane_value l.fixed l.ones l.i) l.count) l.s l.zeros l.marked
+    Packed (tab (lane_value l.masks.fixed.now l.masks.ones.now l.i) l.masks.count) l.s l.zeros l.marked

@@ -1,53 +1,33 @@
 -- `op_sheet::outputs::put_outputs` meets its contract: after o turns the first o outputs' pairs stand there.
-use mathlib.Core.Path.{◌≡◌, refl, ◌∙◌}
+use mathlib.Core.Path.{refl, ◌∙◌}
 use Prim.Native.Nat.{◌<◌}
 use native.Mathlib.Omega.{arith}
 use lib.ListN.{get_or}
 use Rattle.theory_encoding.proofs.Readers.{whole_parts}
 use Rattle.lanes_dual_rail.specs.LaneWords.{put_pair}
 use Rattle.lanes_settings.proofs.OutputLaws.{output-there}
-use Rattle.op_sheet.proofs.SettledLaws.{outputs-none, outputs-more}
+use Rattle.op_sheet.proofs.SettledLaws.{outputs-more}
 use Rattle.op_sheet.proofs.outputs.put_outputs.Goals.{In-loop-o}
 use Rattle.op_sheet.proofs.outputs.put_outputs.Goals as goal
 
-there : (c : In-loop-o) → c.loop-o.o < get_or c.args.words.now 2 0
-there c = let i = c.loop-o.invariant in omega (arith, c.loop-o-test.true, i.2)
+there : (c : In-loop-o) → c.loop-o.o < get_or c.args.block.now.words.now 2 0
+there c = omega (arith, c.loop-o-test.true, c.loop-o.invariant.2)
 
 small : (c : In-loop-o) → c.loop-o.o < 16
-small c = omega (arith, (let there_here : (c.loop-o.o < get_or c.args.words.now 2 0) = let i = c.loop-o.invariant in omega (arith, c.loop-o-test.true, i.2) in there_here), (whole_parts c.args.words.now c.requires).few_outputs)
-
-pub loop-o-init : goal.loop-o-init
-loop-o-init c =
-    let at = c in
-    let n = at in
-    let s = n in (
-      n.inputs_of-n.ensures,
-      at.outputs_at-at.ensures,
-      c.outputs_of-count.ensures,
-      omega arith,
-      outputs-none _ _ _ (omega arith),
-    )
+small c = omega (arith, there c, (whole_parts c.args.block.now.words.now c.args.block.now.well_formed).few_outputs)
 
 pub output_pair-pair-requires : goal.output_pair-pair-requires
 output_pair-pair-requires c =
     let i = c.loop-o.invariant in
-    output-there c.args.words.now c.requires i.0 i.1 c.loop-o.o (there (goal.at.output_pair-pair-requires c).In-loop-o)
+    output-there c.args.block.now.words.now c.args.block.now.well_formed i.0 i.1 c.loop-o.o
+    (there (goal.at.output_pair-pair-requires c).In-loop-o)
 
 pub loop-o-preserved : goal.loop-o-preserved
 unfolding put_pair
 loop-o-preserved c =
-    let turn = c in
-    let i = turn.loop-o.invariant in
-    (i.0, i.1, i.2, omega arith, outputs-more i.4 (small (goal.at.loop-o-preserved c).In-loop-o) (c.output_pair-pair.ensures ∙ rw (i.0, i.1) refl))
-
-pub returns : goal.returns
-returns c =
-    let l = c in
-    let i = l.loop-o.invariant in
-    let n = l in
-    let ws = n.args.words.now in
-    let all : l.loop-o.o ≡ get_or ws 2 0 = omega (arith, i.2, i.3) in
-    rw all at i.4
+    let i = c.loop-o.invariant in
+    let below = small (goal.at.loop-o-preserved c).In-loop-o in
+    (i.0, i.1, i.2, omega arith, outputs-more i.4 below (c.output_pair-pair.ensures ∙ rw (i.0, i.1) refl))
 
 pub overflow_mul-shown : goal.overflow_mul-shown
 overflow_mul-shown c = omega (arith, small (goal.at.overflow_mul-shown c).In-loop-o)

@@ -8,6 +8,6 @@ use Rattle.op_sheet.proofs.outputs.put_outputs.Given as goal
 
 abbrev pub invariant-loop-o : goal.invariant-loop-o
 invariant-loop-o l =
-    (l.n ≡ get_or l.words 0 0) × (l.at ≡ outputs_at (get_or l.words 0 0) (get_or l.words 3 0) (get_or l.words 1 0))
-    × (l.count ≡ get_or l.words 2 0)
-    × (l.o ≤ l.count) × OutputsPut l.words l.lanes l.o l.shown
+    let words = l.block.words.now in
+    (l.n ≡ get_or words 0 0) × (l.at ≡ outputs_at (get_or words 0 0) (get_or words 3 0) (get_or words 1 0))
+    × (l.count ≡ get_or words 2 0) × (l.o ≤ l.count) × OutputsPut words l.lanes l.o l.shown

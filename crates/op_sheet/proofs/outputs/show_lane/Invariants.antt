@@ -6,4 +6,4 @@ use Rattle.op_sheet.proofs.outputs.show_lane.Given as goal
 
 abbrev pub invariant-loop-o : goal.invariant-loop-o
 invariant-loop-o l =
-    Gathered (shown_at (get_or l.words 2 0) l.shown l.s) l.o l.defined l.values
+    Gathered (shown_at (get_or l.block.words.now 2 0) l.shown l.s) l.o l.defined l.values

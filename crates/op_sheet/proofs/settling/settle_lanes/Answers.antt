@@ -6,6 +6,6 @@ use Rattle.op_sheet.proofs.settling.settle_lanes.Goals as goal
 
 pub settle_ordered-requires : goal.settle_ordered-requires
 settle_ordered-requires c = record {
-  whole = (c.requires.0, not-false _ (passed-false _ NotStraight c.check_straight.ensures c.in-Ok.is));
-  fresh = c.requires.1;
+  straight = not-false _ (passed-false _ NotStraight c.check_straight.ensures c.in-Ok.is);
+  fresh = c.requires;
 }

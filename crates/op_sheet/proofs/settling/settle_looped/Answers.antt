@@ -9,7 +9,7 @@ settle_layers-requires c =
     let s = m in (
       rw m.gates_of.ensures p.decoded.legal,
       rw m.gates_of.ensures p.layers,
-      rw m.gates_of.ensures s.requires.1,
+      rw m.gates_of.ensures s.requires,
     )
 
 pub returns : goal.returns

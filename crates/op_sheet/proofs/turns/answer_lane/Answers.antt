@@ -8,7 +8,7 @@ use Rattle.op_sheet.proofs.turns.answer_lane.Goals as goal
 pub are_masks-requires : goal.are_masks-requires
 are_masks-requires c =
     let s = c in
-    omega (arith, c.inputs_of.ensures, (whole_parts s.args.words.now s.requires.whole).few_inputs)
+    omega (arith, c.inputs_of.ensures, (whole_parts s.args.block.now.words.now s.args.block.now.well_formed).few_inputs)
 
 pub returns-then-not-are_masks : goal.returns-then-not-are_masks
 returns-then-not-are_masks c =
@@ -16,15 +16,9 @@ returns-then-not-are_masks c =
     let n = tested in
     let a = n.args in
     c.refuse.ensures
-    ∙ record-refused a.words.now a.fixed a.ones
-    (bad-as a.words.now a.fixed a.ones n.inputs_of.ensures tested.are_masks.ensures
+    ∙ record-refused a.block.now.words.now a.fixed a.ones
+    (bad-as a.block.now.words.now a.fixed a.ones n.inputs_of.ensures tested.are_masks.ensures
     c.if-not-are_masks.true-raw)
-
-pub show_lane-requires : goal.show_lane-requires
-show_lane-requires c =
-    let n = c in
-    let s = n in
-    (s.requires.whole, s.requires.below)
 
 pub returns : goal.returns
 returns c =
@@ -34,6 +28,6 @@ returns c =
     let s = n in
     let a = s.args in
     c.show_lane.ensures
-    ∙ shown-record a.words.now a.fixed a.ones a.s
-    (bad-as a.words.now a.fixed a.ones n.inputs_of.ensures tested.are_masks.ensures
+    ∙ shown-record a.block.now.words.now a.fixed a.ones a.s
+    (bad-as a.block.now.words.now a.fixed a.ones n.inputs_of.ensures tested.are_masks.ensures
     kept.if-not-are_masks.false-raw) s.requires.shows

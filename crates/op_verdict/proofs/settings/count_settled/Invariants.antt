@@ -18,7 +18,7 @@ pub record Counting (words : List ℕ) (first : ℕ) (lanes₀ lanes : List ℕ)
 
 abbrev pub invariant-loop-base : goal.invariant-loop-base
 invariant-loop-base l =
-    Counting l.words l.first l.initial.lanes l.lanes l.settled l.base
+    Counting l.block.words.now l.first l.initial.lanes l.lanes l.settled l.base
 
 abbrev pub decreases-loop-base : goal.decreases-loop-base
 decreases-loop-base l = l.count - l.base

@@ -37,7 +37,6 @@ expression-one-requires c =
     let a = start.args in record {
       term_here = gate-here a.s.now named.name_length-at.result named.name_length-at.ensures a.n a.symbols.now.names.now
           a.symbols.now.words.now a.first a.gates.now start.requires.line_here;
-      indexed = start.requires.indexed;
     }
 
 pub overflow_sub-result : goal.overflow_sub-result

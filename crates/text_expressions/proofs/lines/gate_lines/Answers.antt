@@ -1,6 +1,5 @@
 -- `text_expressions::lines::gate_lines` meets its contract: what is done so far and what the other lines add is what
 -- all add.
-use native.Mathlib.Omega.{arith}
 use Prim.Native.Nat.{◌≤◌}
 use mathlib.Core.Path.{◌≡◌}
 use Rattle.std.specs.declared.option.Option.TheVariants.{None}
@@ -8,7 +7,7 @@ use lib.ListN.{length}
 use Rattle.netlist.specs.Limits.{max_gates}
 use Rattle.text_expressions.specs.Lines.{gate_form}
 use Rattle.text_expressions.proofs.LineForms.{gate-lawful}
-use Rattle.text_expressions.proofs.LineSteps.{lines_start, line-here, lines-kept, lines_step, lines_end}
+use Rattle.text_expressions.proofs.LineSteps.{line-here, lines-kept, lines_step, lines_end}
 use Rattle.text_expressions.proofs.lines.gate_lines.Goals.{After-gate_line-walked}
 use Rattle.text_expressions.proofs.lines.gate_lines.Goals as goal
 
@@ -23,12 +22,6 @@ kept c =
     l.walked.unknown l.gates l.invariant c.gate_line-walked.new.gates c.gate_line-walked.result
     c.gate_line-walked.ensures max_gates start.requires.lines_here c.loop-i-test.true
 
-pub loop-i-init : goal.loop-i-init
-loop-i-init c =
-    let a = c.args in
-    lines_start gate_form gate-lawful a.lines a.text.now a.n a.symbols.now.names.now a.symbols.now.words.now None
-    a.gates.now
-
 pub gate_line-walked-requires : goal.gate_line-walked-requires
 gate_line-walked-requires c =
     let in-loop = c in
@@ -39,7 +32,6 @@ gate_line-walked-requires c =
           a.symbols.now.words.now None a.gates.now
           l.i l.walked.left l.walked.number
           l.walked.unknown l.gates l.invariant max_gates start.requires.lines_here in-loop.loop-i-test.true;
-      indexed = start.requires.indexed;
     }
 
 pub loop-i-preserved : goal.loop-i-preserved
@@ -60,6 +52,3 @@ returns c =
     lines_end gate_form gate-lawful a.lines a.text.now a.n a.symbols.now.names.now a.symbols.now.words.now None
     a.gates.now
     l.i l.walked.left l.walked.number l.walked.unknown l.gates l.invariant c.loop-i-test.false
-
-pub overflow_sub-rest : goal.overflow_sub-rest
-overflow_sub-rest c = omega (arith, c.loop-i.invariant.within)

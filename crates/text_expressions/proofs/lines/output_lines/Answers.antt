@@ -4,14 +4,8 @@ use native.Mathlib.Omega.{arith}
 use Rattle.netlist.specs.Limits.{max_outputs}
 use Rattle.text_expressions.specs.Lines.{output_form}
 use Rattle.text_expressions.proofs.LineForms.{output-lawful}
-use Rattle.text_expressions.proofs.LineSteps.{lines_start, line-here, lines-kept, lines_step, lines_end}
+use Rattle.text_expressions.proofs.LineSteps.{line-here, lines-kept, lines_step, lines_end}
 use Rattle.text_expressions.proofs.lines.output_lines.Goals as goal
-
-pub loop-i-init : goal.loop-i-init
-loop-i-init c =
-    let start = c in
-    λ n. let a = start.args in lines_start output_form output-lawful a.lines a.text.now n a.symbols.now.names.now
-    a.symbols.now.words.now a.seen a.outputs.now
 
 pub output_line-walked-requires : goal.output_line-walked-requires
 output_line-walked-requires c =
@@ -27,7 +21,6 @@ output_line-walked-requires c =
             a.outputs.now l.i l.walked.left
             l.walked.number l.walked.unknown l.outputs (l.invariant n) max_outputs p.by_index.1 b.loop-i-test.true,
       );
-      indexed = p.indexed;
     }
 
 pub loop-i-preserved : goal.loop-i-preserved
@@ -47,9 +40,6 @@ loop-i-preserved c =
     a.outputs.now l.i l.walked.left l.walked.number
     l.walked.unknown l.outputs (l.invariant m) g.new.outputs g.result (g.ensures m) max_outputs
     start.requires.by_index.1 in-loop.loop-i-test.true) in-loop.loop-i-test.true
-
-pub shape_of-outputs : goal.shape_of-outputs
-shape_of-outputs c = (c.loop-i.invariant 0).same
 
 pub returns : goal.returns
 returns c =

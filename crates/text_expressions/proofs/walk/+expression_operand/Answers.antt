@@ -83,13 +83,10 @@ expression-operand-one-requires t c =
     let a = c.args in
     let l = c.loop-at in (
       omega (arith, rest-length a.s.now (l.at + 1), there t turn, c.decreases),
-      (
-        operand-here a.s.now c.word_length-at.result a.n a.symbols.now.names.now a.symbols.now.words.now a.first
-            a.unknown a.gates.now l.at
-            l.count l.closed l.missing l.gates l.slots l.invariant (another t turn) c.kind_here-kind.result
-            c.requires.term_here (expression-here t (begun t turn)),
-        c.requires.indexed,
-      ),
+      operand-here a.s.now c.word_length-at.result a.n a.symbols.now.names.now a.symbols.now.words.now a.first
+          a.unknown a.gates.now l.at
+          l.count l.closed l.missing l.gates l.slots l.invariant (another t turn) c.kind_here-kind.result
+          c.requires.term_here (expression-here t (begun t turn)),
     )
 
 -- ---- it is read
@@ -195,11 +192,8 @@ operand-expression-requires t c =
     let a = c.args in
     let bracket = sym c.byte_at.ensures ∙ c.if-byte_at-eq40.true in (
       omega (arith, rest-length a.s.now 1, byte-there a.s.now refl bracket (omega arith), c.decreases),
-      (
-        opened-here a.s.now a.n a.symbols.now.names.now a.symbols.now.words.now a.first a.gates.now bracket
-            c.requires.term_here,
-        c.requires.indexed,
-      ),
+      opened-here a.s.now a.n a.symbols.now.names.now a.symbols.now.words.now a.first a.gates.now bracket
+          c.requires.term_here,
     )
 
 pub operand-returns-then-byte_at-eq40 : goal.operand-returns-then-byte_at-eq40

@@ -8,9 +8,6 @@ use lib.Dec.{eqb}
 use Rattle.text_lines.proofs.Behind.{both-le, behind_more, behind-end, behind-le}
 use Rattle.text_lines.proofs.counts.count_behind.Goals as goal
 
-pub loop-i-init : goal.loop-i-init
-loop-i-init c = record { some = omega arith; counts = omega arith }
-
 pub overflow_mul-n : goal.overflow_mul-n
 overflow_mul-n c =
     let at_one = c in

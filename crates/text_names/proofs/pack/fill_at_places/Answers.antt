@@ -1,7 +1,7 @@
 -- `text_names::pack::fill_at_places` meets its contract: one place a turn.
 use native.Mathlib.Omega.{arith}
 use mathlib.Core.Path.{◌≡◌, refl}
-use lib.ListN.{get_or}
+use lib.ListN.{length, get_or}
 use Rattle.prelude.proofs.Tab.{fill-next}
 use Rattle.text_names.proofs.pack.fill_at_places.Goals as goal
 
@@ -17,4 +17,4 @@ loop-i-preserved g c =
 
 pub returns : goal.returns
 returns g c =
-    λ f h. let e : c.loop-i.i ≡ c.args.count = omega arith in rw (← e) (c.loop-i.invariant f h)
+    λ f h. let e : c.loop-i.i ≡ length c.args.places.now = omega arith in rw (← e) (c.loop-i.invariant f h)

@@ -1,10 +1,9 @@
 -- `text_names::search::find` meets its contract: the place of the first name that is the one.
 use borrow.Author.Rules.{rules}
 use borrow.Author.Tests.{tests}
-use mathlib.Core.Path.{◌∙◌}
 use lib.Dec.{eqb}
 use Rattle.std.proofs.lemmas.Iterator.{YieldsList-from_slice}
-use Rattle.prelude.proofs.Places.{least-of_position}
+use Rattle.prelude.proofs.Below.{found-of_position}
 use Rattle.text_names.specs.Search.{is_at, index_of}
 use Rattle.text_names.proofs.search.find.Goals as goal
 
@@ -12,6 +11,5 @@ pub returns : goal.returns
 unfolding is_at index_of
 returns c =
     let a = c.args in
-    c.unwrap_or.ensures ∙
-    least-of_position (λ x. eqb x a.name) a.names.now 0 a.count _ _ c.position.result c.requires c.position.ensures.ran
+    found-of_position (λ x. eqb x a.name) a.names.now 0 _ _ c.position.result c.position.ensures.ran
     (YieldsList-from_slice _ c.iter.ensures.rest) (λ x b q k. search (rules, tests))

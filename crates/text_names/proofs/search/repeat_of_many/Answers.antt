@@ -7,16 +7,12 @@ use Rattle.text_names.proofs.Indexing.{held_new}
 use Rattle.text_names.proofs.Searching.{sought-here, sought-all}
 use Rattle.text_names.proofs.search.repeat_of_many.Goals as goal
 
-pub enter_while_room-i-requires : goal.enter_while_room-i-requires
-enter_while_room-i-requires c =
-    let s = c in held_new s.args.names.now (hashes + 2048) (omega arith)
+pub enter_while_room-requires : goal.enter_while_room-requires
+enter_while_room-requires c = held_new c.args.names.now (hashes + 2048) (omega arith)
 
-pub returns-then-names-i : goal.returns-then-names-i
-returns-then-names-i c =
-    let entered = c in
-    sought-all entered.enter_while_room-i.ensures.sought (omega arith)
+pub returns-in_err-i : goal.returns-in_err-i
+returns-in_err-i c = rw c.from_residual.ensures (sought-all c.in_err-i.ensures.sought)
 
 pub returns-then-repeats : goal.returns-then-repeats
 returns-then-repeats c =
-    let entered = c in
-    sought-here entered.enter_while_room-i.ensures.sought (omega arith) c.repeats.ensures c.if-repeats.true
+    let tested = c.in_ok-i.ensures.sought in sought-here tested.1 tested.0 c.repeats.ensures c.if-repeats.true

@@ -1,5 +1,5 @@
 -- `text_pairs::numbers::pair_place` meets its contract: one pair is passed a turn. Assumes nothing.
-use mathlib.Core.Path.{◌≡◌, refl}
+use mathlib.Core.Path.{refl}
 use native.Mathlib.Omega.{arith}
 use Rattle.text_pairs.specs.PairBytes.{pair_place}
 use Rattle.text_pairs.proofs.PairPlaces.{here-short, place-next}
@@ -33,6 +33,3 @@ loop-k-preserved c =
     let l = c in
     let a = l.args in
     (omega arith, place-next a.s.now a.at l.loop-k.k l.loop-k.invariant.1 c.name_size.ensures)
-
-pub returns : goal.returns
-returns c = let l = c.loop-k in let e : l.k ≡ c.args.i = omega arith in rw (← e) l.invariant.1

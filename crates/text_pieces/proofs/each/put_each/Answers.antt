@@ -1,6 +1,5 @@
 -- `text_pieces::each::put_each` meets its contract: after i turns the first i pieces are appended.
-use native.Mathlib.Omega.{arith}
-use Rattle.text_pieces.proofs.Appending.{put-none, put-short, put-more, put-every}
+use Rattle.text_pieces.proofs.Appending.{put-none, put-short, put-more}
 use Rattle.text_pieces.proofs.each.put_each.Goals as goal
 
 pub loop-i-init : goal.loop-i-init
@@ -15,6 +14,3 @@ loop-i-preserved g c =
     let l = c.loop-i-test.true in
     put-more c.loop-i.invariant l
     (c.requires.1.1.1 _ _ _ _ _ l (put-short c.loop-i.invariant l c.requires.1.0) c.put-end.ensures)
-
-pub returns : goal.returns
-returns g c = put-every c.loop-i.invariant (omega arith)

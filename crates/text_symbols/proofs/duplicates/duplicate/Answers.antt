@@ -1,9 +1,8 @@
 -- `text_symbols::duplicates::duplicate` meets its contract.
-use Prim.Native.Nat.{ℕ, ◌+◌}
-use mathlib.Core.Path.{◌≡◌, sym}
+use Prim.Native.Nat.{◌+◌}
+use mathlib.Core.Path.{refl, sym}
 use native.Mathlib.Omega.{arith}
 use lib.Seq.{length-take-le}
-use borrow.Author.Rules.{rules}
 use Rattle.words_refusals.proofs.Promised.{not-err}
 use Rattle.text_symbols.proofs.Room.{nodes-none}
 use Rattle.text_symbols.proofs.TreeSearch.{node-repeats, port-repeats, none-repeats}
@@ -15,54 +14,37 @@ slice_bounds-enter_all-end c =
     sym (length-take-le (s.args.c.inputs + s.args.c.named) s.args.names.now
     (let r = s.requires.number_room in omega arith))
 
-pub enter_all-i-requires : goal.enter_all-i-requires
-enter_all-i-requires c =
-    let s = c in
-    nodes-none s.args.c s.args.names.now s.args.places.now s.args.index.now s.requires
+pub enter_all-requires : goal.enter_all-requires
+enter_all-requires c = nodes-none c.args.c c.args.names.now c.args.places.now c.args.index.now c.requires
 
-pub returns-then-i-nodes : goal.returns-then-i-nodes
-returns-then-i-nodes c =
-    let at-enter = c in
-    let s = c in
+pub returns-in-Some : goal.returns-in-Some
+returns-in-Some c =
+    let a = c.args in
+    let r = c.requires in
     record {
-      answer =
-          λ t legal counted table. node-repeats t legal s.args.c counted s.args.names.now
-          s.args.places.now table
-          s.requires.number_room s.requires.place_room at-enter.enter_all-i.result at-enter.enter_all-i.ensures.answer
-          c.if-i-nodes.true;
+      answer = λ t legal counted table.
+          node-repeats t legal a.c counted a.names.now a.places.now table r.number_room r.place_room c.in-Some.ensures.answer;
       indexed = λ e. absurd (not-err e);
     }
 
-pub returns-then-j-ports : goal.returns-then-j-ports
-returns-then-j-ports c =
-    let at-port = c in
-    let at-if1 = at-port in
-    let at-enter = at-if1 in
-    let s = c in
+pub returns-in-Some-repeat_of_few : goal.returns-in-Some-repeat_of_few
+returns-in-Some-repeat_of_few c =
+    let a = c.args in
+    let r = c.requires in
     record {
-      answer =
-          λ t legal counted table. port-repeats t legal s.args.c counted s.args.names.now
-          s.args.places.now table
-          s.requires.number_room s.requires.place_room at-enter.enter_all-i.result at-enter.enter_all-i.ensures.answer
-          at-if1.if-i-nodes.false
-          at-port.repeat_of_few-j.result at-port.repeat_of_few-j.ensures c.if-j-ports.true;
+      answer = λ t legal counted table.
+          port-repeats t legal a.c counted a.names.now a.places.now table r.number_room r.place_room
+          c.in_default.ensures.answer c.in-Some-repeat_of_few.ensures;
       indexed = λ e. absurd (not-err e);
     }
 
-pub returns : goal.returns
-returns c =
-    let at-port = c in
-    let at-if1 = at-port in
-    let at-enter = at-if1 in
-    let s = c in
+pub returns-in-None : goal.returns-in-None
+returns-in-None c =
+    let a = c.args in
+    let r = c.requires in
     record {
-      answer =
-          λ t legal counted table. none-repeats t legal s.args.c counted s.args.names.now
-          s.args.places.now table
-          s.requires.number_room s.requires.place_room at-enter.enter_all-i.result at-enter.enter_all-i.ensures.answer
-          at-if1.if-i-nodes.false at-port.repeat_of_few-j.result at-port.repeat_of_few-j.ensures c.if-j-ports.false;
-      indexed =
-          λ _. at-enter.enter_all-i.ensures.indexed
-          (rw (length-take-le (s.args.c.inputs + s.args.c.named) s.args.names.now
-          (let r = s.requires.number_room in omega arith)) at-if1.if-i-nodes.false);
+      answer = λ t legal counted table.
+          none-repeats t legal a.c counted a.names.now a.places.now table r.number_room r.place_room
+          c.in_default.ensures.answer c.in-None.ensures;
+      indexed = λ _. c.in_default.ensures.indexed refl;
     }

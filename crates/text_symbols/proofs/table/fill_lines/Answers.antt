@@ -3,7 +3,7 @@ use Prim.Native.Nat.{◌+◌, ◌≤◌}
 use mathlib.Core.Path.{refl}
 use native.Mathlib.Omega.{arith}
 use lib.ListN.{length}
-use Rattle.text_symbols.proofs.FillSteps.{fill_start, line-start, rest-short, line-sizes, fill-next, fill_done}
+use Rattle.text_symbols.proofs.FillSteps.{fill_start, line-start, line-sizes, fill-next}
 use Rattle.text_symbols.proofs.FillSteps.{line_word-le}
 use Rattle.text_symbols.proofs.table.fill_lines.Goals.{After-line_of-line}
 use Rattle.text_symbols.proofs.table.fill_lines.Goals as goal
@@ -24,29 +24,11 @@ slice_bounds-line_of-count c = line-start c.requires c.loop-i.invariant
 pub slice_bounds-line_of-start : goal.slice_bounds-line_of-start
 slice_bounds-line_of-start c = line-start c.requires c.loop-i.invariant
 
-pub slice_bounds-line_of-end : goal.slice_bounds-line_of-end
-slice_bounds-line_of-end c = omega (arith, line-start c.requires c.loop-i.invariant)
-
-pub line_of-line-requires : goal.line_of-line-requires
-line_of-line-requires c = let l = c in rest-short l.requires l.loop-i.invariant
-
 pub overflow_add-gates : goal.overflow_add-gates
 overflow_add-gates c = omega (arith, sizes (goal.at.overflow_add-gates c).After-line_of-line, c.requires.short)
 
 pub overflow_add-places : goal.overflow_add-places
 overflow_add-places c = omega (arith, sizes (goal.at.overflow_add-places c).After-line_of-line, c.requires.short)
-
-pub overflow_add-places-in-loop-i : goal.overflow_add-places-in-loop-i
-overflow_add-places-in-loop-i c = omega (arith, c.requires.room)
-
-pub offset_bounds-places-first : goal.offset_bounds-places-first
-offset_bounds-places-first c = omega (arith, c.requires.room)
-
-pub bounds-places-first : goal.bounds-places-first
-bounds-places-first c = omega (arith, c.requires.room)
-
-pub overflow_add-first : goal.overflow_add-first
-overflow_add-first c = omega (arith, c.requires.room)
 
 pub line_word-requires : goal.line_word-requires
 line_word-requires c =
@@ -67,15 +49,6 @@ overflow_cast-words c =
       s.requires.few,
     )
 
-pub overflow_add-words : goal.overflow_add-words
-overflow_add-words c = omega (arith, c.requires.room)
-
-pub offset_bounds-words-first : goal.offset_bounds-words-first
-offset_bounds-words-first c = omega (arith, c.requires.room)
-
-pub bounds-words-first : goal.bounds-words-first
-bounds-words-first c = omega (arith, c.requires.room)
-
 pub overflow_add-at : goal.overflow_add-at
 overflow_add-at c =
     let line = c in
@@ -86,6 +59,3 @@ loop-i-preserved c =
     let line = c in
     fill-next line.requires line.loop-i.invariant refl line.line_of-line.ensures (omega arith) refl
     c.line_word.ensures
-
-pub returns : goal.returns
-returns c = fill_done c.requires c.loop-i.invariant (omega arith)

@@ -2,7 +2,7 @@
 -- lines are the inputs'.
 use mathlib.Core.Path.{refl, ◌∙◌}
 use native.Mathlib.Omega.{arith}
-use Rattle.text_symbols.proofs.FillSteps.{names-start, name-start, names-rest, name-sizes, names-next}
+use Rattle.text_symbols.proofs.FillSteps.{names-start, name-start, name-sizes, names-next}
 use Rattle.text_symbols.proofs.FillSteps.{names-sized, names-done}
 use Rattle.text_symbols.proofs.TreeTable.{inputs-named}
 use Rattle.text_symbols.proofs.table.input_names.Goals as goal
@@ -16,12 +16,6 @@ slice_bounds-line_of-count c = name-start c.requires.short c.loop-i.invariant
 pub slice_bounds-line_of-start : goal.slice_bounds-line_of-start
 slice_bounds-line_of-start c = name-start c.requires.short c.loop-i.invariant
 
-pub slice_bounds-line_of-end : goal.slice_bounds-line_of-end
-slice_bounds-line_of-end c = omega (arith, name-start c.requires.short c.loop-i.invariant)
-
-pub line_of-line-requires : goal.line_of-line-requires
-line_of-line-requires c = let l = c in names-rest l.requires.short l.loop-i.invariant
-
 pub overflow_add-at : goal.overflow_add-at
 overflow_add-at c =
     let line = c in
@@ -33,9 +27,6 @@ overflow_add-at-in-loop-i c =
     let line = c in
     let s = line in
     omega (arith, name-sizes s.requires.short line.loop-i.invariant refl line.line_of-line.ensures, s.requires.short)
-
-pub bounds-inputs-i : goal.bounds-inputs-i
-bounds-inputs-i c = omega (arith, c.requires.few)
 
 pub loop-i-preserved : goal.loop-i-preserved
 loop-i-preserved c =

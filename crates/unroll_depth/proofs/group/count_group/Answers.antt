@@ -13,14 +13,8 @@ ready r =
     let q = r.requires in
     ready-passes q.batch q.so_far q.settled r.put_pairs.ensures r.clear_pairs.ensures r.run_passes.ensures
 
-pub put_pairs-requires : goal.put_pairs-requires
-put_pairs-requires c = group-few c.requires.batch
-
-pub clear_pairs-requires : goal.clear_pairs-requires
-clear_pairs-requires c = group-few c.requires.batch
-
-pub put_pairs-requires-2 : goal.put_pairs-requires-2
-put_pairs-requires-2 c = group-few c.requires.batch
+pub invariant_of-group : goal.invariant_of-group
+invariant_of-group c = record { part = group-few c.requires.batch }
 
 pub returns : goal.returns
 returns c =

@@ -3,8 +3,8 @@ use mathlib.Core.Path.{refl}
 use Prim.Native.Nat.{◌+◌, ◌≤◌}
 use native.Mathlib.Omega.{arith}
 use Rattle.netlist.specs.Limits.{max_copies}
-use Rattle.unroll_depth.proofs.GroupLaws.{group-there, group-nodes, group-few, passed-proper}
-use Rattle.unroll_depth.proofs.PassLaws.{batch-few, size-some, sofar-small, passing-first}
+use Rattle.unroll_depth.proofs.GroupLaws.{group-there, group-nodes, passed-proper}
+use Rattle.unroll_depth.proofs.PassLaws.{batch-few, size-some, sofar-small}
 use Rattle.unroll_depth.proofs.PassLaws.{passing-more, passing-done}
 use Rattle.unroll_depth.proofs.group.more_passes.Goals.{After-lacks}
 use Rattle.unroll_depth.proofs.group.more_passes.Goals as goal
@@ -19,20 +19,9 @@ lacks-requires c =
     let r = l.requires in
     let g = r.batch in
     record {
-      order_part = (group-few g, batch-few g, g.aligned);
+      batch = (batch-few g, g.aligned);
       proper_at = (passed-proper (group-there g) l.loop-total.invariant.passed, r.kept.proper);
     }
-
-pub overflow_add-total : goal.overflow_add-total
-overflow_add-total c =
-    let l = c in
-    let g = l.requires.batch in
-    omega (arith, l.loop-total.invariant.so_far.most, g.positions.within, g.decoded.legal.few)
-
-pub loop-total-smaller : goal.loop-total-smaller
-loop-total-smaller c =
-    let d = c in
-    omega (arith, d.loop-total-test.true, d.requires.batch.some)
 
 pub loop-total-preserved : goal.loop-total-preserved
 loop-total-preserved c =
@@ -55,12 +44,6 @@ returns-after-loop-total c =
     let l = c in
     let r = l.requires in
     passing-done r.batch r.kept l.loop-total.invariant r.passed (λ few. absurd (omega (arith, c.loop-total-test.false)))
-
-pub overflow_sub-size : goal.overflow_sub-size
-overflow_sub-size c = omega (arith, c.requires.batch.positions.ordered)
-
-pub loop-total-init : goal.loop-total-init
-loop-total-init c = let s = c in passing-first s.requires.batch s.requires
 
 pub sweep_part-requires : goal.sweep_part-requires
 sweep_part-requires c = group-nodes c.requires.batch

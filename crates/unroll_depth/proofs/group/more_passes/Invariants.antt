@@ -6,7 +6,7 @@ use Rattle.unroll_depth.proofs.group.more_passes.Given as goal
 
 abbrev pub invariant-loop-total : goal.invariant-loop-total
 invariant-loop-total l =
-    Passing l.words l.members l.turn l.initial.passes l.initial.total l.initial.lanes l.lanes l.passes l.total
+    Passing l.words l.group.members.now l.group.turn l.initial.passes l.initial.total l.initial.lanes l.lanes l.passes l.total
 
 abbrev pub decreases-loop-total : goal.decreases-loop-total
 decreases-loop-total l = max_copies + 1 - l.total

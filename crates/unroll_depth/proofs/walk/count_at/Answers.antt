@@ -2,10 +2,10 @@
 -- counted.
 use mathlib.Core.Path.{refl}
 use mathlib.Core.List.{List}
-use Prim.Native.Nat.{ℕ, ◌+◌, ◌≤◌, ◌<◌}
+use Prim.Native.Nat.{ℕ, ◌+◌, ◌≤◌}
 use native.Mathlib.Omega.{arith}
 use lib.ListN.{length, get_or}
-use Rattle.netlist.specs.Limits.{max_gates, max_copies}
+use Rattle.netlist.specs.Limits.{max_gates}
 use Rattle.netlist.specs.StoredBlock.{decode}
 use Rattle.netlist.specs.Groups.{groups}
 use Rattle.theory_reach.proofs.Order.{groups-not-empty}
@@ -14,7 +14,7 @@ use Rattle.unroll_depth.specs.declared.walk.At.{At}
 use Rattle.unroll_depth.specs.declared.passes.Turn.{Turn}
 use Rattle.unroll_depth.specs.declared.passes.Counted.{Counted}
 use Rattle.unroll_depth.specs.Passes.{GroupCounted, GroupReady}
-use Rattle.unroll_depth.proofs.PassLaws.{sofar-small, size-some}
+use Rattle.unroll_depth.proofs.PassLaws.{sofar-small}
 use Rattle.unroll_depth.proofs.CountLaws.{group-size, starts-few, turn-group, group-ready, counting-known}
 use Rattle.unroll_depth.proofs.CountLaws.{counting-next, rest-none, rest-one}
 use Rattle.unroll_depth.proofs.walk.count_at.Goals.{After-count_group-counted, Start}
@@ -35,16 +35,10 @@ ready s =
     group-ready p.held p.listing s.args.at.group p.there (turn s.args.starts.now s.args.at) refl refl refl p.counting refl
     p.fits
 
-number : (s : Start) → s.args.at.group < max_gates
-number s = omega (arith, s.requires.there, s.requires.listing.few_groups)
-
 few : (s : Start)
     → (get_or s.args.starts.now s.args.at.group 0 ≤ max_gates)
     × (get_or s.args.starts.now (s.args.at.group + 1) 0 ≤ max_gates)
 few s = starts-few s.requires.listing s.args.at.group s.requires.there
-
-small : (s : Start) → get_or s.args.passes.now s.args.at.group 0 ≤ max_copies + max_copies
-small s = let r = ready s in sofar-small (size-some r.batch) r.so_far
 
 counted : (c : After-count_group-counted) → let a = c.args in let b = decode a.words.now in
     GroupCounted b (get_or a.words.now 0 0) a.at.base (group_at b a.at.group) (so_far a.passes.now a.at)
@@ -96,44 +90,5 @@ returns c =
       room = omega arith;
     }
 
-pub offset_bounds-starts-g : goal.offset_bounds-starts-g
-offset_bounds-starts-g c = omega (arith, number (goal.at.offset_bounds-starts-g c).Start)
-
-pub bounds-starts-g : goal.bounds-starts-g
-bounds-starts-g c = omega (arith, number (goal.at.bounds-starts-g c).Start)
-
-pub overflow_cast-from : goal.overflow_cast-from
-overflow_cast-from c = omega (arith, few (goal.at.overflow_cast-from c).Start)
-
-pub overflow_add-end : goal.overflow_add-end
-overflow_add-end c = omega (arith, number (goal.at.overflow_add-end c).Start)
-
-pub offset_bounds-starts-g-2 : goal.offset_bounds-starts-g-2
-offset_bounds-starts-g-2 c = omega (arith, number (goal.at.offset_bounds-starts-g-2 c).Start)
-
-pub bounds-starts-g-2 : goal.bounds-starts-g-2
-bounds-starts-g-2 c = omega (arith, number (goal.at.bounds-starts-g-2 c).Start)
-
-pub overflow_cast-end : goal.overflow_cast-end
-overflow_cast-end c = omega (arith, few (goal.at.overflow_cast-end c).Start)
-
-pub offset_bounds-passes-g : goal.offset_bounds-passes-g
-offset_bounds-passes-g c = omega (arith, number (goal.at.offset_bounds-passes-g c).Start)
-
-pub bounds-passes-g : goal.bounds-passes-g
-bounds-passes-g c = omega (arith, number (goal.at.bounds-passes-g c).Start)
-
-pub overflow_cast-made : goal.overflow_cast-made
-overflow_cast-made c = omega (arith, small (goal.at.overflow_cast-made c).Start)
-
-pub overflow_add-from : goal.overflow_add-from
-overflow_add-from c = omega (arith, small (goal.at.overflow_add-from c).Start, few (goal.at.overflow_add-from c).Start)
-
 pub count_group-counted-requires : goal.count_group-counted-requires
 count_group-counted-requires c = ready (goal.at.count_group-counted-requires c).Start
-
-pub offset_bounds-passes-g-2 : goal.offset_bounds-passes-g-2
-offset_bounds-passes-g-2 c = omega (arith, number (goal.at.offset_bounds-passes-g-2 c).Start)
-
-pub bounds-passes-g-2 : goal.bounds-passes-g-2
-bounds-passes-g-2 c = omega (arith, number (goal.at.bounds-passes-g-2 c).Start)

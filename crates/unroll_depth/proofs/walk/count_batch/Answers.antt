@@ -80,8 +80,5 @@ returns-after-loop-group c =
       lanes_len = (ended (goal.at.returns-after-loop-group c).At-loop-group, i.room);
     }
 
-pub lowest_with-lowest-requires : goal.lowest_with-lowest-requires
-lowest_with-lowest-requires c = let p = c.requires in record {
-  judged = (p.held.judged, p.lowest);
-  words_bound = p.held.settings;
-}
+pub invariant_of-judged : goal.invariant_of-judged
+invariant_of-judged c = record { judged = c.requires.held.judged }

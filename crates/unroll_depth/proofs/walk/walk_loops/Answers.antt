@@ -11,32 +11,31 @@ use Rattle.netlist.specs.Rounds.{setting_count}
 use Rattle.theory_encoding.proofs.Readers.{whole_parts}
 use Rattle.theory_encoding.proofs.Decoded.{decode-gate_count}
 use Rattle.lanes_dual_rail.specs.Batches.{lanes_of}
-use Rattle.lanes_settings.proofs.Counting.{few-settings}
 use Rattle.lanes_settings.proofs.Batching.{Place, place-first, place-next, lanes_of-some}
-use Rattle.unroll_depth.proofs.CountLaws.{starts-few, counting-full, rest-none, rest_then, lowest-first}
+use Rattle.unroll_depth.proofs.CountLaws.{counting-full, rest-none, rest_then, lowest-first}
 use Rattle.unroll_depth.proofs.CountLaws.{settings-are, lowest-all}
 use Rattle.unroll_depth.proofs.walk.walk_loops.Goals.{After-setting_count-settings, At-loop-base, In-loop-base, Start}
 use Rattle.unroll_depth.proofs.walk.walk_loops.Goals as goal
 
-few : (s : Start) → get_or s.args.words.now 0 0 ≤ 12
-few s = (whole_parts s.args.words.now s.requires.plan.whole).few_inputs
+few : (s : Start) → get_or s.args.block.words.now 0 0 ≤ 12
+few s = (whole_parts s.args.block.words.now s.args.block.planned.whole).few_inputs
 
 -- as many settings as the block has, and lanes as a batch has
 settings : (c : After-setting_count-settings)
-    → c.setting_count-settings.result ≡ setting_count (decode c.args.words.now)
-settings c = settings-are c.args.words.now c.inputs_of-n.ensures c.setting_count-settings.ensures
+    → c.setting_count-settings.result ≡ setting_count (decode c.args.block.words.now)
+settings c = settings-are c.args.block.words.now c.inputs_of-n.ensures c.setting_count-settings.ensures
 
-powers-are : (c : After-setting_count-settings) → c.setting_count-settings.result ≡ 2 ^ get_or c.args.words.now 0 0
+powers-are : (c : After-setting_count-settings) → c.setting_count-settings.result ≡ 2 ^ get_or c.args.block.words.now 0 0
 powers-are c = rw c.inputs_of-n.ensures at c.setting_count-settings.ensures
 
-many : (l : At-loop-base) → l.lane_count-step.result ≡ lanes_of (get_or l.args.words.now 0 0)
+many : (l : At-loop-base) → l.lane_count-step.result ≡ lanes_of (get_or l.args.block.words.now 0 0)
 many l = rw l.inputs_of-n.ensures at l.lane_count-step.ensures
 
 -- a batch that is there, and the next
-inside : (t : In-loop-base) → t.loop-base.base < 2 ^ get_or t.args.words.now 0 0
+inside : (t : In-loop-base) → t.loop-base.base < 2 ^ get_or t.args.block.words.now 0 0
 inside t = rw (← t.inputs_of-n.ensures, ← t.setting_count-settings.ensures) t.loop-base-test.true
 
-next : (t : In-loop-base) → Place (get_or t.args.words.now 0 0) (t.loop-base.base + t.lane_count-step.result)
+next : (t : In-loop-base) → Place (get_or t.args.block.words.now 0 0) (t.loop-base.base + t.lane_count-step.result)
 next t =
     place-next (rw t.inputs_of-n.ensures at t.lane_count-step.ensures)
     (rw t.inputs_of-n.ensures at t.setting_count-settings.ensures) t.loop-base.invariant.place t.loop-base-test.true
@@ -46,7 +45,7 @@ loop-base-init c =
     let z = c in
     let s = z in
     record {
-      place = place-first (get_or s.args.words.now 0 0);
+      place = place-first (get_or s.args.block.words.now 0 0);
       walked =
           record {
             counting = rw c.gates_of.ensures s.requires.counting;
@@ -64,9 +63,9 @@ returns-then-are_full c =
     let i = l.loop-base.invariant.walked in
     let z = l in
     record {
-      reached = setting_count (decode s.args.words.now);
+      reached = setting_count (decode s.args.block.words.now);
       counting =
-          counting-full (setting_count (decode s.args.words.now)) s.requires.listing i.counting
+          counting-full (setting_count (decode s.args.block.words.now)) s.requires.listing i.counting
           (a.are_full.ensures c.if-are_full.true);
       all = λ few. refl;
       same = i.same;
@@ -79,12 +78,6 @@ returns-then-are_full c =
           )));
     }
 
-pub judge_batch-requires : goal.judge_batch-requires
-judge_batch-requires c =
-    let t = c in
-    let i = t.loop-base.invariant in
-    (t.requires.plan, i.place.aligned (inside (goal.at.judge_batch-requires c).In-loop-base))
-
 pub count_batch-found-requires : goal.count_batch-found-requires
 count_batch-found-requires c =
     let o = goal.at.count_batch-found-requires c in
@@ -92,14 +85,14 @@ count_batch-found-requires c =
     let t = d in
     let l = t in
     let s = l in
-    let ws = s.args.words.now in
+    let ws = s.args.block.words.now in
     let i = l.loop-base.invariant in
     let p = s.requires in
     record {
       held =
           record {
             judged = d.judge_batch.ensures;
-            decoded = rw (decode-gate_count ws) p.plan.decoded;
+            decoded = rw (decode-gate_count ws) s.args.block.planned.decoded;
             settings = omega (
               arith,
               i.place.whole (inside o.In-loop-base),
@@ -112,16 +105,10 @@ count_batch-found-requires c =
       lowest = i.walked.lowest;
     }
 
-pub overflow_add-base : goal.overflow_add-base
-overflow_add-base c =
-    let o = goal.at.overflow_add-base c in
-    omega (arith, (next o.In-loop-base).within, few-settings (get_or c.args.words.now 0 0) (few o.Start))
-
 pub loop-base-smaller : goal.loop-base-smaller
 loop-base-smaller c =
-    let t = c in
-    let l = t in
-    omega (arith, many (goal.at.loop-base-smaller c).At-loop-base, lanes_of-some (get_or l.args.words.now 0 0), t.loop-base-test.true)
+    let settings = many (goal.at.loop-base-smaller c).At-loop-base in
+    omega (arith, settings, lanes_of-some (get_or c.args.block.words.now 0 0), c.loop-base-test.true)
 
 pub loop-base-preserved : goal.loop-base-preserved
 loop-base-preserved c =
@@ -158,7 +145,7 @@ returns-after-loop-base c =
     let s = l in
     let i = l.loop-base.invariant in
     let z = l in
-    let all : l.loop-base.base ≡ setting_count (decode s.args.words.now) =
+    let all : l.loop-base.base ≡ setting_count (decode s.args.block.words.now) =
     omega (
       arith,
       i.place.within,
@@ -176,6 +163,3 @@ returns-after-loop-base c =
 
 pub setting_count-settings-requires : goal.setting_count-settings-requires
 setting_count-settings-requires c = rw c.inputs_of-n.ensures (few (goal.at.setting_count-settings-requires c).Start)
-
-pub are_full-requires : goal.are_full-requires
-are_full-requires c = let s = c in (s.requires.listing.few_groups, starts-few s.requires.listing)

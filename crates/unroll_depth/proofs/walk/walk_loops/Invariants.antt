@@ -16,7 +16,7 @@ pub record Walking (words : List ℕ) (count : ℕ) (passes₀ passes : List ℕ
   pub walked : WalkedBatch (decode words) count base passes₀ passes found
 
 abbrev pub invariant-loop-base : goal.invariant-loop-base
-invariant-loop-base l = Walking l.words l.count l.initial.passes l.passes l.found l.base
+invariant-loop-base l = Walking l.block.words.now l.count l.initial.passes l.passes l.found l.base
 
 abbrev pub decreases-loop-base : goal.decreases-loop-base
 decreases-loop-base l = l.settings - l.base

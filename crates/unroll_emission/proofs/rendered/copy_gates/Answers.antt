@@ -10,9 +10,6 @@ pub loop-t-init : goal.loop-t-init
 unfolding table_after
 loop-t-init c = record { copies = refl; newest_is = refl; out_length = refl; newest_length = refl }
 
-pub copy_gate-requires : goal.copy_gate-requires
-copy_gate-requires c = (c.requires.0.inside c.loop-t.t (omega arith), omega arith)
-
 pub loop-t-preserved : goal.loop-t-preserved
 loop-t-preserved c =
     let a = c.args in

@@ -51,12 +51,6 @@ copy_gates-requires c =
       ),
     )
 
-pub overflow_mul-total : goal.overflow_mul-total
-overflow_mul-total c =
-    let g-back = c in
-    let g = g-back in
-    omega (arith, g.requires.few_copies)
-
 pub overflow_add-nodes : goal.overflow_add-nodes
 overflow_add-nodes c =
     let g-back = c in
@@ -64,6 +58,14 @@ overflow_add-nodes c =
     let g = g-back2 in
     let p = g in
     omega (arith, known (goal.at.overflow_add-nodes c).After-nodes_of-nodes, p.requires.few_copies)
+
+pub invariant_of-mapping : goal.invariant_of-mapping
+invariant_of-mapping c =
+    let sizes = known (goal.at.invariant_of-mapping c).After-nodes_of-nodes in
+    record {
+      few = omega (arith, sizes);
+      listed = omega (arith, sizes, c.requires.table, c.copy_gates.auto.newest, c.fill_words.auto.words);
+    }
 
 pub copy_outputs-requires : goal.copy_outputs-requires
 copy_outputs-requires c =

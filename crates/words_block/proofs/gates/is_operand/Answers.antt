@@ -1,6 +1,5 @@
 -- `words_block::gates::is_operand` meets its contract: each way out is one side of the rule's disjunctions.
 use mathlib.Core.Path.{sym, ◌∙◌}
-use borrow.Author.Rules.{rules}
 use borrow.Author.Tests.{eq-eqb, ne_eqb}
 use Rattle.theory_encoding.specs.Rules.{operand_rule}
 use Rattle.words_block.proofs.gates.is_operand.Goals as goal

@@ -1,6 +1,5 @@
 -- `words_block::gates::slots_fit` meets its contract: in each arm the words below the count are tested as operands and
 -- the others for 0 (`slots`).
-use borrow.Author.Rules.{rules}
 use mathlib.Core.Path.{◌∙◌}
 use native.Mathlib.Omega.{arith}
 use Rattle.words_block.proofs.SlotLaws.{used, unused, slots}

@@ -1,6 +1,5 @@
 -- `words_block::header::fits` meets its contract: each way out is the first part of the rule that fails, or the last
 -- part.
-use borrow.Author.Rules.{rules}
 use native.Mathlib.Omega.{arith}
 use borrow.Author.Tests.{le-leb, lt-leb}
 use Rattle.netlist.specs.Limits.{max_inputs, max_nevers, max_gates, max_outputs}

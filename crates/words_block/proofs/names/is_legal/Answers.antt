@@ -1,6 +1,5 @@
 -- `words_block::names::is_legal` meets its contract: the first byte, then all eight.
 use mathlib.Core.Path.{sym, ◌∙◌}
-use borrow.Author.Rules.{rules}
 use Rattle.theory_encoding.specs.Rules.{name_rule}
 use Rattle.words_block.proofs.names.is_legal.Goals as goal
 

@@ -1,10 +1,7 @@
 -- `words_block::names::is_padded` meets its contract: the bytes passed are name bytes, so the rest decides.
-use Prim.Native.Nat.{◌-◌}
 use mathlib.Core.Path.{sym, ◌∙◌}
-use borrow.Author.Rules.{rules}
-use borrow.Author.Tests.{not-true, not-false}
 use Rattle.theory_encoding.specs.Rules.{padded}
-use Rattle.words_block.proofs.NameLaws.{Rest, rest-start, rest_end, padded-zero, padded-more, padded-fails}
+use Rattle.words_block.proofs.NameLaws.{rest_end, padded-zero, padded-more, padded-fails}
 use Rattle.words_block.proofs.names.is_padded.Goals as goal
 
 pub returns-then-c-eq0 : goal.returns-then-c-eq0
@@ -31,6 +28,3 @@ loop-i-preserved c =
 pub returns : goal.returns
 unfolding padded
 returns c = rest_end c.loop-i.invariant c.loop-i-test.false
-
-pub loop-i-init : goal.loop-i-init
-loop-i-init c = rest-start (search rules)

@@ -1,10 +1,6 @@
 -- `words_block::names::is_padded` meets its contract: the bytes passed are name bytes, so the rest decides.
-use Prim.Native.Nat.{◌-◌}
-use mathlib.Core.Path.{sym, ◌∙◌}
-use borrow.Author.Rules.{rules}
-use borrow.Author.Tests.{not-true, not-false}
 use Rattle.theory_encoding.specs.Rules.{padded}
-use Rattle.words_block.proofs.NameLaws.{Rest, rest-start, rest_end, padded-zero, padded-more, padded-fails}
+use Rattle.words_block.proofs.NameLaws.{Rest}
 use Rattle.words_block.proofs.names.is_padded.Given as goal
 
 abbrev pub invariant-loop-i : goal.invariant-loop-i

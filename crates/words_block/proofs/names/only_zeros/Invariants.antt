@@ -1,9 +1,7 @@
 -- `words_block::names::only_zeros` meets its contract: the bytes passed are zero, so the rest decides.
-use Prim.Native.Nat.{◌-◌}
-use borrow.Author.Rules.{rules}
 use lib.Dec.{eqb}
 use Rattle.prelude.specs.Lists.{all}
-use Rattle.words_block.proofs.NameLaws.{Rest, rest-start, rest_end, zeros-more, zeros-fail}
+use Rattle.words_block.proofs.NameLaws.{Rest}
 use Rattle.words_block.proofs.names.only_zeros.Given as goal
 
 abbrev pub invariant-loop-j : goal.invariant-loop-j

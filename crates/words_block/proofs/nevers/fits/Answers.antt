@@ -1,5 +1,4 @@
 -- `words_block::nevers::fits` meets its contract: some input is fixed, and the two words are masks.
-use borrow.Author.Rules.{rules}
 use borrow.Author.Tests.{lt-ltb, le-ltb}
 use Rattle.theory_encoding.specs.Rules.{never_rule}
 use Rattle.words_block.proofs.nevers.fits.Goals as goal

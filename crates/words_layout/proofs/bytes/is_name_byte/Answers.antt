@@ -1,5 +1,4 @@
 -- `words_layout::bytes::is_name_byte` meets its contract: a digit, or else what a name may start with.
-use borrow.Author.Rules.{rules}
 use mathlib.Core.Path.{◌≡◌, refl, sym, ◌∙◌}
 use mathlib.Core.Bool.{Bool, true, false, ◌||◌}
 use Rattle.netlist.specs.Names.{is_name_byte, is_name_start, is_letter, is_digit, is_underscore}

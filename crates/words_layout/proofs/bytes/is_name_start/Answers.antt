@@ -1,5 +1,4 @@
 -- `words_layout::bytes::is_name_start` meets its contract: a letter, or else `_`.
-use borrow.Author.Rules.{rules}
 use mathlib.Core.Path.{sym, ◌∙◌}
 use Rattle.netlist.specs.Names.{is_name_start, is_underscore}
 use Rattle.words_layout.proofs.bytes.is_name_start.Goals as goal

@@ -1,7 +1,6 @@
 -- `words_layout::kinds::row_of` meets its contract: the array is the definitions' table, row by row.
 use mathlib.Core.Path.{sym}
 use Prim.Native.Nat.{◌-◌}
-use borrow.Author.Rules.{rules}
 use native.Mathlib.Omega.{arith}
 use lib.ListN.{get_or-eq_default}
 use Rattle.prelude.proofs.Elements.{get_d-defaults}

@@ -1,6 +1,5 @@
 -- `words_layout::kinds::signature_of` meets its contract: `not`, `xor`, `xnor`, or what the kind's row holds.
 use mathlib.Core.Path.{◌∙◌, ap}
-use borrow.Author.Rules.{rules}
 use Rattle.netlist.specs.Kinds.{signature, signature_in}
 use Rattle.words_layout.proofs.KindLaws.{another, signature-not, signature-xor, signature-xnor, signature-row}
 use Rattle.words_layout.proofs.kinds.signature_of.Goals as goal

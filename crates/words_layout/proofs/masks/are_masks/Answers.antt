@@ -1,7 +1,6 @@
 -- `words_layout::masks::are_masks` meets its contract: the three tests in their order.
 use mathlib.Core.Path.{sym, ◌∙◌}
 use native.Mathlib.Omega.{arith}
-use borrow.Author.Rules.{rules}
 use Rattle.words_layout.proofs.MaskLaws.{shifted, masks-fixed, masks-ones, masks-within}
 use Rattle.words_layout.proofs.masks.are_masks.Goals as goal
 

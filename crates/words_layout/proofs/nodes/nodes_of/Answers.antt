@@ -1,6 +1,5 @@
 -- `words_layout::nodes::nodes_of` meets its contract: each field is read by a function of `offsets`.
 use mathlib.Core.Path.{refl}
-use borrow.Author.Rules.{rules}
 use Rattle.words_layout.specs.Nodes.{nodes_of}
 use Rattle.words_layout.proofs.nodes.nodes_of.Goals as goal
 

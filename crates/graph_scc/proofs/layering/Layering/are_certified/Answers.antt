@@ -10,6 +10,6 @@ returns c =
     record {
       layered = c.requires;
       certified_at =
-          each-of_range (CertifiedAt s.gates s.graph.now s.order.now s.ends.now s.notes.now) s.gates
+          each-of_range (CertifiedAt s.graph.gates s.graph.words.now s.order.now s.ends.now s.notes.now) s.graph.gates
           c.all.ensures.ran (λ x q k. search rules) e;
     }

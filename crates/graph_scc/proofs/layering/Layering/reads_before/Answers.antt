@@ -8,5 +8,5 @@ use Rattle.graph_scc.proofs.layering.Layering.reads_before.Goals as goal
 pub returns : goal.returns
 returns c =
     let a = c.args in
-    each-of_range (SlotBefore a.self.now.graph.now a.self.now.positions.now a.j a.end) slots c.all.ensures.ran
+    each-of_range (SlotBefore a.self.now.graph.words.now a.self.now.positions.now a.j a.end) slots c.all.ensures.ran
     (λ x q k. search rules)

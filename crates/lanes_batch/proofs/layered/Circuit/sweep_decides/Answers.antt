@@ -7,9 +7,9 @@ use Rattle.lanes_batch.proofs.layered.Circuit.sweep_decides.Goals as goal
 
 -- the sweep
 made : (d : After-sweep_part) → let a = d.args in let s = a.self.now in
-    LanesSwept s.gates s.inputs s.plan.now.graph (part a.back s.plan.now.order a.from a.end) a.lanes.now
+    LanesSwept s.graph.gates s.inputs s.graph.words.now (part a.back s.order.now a.from a.end) a.lanes.now
     d.sweep_part.new.lanes d.sweep_part.result
-made d = part-swept d.args.back d.args.self.now.legal d.requires.0 d.requires.1 d.sweep_part.ensures
+made d = part-swept d.args.back d.args.self.now.graph.legal d.requires.0 d.requires.1 d.sweep_part.ensures
 
 pub returns-then-not-sweep_part : goal.returns-then-not-sweep_part
 returns-then-not-sweep_part c =
@@ -32,4 +32,4 @@ returns c =
     }
 
 pub sweep_part-requires : goal.sweep_part-requires
-sweep_part-requires c = part-nodes c.args.self.now.legal c.requires.0
+sweep_part-requires c = part-nodes c.args.self.now.graph.legal c.requires.0

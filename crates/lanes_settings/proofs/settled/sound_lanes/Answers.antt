@@ -1,6 +1,0 @@
--- `lanes_settings::settled::sound_lanes` meets its contract.
-use Rattle.lanes_settings.proofs.SettledLaws.{sound-tells}
-use Rattle.lanes_settings.proofs.settled.sound_lanes.Goals as goal
-
-pub returns : goal.returns
-returns c = rw c.used_lanes.ensures (sound-tells _ c.unsound_lanes.ensures)

@@ -1,6 +1,0 @@
--- `lanes_settings::settled::unsound_lanes` meets its contract.
-use Rattle.lanes_settings.proofs.SettledLaws.{unsound-tells}
-use Rattle.lanes_settings.proofs.settled.unsound_lanes.Goals as goal
-
-pub returns : goal.returns
-returns c = unsound-tells _ c.coming_lanes.ensures c.undecided_lanes.ensures

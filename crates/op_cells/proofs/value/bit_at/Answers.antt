@@ -1,5 +1,0 @@
--- `op_cells::value::bit_at` meets its contract: it reads the operand's word.
-use Rattle.op_cells.proofs.value.bit_at.Goals as goal
-
-pub returns : goal.returns
-returns c = rw (← c.word_at.ensures) c.operand_bit.ensures
