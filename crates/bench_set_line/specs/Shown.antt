@@ -12,6 +12,7 @@ use Rattle.text_pieces.specs.Pieces.{pieces}
 
 -- a block that is not malformed, with the table, its graph and its fan-out
 pub record BlockReady (ws table graph fanout : List ℕ) : Type 0 where
+  pub whole : is_malformed ws ≡ false
   pub tabled : table ≡ gate_table
   pub prepared : PreparedFor ws graph fanout
 

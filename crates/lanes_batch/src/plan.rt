@@ -1,4 +1,7 @@
 // The plan that every walk over a block's settings goes by, made once: the block's graph, and its gates in layers.
+ghost use Rattle.std.specs.Prelude.{◌≡◌, replicate};
+ghost use Rattle.netlist.specs.Limits.{max_gates};
+ghost use Rattle.graph_gates.specs.Graph.{graph_size};
 ghost use Rattle.lanes_batch.specs.Layered.{PlanRoom};
 ghost use Rattle.lanes_batch.specs.Plan.{IsPlan};
 ghost use Rattle.std.proofs.Props.{props};
@@ -27,9 +30,11 @@ pub struct PlannedBlock<'a> {
     ghost planned: { IsPlan words.now plan.now } by { Prim.hlevel (props, Layers-prop) },
 }
 
-// Room for a plan.
+// Room for a plan: zeros.
 pub fn blank_plan() -> Plan
-    ensures { PlanRoom result.graph result.order result.ends }
+    ensures room { PlanRoom result.graph result.order result.ends }
+    ensures blank { (result.graph ≡ replicate graph_size 0) × (result.order ≡ replicate max_gates 0)
+        × (result.ends ≡ replicate max_gates 0) }
 {
     Plan {
         graph: [0; GRAPH_WORDS],

@@ -10,6 +10,7 @@ ghost use Rattle.netlist.specs.Bring.{max_inputs_before, brought, is_malformed_b
 
 use netlist::{Answer, Done, Refusal};
 use words_block::check_words;
+use words_layout::fill::copy_slice;
 use words_layout::limits::BLOCK_WORDS;
 use words_layout::offsets::inputs_of;
 use words_refusals::test_room;
@@ -25,9 +26,12 @@ fn put_brought(old: &[u16], block: &mut [u16])
     requires { (3 ≤ length old.now) × (length old.now < length block.old) }
     ensures { block.new ≡ placed (brought old.now) block.old }
 {
-    block[..COUNTS_BEFORE].copy_from_slice(&old[..COUNTS_BEFORE]);
+    copy_slice(&old[..COUNTS_BEFORE], &mut block[..COUNTS_BEFORE]);
     block[COUNTS_BEFORE] = 0;
-    block[COUNTS_BEFORE + 1..old.len() + 1].copy_from_slice(&old[COUNTS_BEFORE..]);
+    copy_slice(
+        &old[COUNTS_BEFORE..],
+        &mut block[COUNTS_BEFORE + 1..old.len() + 1],
+    );
 }
 
 // Refusal 6 for words that have room in a block: the words of today that they become keep the rules of today.

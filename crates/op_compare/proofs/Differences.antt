@@ -103,7 +103,7 @@ module _ {ours theirs : List ℕ} {base : ℕ} {w others : List ℕ} (j : BothJu
       (λ there. sym (alike r there) ∙ rw e (least_at test count (rw (← e) there)))))
 
 -- the lowest lane of a word that is not 0
-marked-lowest : (n : ℕ) {base : ℕ} {test : ℕ → Bool} {w : ℕ} → Tells (lanes_of n) base test w → (w ≡ 0 → ⊥) → let r =
+pub marked-lowest : (n : ℕ) {base : ℕ} {test : ℕ → Bool} {w : ℕ} → Tells (lanes_of n) base test w → (w ≡ 0 → ⊥) → let r =
     least (has_lane w) 64 in
     (r < lanes_of n) × (test (base + r) ≡ true) × ((i : ℕ) → i < r → test (base + i) ≡ false)
 marked-lowest n t h = let (s, l, p) = tells-some t h in tells-lowest t (lanes_of-most n) s l p

@@ -19,6 +19,9 @@ use words_layout::block::Block;
 use words_layout::offsets::inputs_of;
 
 // Goes over the batches in ascending order, up to the first disagreement: its lowest lane, and there the lowest output.
+// It stays a function of its own when it is compiled: within the one that makes the arrays, a straight block's gates took
+// a third longer.
+#[inline(never)]
 fn search_settings<'a>(
     ours: PlannedBlock<'a>,
     theirs: &'a [u16],

@@ -27,7 +27,7 @@ module _ (ws : List ℕ) (room : ℕ) where
   unfolding groups_of
   groups-chain = refl
 
-  groups-room : in_room room (groups_block (decode ws))
+  pub groups-room : in_room room (groups_block (decode ws))
       ≡ refuse_if (ltb room (get_or ws 1 0)) NoRoom (done (group_numbers (decode ws)) (length (groups (decode ws))) 0)
   unfolding groups_block in_room group_numbers
   groups-room = rw (length-tab (group_number (decode ws)) (gate_count (decode ws)), decode-gate_count ws) refl

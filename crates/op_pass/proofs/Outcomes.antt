@@ -42,7 +42,7 @@ module _ (ws setting : List ℕ) (room : ℕ) where
   pass-chain = refl
 
   -- the last one, where g is the number of gates
-  pass-room : {g : ℕ} → g ≡ get_or ws 1 0
+  pub pass-room : {g : ℕ} → g ≡ get_or ws 1 0
       → in_room room (pass_block b x) ≡ refuse_if (ltb room g) NoRoom (done (sweep_codes ws setting) (get_or ws 1 0) 0)
   unfolding pass_block in_room sweep_codes
   pass-room m = rw (length-map (sweep b x) code, length-sweep b x, decode-gate_count ws, m) refl

@@ -97,7 +97,7 @@ length-drop-le (suc i) [] = omega arith
 length-drop-le (suc i) (x ∷ xs) = let h = length-drop-le i xs in omega arith
 
 -- a name of 8 bytes fits a word of 64 bits, and so does its end
-packed-fits : (xs : List ℕ) (i : ℕ) → AreBytes xs → length xs ≤ 8 → packed (drop i xs) < 18446744073709551616
+pub packed-fits : (xs : List ℕ) (i : ℕ) → AreBytes xs → length xs ≤ 8 → packed (drop i xs) < 18446744073709551616
 packed-fits xs i b l =
     packed-room 8 (drop i xs) (λ j. rw (get_or-drop i xs j 0) (b (i + j))) (omega (arith, length-drop-le i xs))
 

@@ -18,7 +18,7 @@ use Rattle.text_recogniser.proofs.First.{if-taken, if-left, byte-taken, byte_lef
 use Rattle.text_recogniser.proofs.Names.{no_start}
 
 -- an operand that is neither a name nor a constant
-unfoldable inner : ℕ → Reader Term
+unfoldable pub inner : ℕ → Reader Term
 inner zero = stop
 inner (suc depth) = expect (ascii "(") (expr_reader (term_reader depth) apply)
 
@@ -27,7 +27,7 @@ unfolding term_reader inner
 leaf-or-inner zero s = refl
 leaf-or-inner (suc depth) s = refl
 
-inner-other : (depth : ℕ) (s : List ℕ) {b : ℕ} → b ≡ get_or s 0 0 → (b ≡ 40 → ⊥)
+pub inner-other : (depth : ℕ) (s : List ℕ) {b : ℕ} → b ≡ get_or s 0 0 → (b ≡ 40 → ⊥)
     → scan_of (inner depth s) ≡ Err (length s)
 unfolding inner expect stop
 inner-other zero s e f = refl
@@ -63,7 +63,7 @@ module _ (depth : ℕ) (s : List ℕ) where
             ∙ ap Ok (length-drop 1 s))
 
     module _ (n0 : b ≡ 48 → ⊥) (n1 : b ≡ 49 → ⊥) where
-      operand-inner : scan_of (term_reader depth s) ≡ scan_of (inner depth s)
+      pub operand-inner : scan_of (term_reader depth s) ≡ scan_of (inner depth s)
       unfolding leaf_or
       operand-inner =
           ap scan_of (leaf-or-inner depth s ∙ if-left _ _ is_name_start s h ∙ byte_left _ _ s 48 e n0

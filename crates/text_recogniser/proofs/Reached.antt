@@ -73,7 +73,7 @@ module _ (text : List ℕ) (phase : ℕ) (rest : List ℕ) (r : Reached text pha
       r.is-rest ∙ ap (λ (m : ℕ). scan_of (lines_reader phase m rest)) f ∙ lines_step phase (r.more - 1) rest open-end
 
   module _ {n : ℕ} where
-    line-left : Ok n ≡ scan_of (line_reader phase rest) → n < length rest
+    pub line-left : Ok n ≡ scan_of (line_reader phase rest) → n < length rest
     line-left e = line-shorter phase rest open-end e
 
     pub line-stuck : Err n ≡ scan_of (line_reader phase rest) → n ≤ length text

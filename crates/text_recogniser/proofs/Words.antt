@@ -62,12 +62,12 @@ abbrev pub no_name_byte : List ℕ → ℕ → Bool
 no_name_byte s i = not (is_name_byte (get_or s i 0))
 
 module _ (most : ℕ) (s : List ℕ) (i : ℕ) where
-  name-byte-there : is_name_byte (get_or s i 0) ≡ true → i < length s
+  pub name-byte-there : is_name_byte (get_or s i 0) ≡ true → i < length s
   name-byte-there h =
       let l : 0 < length (drop i s) = there is_name_byte (drop i s) none-past (ap is_name_byte (first-at s i) ∙ h) in
       omega (arith, l, length-drop i s)
 
-  name-more : i < most → is_name_byte (get_or s i 0) ≡ true → name_from most s i ≡ name_from most s (suc i)
+  pub name-more : i < most → is_name_byte (get_or s i 0) ≡ true → name_from most s i ≡ name_from most s (suc i)
   unfolding name_bytes
   name-more l h =
       let m : most - i ≡ suc (most - suc i) = omega arith in
@@ -77,11 +77,11 @@ module _ (most : ℕ) (s : List ℕ) (i : ℕ) where
       ∙ scan-map (name_bytes (most - suc i)) (λ cs. get_or (drop i s) 0 0 ∷ cs) (drop 1 (drop i s))
       ∙ ap (λ (t : List ℕ). scan_of (name_bytes (most - suc i) t)) (drop-drop 1 i s ∙ ap (λ (k : ℕ). drop k s) q))
 
-  name-over : i ≤ length s → most ≤ i → name_from most s i ≡ Ok (length s - i)
+  pub name-over : i ≤ length s → most ≤ i → name_from most s i ≡ Ok (length s - i)
   unfolding name_bytes pure
   name-over g h = let m : most - i ≡ 0 = omega arith in rw m (ap Ok (length-drop i s))
 
-  name-other : i < most → is_name_byte (get_or s i 0) ≡ false → name_from most s i ≡ Ok (length s - i)
+  pub name-other : i < most → is_name_byte (get_or s i 0) ≡ false → name_from most s i ≡ Ok (length s - i)
   unfolding name_bytes pure
   name-other l h =
       let m : most - i ≡ suc (most - suc i) = omega arith in

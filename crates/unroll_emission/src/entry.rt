@@ -6,6 +6,7 @@ ghost use Rattle.words_layout.specs.Bounds.{node_room};
 ghost use Rattle.prelude.specs.Lists.{tab};
 ghost use Rattle.unroll_emission.specs.Words.{word_from, EntryRoom};
 
+use words_layout::fill::copy_slice;
 use words_layout::nodes::{Nodes, gate_named};
 use words_layout::offsets::GATE_SIZE;
 
@@ -94,5 +95,5 @@ pub fn copy_words(words: &[u16], at: usize, count: usize, out: &mut [u16])
     requires { (at + count ≤ length words.now) × (at + count ≤ length out.old) }
     ensures { out.new ≡ sets out.old at (tab (word_from words.now at) count) }
 {
-    out[at..at + count].copy_from_slice(&words[at..at + count]);
+    copy_slice(&words[at..at + count], &mut out[at..at + count]);
 }

@@ -4,5 +4,5 @@ use Rattle.op_bring.proofs.put_brought.Goals as goal
 
 pub returns : goal.returns
 returns c =
-    brought-put c.args.old.now c.args.block.now c.requires.0 c.requires.1 c.copy_from_slice.ensures.after
-    c.copy_from_slice-2.ensures.after
+    brought-put c.args.old.now c.args.block.now c.requires.0 c.requires.1 c.copy_slice.ensures
+    c.copy_slice-2.ensures

@@ -9,4 +9,4 @@ pub returns : goal.returns
 returns c =
     let a = c.args in
     let size : a.at + a.count - a.at ≡ a.count = omega arith in
-    rw (c.copy_from_slice.ensures.after, size) (copied-words a.words.now a.out.now a.at a.count (omega arith) (omega arith))
+    rw (c.copy_slice.ensures, size) (copied-words a.words.now a.out.now a.at a.count (omega arith) (omega arith))
